@@ -1,0 +1,52 @@
+//! The words that every other crate speaks: the public types of the gateway, and in `specs/` the
+//! definitions that its contracts cite, from the text of an instruction to the histories that are
+//! legal and true.
+//!
+//! A history is the list of a session's entries. *True history*, the definition that the headline
+//! cites, says of a history that whatever any viewer was given up to a sync draws exactly the
+//! picture of the screen that the history up to that sync defines (`specs/Truth.antt`). No function
+//! here waits, and none but the tables of `glyphs` computes.
+#![tactic(auto)]
+
+mod act;
+mod acts;
+mod bytes;
+mod cause;
+mod cell;
+mod colour;
+mod control;
+mod entry;
+pub mod glyphs;
+mod how;
+mod instr;
+mod instrs;
+mod key;
+mod memory;
+mod mods;
+mod setup;
+mod sharing;
+mod shown;
+mod text;
+mod token;
+mod tokens;
+
+pub use act::Act;
+pub use acts::Acts;
+pub use bytes::Bytes;
+pub use cause::Cause;
+pub use cell::Cell;
+pub use colour::Colour;
+pub use control::{Control, Params};
+pub use entry::Entry;
+pub use how::How;
+pub use instr::Instr;
+pub use instrs::Instrs;
+pub use key::Key;
+pub use memory::NoMemory;
+pub use mods::Mods;
+pub use setup::Setup;
+pub use sharing::{Asked, Role, Share};
+pub use shown::Shown;
+pub use text::Text;
+pub use token::Token;
+pub use tokens::Tokens;
