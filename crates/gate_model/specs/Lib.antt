@@ -1,2 +1,22 @@
+-- In reading order: numbers and lists, text, the screen, its picture, the drawing machine, histories.
+pub mod Limits
 pub mod Sequences
+pub mod Reading
+pub mod Text
 pub mod KeyGrid
+pub mod Palette
+pub mod Glyphs
+pub mod Pictures
+pub mod Layers
+pub mod Shape
+pub mod Frames
+pub mod Terminal
+pub mod Effects
+pub mod Screens
+pub mod Entries
+pub mod History
+pub mod Delivered
+pub mod Rights
+pub mod Steps
+pub mod Truth
+pub mod Laws

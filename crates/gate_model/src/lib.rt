@@ -21,6 +21,7 @@ mod how;
 mod instr;
 mod instrs;
 mod key;
+pub mod laws;
 mod memory;
 mod mods;
 mod setup;

@@ -1,0 +1,51 @@
+-- What a viewer was given.
+use Rattle.std.specs.Prelude.{ℕ, List, [], ◌∷◌, ◌++◌, ◌==◌, if◌then◌else◌}
+use Rattle.gate_model.specs.declared.cause.Cause.{Cause}
+use Rattle.gate_model.specs.declared.cause.Cause.TheVariants.{ServerEnd, LinkFault, Stopped, Worn}
+use Rattle.gate_model.specs.declared.how.How.{How}
+use Rattle.gate_model.specs.declared.how.How.TheVariants.{Suffix, Fresh}
+use Rattle.gate_model.specs.declared.entry.Entry.{Entry}
+use Rattle.gate_model.specs.declared.entry.Entry.TheVariants.{Join, Read, Close}
+use Rattle.gate_model.specs.declared.instr.Instr.{Instr}
+use Rattle.gate_model.specs.declared.instr.Instr.TheVariants.{Sync, Disconnect, Error}
+use Rattle.gate_model.specs.History.{History, frames, frames_after, instructions}
+
+-- the stamp of the last sync of a list; of a list without one it is the stamp before it
+abbrev pub last_sync_from : ℕ → List Instr → ℕ
+last_sync_from t [] = t
+last_sync_from t (Sync s ∷ is) = last_sync_from s is
+last_sync_from t (i ∷ is) = last_sync_from t is
+
+abbrev pub last_sync : List Instr → ℕ
+last_sync is = last_sync_from 0 is
+
+-- what a closed session's viewers are given last
+abbrev pub farewell : Cause → Instr
+farewell ServerEnd = Disconnect
+farewell LinkFault = Error 523
+farewell Stopped = Error 523
+farewell Worn = Error 523
+
+abbrev pub closing : History → List Instr
+closing [] = []
+closing (Close cause ∷ g) = farewell cause ∷ []
+closing (e ∷ g) = closing g
+
+-- what a read gives a viewer that has drawn everything up to the stamp t
+abbrev pub handed : History → ℕ → How → List Instr
+handed g t Suffix = instructions (frames_after t (frames g))
+handed g t (Fresh is) = is
+
+-- what the entry e gives the viewer v, who was given `before` by the entries g before it
+abbrev pub given : History → List Instr → ℕ → Entry → List Instr
+given g before v (Join viewer role first) = if viewer == v then first else []
+given g before v (Read viewer how) = if viewer == v then handed g (last_sync before) how ++ closing g else []
+given g before v e = []
+
+abbrev pub delivered : History → ℕ → List Instr
+delivered [] v = []
+delivered (e ∷ g) v = delivered g v ++ given g (delivered g v) v e
+
+-- the last stamp that the viewer was given
+abbrev pub position : History → ℕ → ℕ
+position h v = last_sync (delivered h v)

@@ -1,0 +1,39 @@
+-- What one entry of a history holds, one function for each thing that is asked of it.
+use Rattle.std.specs.Prelude.{ℕ, List, [], ◌∷◌, Option, Some, None, Bool, true, false, ◌==◌}
+use Rattle.gate_model.specs.declared.entry.Entry.{Entry}
+use Rattle.gate_model.specs.declared.entry.Entry.TheVariants.{Start, Feed, Join, Leave, Close}
+use Rattle.gate_model.specs.declared.instr.Instr.{Instr}
+
+-- the bytes of a Feed
+abbrev pub fed : Entry → List ℕ
+fed (Feed bytes stamp frame) = bytes
+fed e = []
+
+-- the frame of a Start or a Feed, with its stamp
+abbrev pub framed : Entry → List (ℕ × List Instr)
+framed (Start cols rows mode term entries stamp frame) = (stamp, frame) ∷ []
+framed (Feed bytes stamp frame) = (stamp, frame) ∷ []
+framed e = []
+
+-- the stamp of a Start or a Feed
+abbrev pub stamp_of : Entry → Option ℕ
+stamp_of (Start cols rows mode term entries stamp frame) = Some stamp
+stamp_of (Feed bytes stamp frame) = Some stamp
+stamp_of e = None
+
+abbrev pub is_join : Entry → Bool
+is_join (Join viewer role first) = true
+is_join e = false
+
+abbrev pub is_close : Entry → Bool
+is_close (Close cause) = true
+is_close e = false
+
+-- the entry is a Join, or a Leave, of the viewer
+abbrev pub joins : ℕ → Entry → Bool
+joins v (Join viewer role first) = viewer == v
+joins v e = false
+
+abbrev pub leaves : ℕ → Entry → Bool
+leaves v (Leave viewer) = viewer == v
+leaves v e = false

@@ -1,0 +1,25 @@
+-- The limits of the gateway (this project's own).
+use Rattle.std.specs.Prelude.{ℕ, ◌^◌}
+
+-- the most columns and rows of a screen
+abbrev pub most_columns : ℕ
+most_columns = 512
+
+abbrev pub most_rows : ℕ
+most_rows = 256
+
+-- the most bytes of one piece of the Telnet stream
+abbrev pub most_piece : ℕ
+most_piece = 65536
+
+-- the most entries of a session
+abbrev pub most_entries : ℕ
+most_entries = 2 ^ 40
+
+-- the clock counts no further than this
+abbrev pub most_clock : ℕ
+most_clock = 2 ^ 53
+
+-- the most acts of one write
+abbrev pub most_acts : ℕ
+most_acts = 4096

@@ -1,0 +1,19 @@
+-- True history: whatever a viewer was given up to a sync draws the picture of the screen that the
+-- history up to that sync leaves.
+use Rattle.std.specs.Prelude.{◌≡◌, ℕ, List, [], ◌∷◌, ◌++◌, true}
+use Rattle.gate_model.specs.declared.instr.Instr.{Instr}
+use Rattle.gate_model.specs.declared.instr.Instr.TheVariants.{Sync}
+use Rattle.gate_model.specs.Sequences.{BeginsWith}
+use Rattle.gate_model.specs.Layers.{ShowsPicture, draw, nothing, visible}
+use Rattle.gate_model.specs.Screens.{shown}
+use Rattle.gate_model.specs.History.{History, at, upto, has_entry_at}
+use Rattle.gate_model.specs.Delivered.{delivered}
+
+-- what was given up to the sync t shows the screen of that sync's entry
+pub record IsFaithfulAt (h : History) (front : List Instr) (t : ℕ) : Type 0 where
+  pub stamped : has_entry_at h t ≡ true
+  pub drawn : ShowsPicture (draw nothing (front ++ Sync t ∷ []) visible) (shown (at (upto h t)))
+
+-- of every viewer, whenever it joined, and of every sync that it was given
+abbrev pub Faithful : History → Type 0
+Faithful h = (v t : ℕ) (front : List Instr) → BeginsWith (delivered h v) (front ++ Sync t ∷ []) → IsFaithfulAt h front t

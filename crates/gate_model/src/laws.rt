@@ -1,0 +1,18 @@
+//! Laws about the definitions: each function is empty, and its contract is the law.
+
+ghost use Rattle.gate_model.specs.Laws.{DrawingGoesOn, ReadsAnyCutting, TextGoesOn};
+
+/// To draw one list of instructions after the other is to draw both (this project's own).
+pub fn drawing_goes_on()
+    ensures { DrawingGoesOn }
+{}
+
+/// The text of two lists of instructions is the text of the first and then of the second.
+pub fn text_goes_on()
+    ensures { TextGoesOn }
+{}
+
+/// A stream of bytes is read the same however it is cut into pieces.
+pub fn reads_any_cutting()
+    ensures { ReadsAnyCutting }
+{}
