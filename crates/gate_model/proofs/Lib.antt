@@ -1,2 +1,6 @@
 pub mod Cutting
 pub mod Drawing
+pub mod Fronts
+pub mod Syncs
+pub mod Facts
+pub mod Truth

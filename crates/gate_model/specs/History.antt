@@ -59,6 +59,10 @@ frames_after t fs = filter (λ f. nat_lt t f.0) fs
 abbrev pub instructions : List (ℕ × List Instr) → List Instr
 instructions fs = flat_map (λ f. f.1) fs
 
+-- all that the frames draw, the oldest first
+abbrev pub all_frames : History → List Instr
+all_frames h = instructions (frames h)
+
 abbrev pub has_stamp : ℕ → Option ℕ → Bool
 has_stamp t None = false
 has_stamp t (Some s) = s == t
@@ -74,7 +78,8 @@ upto (e ∷ g) t = if has_stamp t (stamp_of e) then e ∷ g else upto g t
 
 -- how many viewers have joined
 abbrev pub joined : History → ℕ
-joined h = count_by is_join h
+joined [] = 0
+joined (e ∷ g) = if is_join e then joined g + 1 else joined g
 
 abbrev pub is_closed : History → Bool
 is_closed h = list_any is_close h

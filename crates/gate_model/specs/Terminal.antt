@@ -23,8 +23,10 @@ abbrev pub opening_screen : ℕ → ℕ → Terminal
 opening_screen columns rows = record { columns = columns; rows = rows; cells = replicate (rows * columns) blank; x = 0; y = 0; pending = false; visible = true; shift = 0 }
 
 -- the cells fill the screen, and the cursor is on it
-pub record InRange (t : Terminal) : Type 0 where
-  pub cells : length t.cells ≡ t.rows * t.columns
-  pub x : t.x < t.columns
-  pub y : t.y < t.rows
-  pub shift : t.shift < 2 ^ 32
+pub record IsOnScreen (columns rows : ℕ) (cells : List Cell) (x y : ℕ) : Type 0 where
+  pub full : length cells ≡ rows * columns
+  pub in_line : x < columns
+  pub in_column : y < rows
+
+abbrev pub InRange : Terminal → Type 0
+InRange t = IsOnScreen t.columns t.rows t.cells t.x t.y

@@ -5,8 +5,9 @@ use Rattle.gate_model.specs.declared.instr.Instr.{Instr}
 use Rattle.gate_model.specs.declared.instr.Instr.TheVariants.{Sync}
 use Rattle.gate_model.specs.Sequences.{BeginsWith}
 use Rattle.gate_model.specs.Layers.{ShowsPicture, draw, nothing, visible}
+use Rattle.gate_model.specs.Frames.{IsDrawn}
 use Rattle.gate_model.specs.Screens.{shown}
-use Rattle.gate_model.specs.History.{History, at, upto, has_entry_at}
+use Rattle.gate_model.specs.History.{History, at, upto, has_entry_at, all_frames}
 use Rattle.gate_model.specs.Delivered.{delivered}
 
 -- what was given up to the sync t shows the screen of that sync's entry
@@ -17,3 +18,8 @@ pub record IsFaithfulAt (h : History) (front : List Instr) (t : ℕ) : Type 0 wh
 -- of every viewer, whenever it joined, and of every sync that it was given
 abbrev pub Faithful : History → Type 0
 Faithful h = (v t : ℕ) (front : List Instr) → BeginsWith (delivered h v) (front ++ Sync t ∷ []) → IsFaithfulAt h front t
+
+-- each frame, after the frames before it, leaves the picture of its moment's screen
+abbrev pub AllDrawn : History → Type 0
+AllDrawn [] = Unit {0}
+AllDrawn (e ∷ g) = AllDrawn g × IsDrawn (draw nothing (all_frames (e ∷ g)) visible) (shown (at (e ∷ g)))
