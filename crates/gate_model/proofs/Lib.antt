@@ -4,3 +4,5 @@ pub mod Fronts
 pub mod Syncs
 pub mod Facts
 pub mod Truth
+pub mod ScreenLaws
+pub mod Rows

@@ -2,7 +2,7 @@
 use Rattle.std.specs.Prelude.{ℕ, ◌+◌, max, min, List, [], ◌∷◌, ◌++◌, length, unwrap_or, count_by, flat_map, filter, Option, Some, None, Bool, false, ◌==◌, nat_le, nat_lt, if◌then◌else◌}
 use Rattle.std.specs.List.{list_any}
 use Rattle.gate_model.specs.declared.entry.Entry.{Entry}
-use Rattle.gate_model.specs.declared.entry.Entry.TheVariants.{Start}
+use Rattle.gate_model.specs.declared.entry.Entry.TheVariants.{Start, Feed}
 use Rattle.gate_model.specs.declared.instr.Instr.{Instr}
 use Rattle.gate_model.specs.Limits.{most_clock}
 use Rattle.gate_model.specs.Terminal.{Terminal}
@@ -50,6 +50,13 @@ newest (e ∷ g) = unwrap_or (stamp_of e) (newest g)
 abbrev pub frames : History → List (ℕ × List Instr)
 frames [] = []
 frames (e ∷ g) = frames g ++ framed e
+
+-- the frame of the last Start or Feed
+abbrev pub newest_frame : History → List Instr
+newest_frame [] = []
+newest_frame (Start cols rows mode term entries stamp frame ∷ g) = frame
+newest_frame (Feed bytes stamp frame ∷ g) = frame
+newest_frame (e ∷ g) = newest_frame g
 
 -- the frames with stamps above t
 abbrev pub frames_after : ℕ → List (ℕ × List Instr) → List (ℕ × List Instr)

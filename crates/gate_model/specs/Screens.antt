@@ -1,5 +1,5 @@
 -- The screen that a session's bytes leave, and what it shows.
-use Rattle.std.specs.Prelude.{ℕ, ◌+◌, ◌*◌, List, [], ◌∷◌, map, Bool, ◌&&◌, ◌||◌, ◌==◌, nat_lt, nat_le, if◌then◌else◌, slice_set}
+use Rattle.std.specs.Prelude.{ℕ, ◌+◌, ◌*◌, List, [], ◌∷◌, map, Bool, ◌&&◌, ◌||◌, ◌==◌, nat_lt, nat_le, if◌then◌else◌, Option, slice_set, ◌<◌, All, position, not}
 use Rattle.gate_model.specs.declared.cell.Cell.{Cell}
 use Rattle.gate_model.specs.declared.key.Key.{Key}
 use Rattle.gate_model.specs.declared.control.Control.{Control}
@@ -17,6 +17,10 @@ control_of byte = if nat_lt byte 32 then Code byte else Print byte
 abbrev pub is_built : ℕ → Bool
 is_built byte = (nat_le 32 byte && nat_le byte 126) || byte == 10 || byte == 13
 
+-- the place of the first byte without a meaning
+abbrev pub first_unbuilt : List ℕ → Option ℕ
+first_unbuilt bytes = position (λ b. not (is_built b)) bytes
+
 -- the screen after more bytes
 abbrev pub after_bytes : Terminal → List ℕ → Terminal
 after_bytes t [] = t
@@ -32,6 +36,13 @@ face_of c = if nat_le 32 c && nat_le c 126 then c else 65533
 
 abbrev pub key_of : Cell → Key
 key_of c = record { face = face_of c.ch; under = c.under; ink = c.ink; paper = c.paper }
+
+-- ink and paper are indexes of the palette
+abbrev pub IsColoured : Key → Type 0
+IsColoured k = (k.ink < 16) × (k.paper < 16)
+
+abbrev pub AreColoured : List Key → Type 0
+AreColoured keys = All IsColoured keys
 
 -- ink and paper exchanged, as under the cursor
 abbrev pub exchanged : Key → Key

@@ -1,5 +1,5 @@
 -- Which entry may follow which history: the rules of each call, and the legal histories.
-use Rattle.std.specs.Prelude.{◌≡◌, ℕ, ◌+◌, ◌<◌, ◌≤◌, ◌^◌, List, [], ◌∷◌, length, true, false, ◌==◌, All}
+use Rattle.std.specs.Prelude.{◌≡◌, ℕ, ◌+◌, ◌<◌, ◌≤◌, ◌^◌, List, [], ◌∷◌, length, true, false, ◌==◌, All, None}
 use Rattle.gate_model.specs.declared.act.Act.{Act}
 use Rattle.gate_model.specs.declared.act.Act.TheVariants.{Sync as act_sync}
 use Rattle.gate_model.specs.declared.how.How.{How}
@@ -11,6 +11,7 @@ use Rattle.gate_model.specs.declared.entry.Entry.TheVariants.{Start, Feed, Join,
 use Rattle.gate_model.specs.declared.instr.Instr.{Instr}
 use Rattle.gate_model.specs.Limits.{most_columns, most_rows, most_piece, most_entries, most_acts}
 use Rattle.gate_model.specs.Shape.{Shape, OpensScreen}
+use Rattle.gate_model.specs.Screens.{first_unbuilt}
 use Rattle.gate_model.specs.History.{History, next_stamp, columns, lines, newest, frames, instructions, joined, is_closed, is_full}
 use Rattle.gate_model.specs.Delivered.{position}
 use Rattle.gate_model.specs.Rights.{is_live}
@@ -42,6 +43,7 @@ pub record Feeds (g : History) (bytes : List ℕ) (stamp : ℕ) (frame : List In
   pub is_open : IsOpen g
   pub some_bytes : 1 ≤ length bytes
   pub few_bytes : length bytes ≤ most_piece
+  pub built : first_unbuilt bytes ≡ None
   pub is_next : stamp ≡ next_stamp (newest g) now
   pub shape : Shape (columns g) (lines g) frame stamp
 
