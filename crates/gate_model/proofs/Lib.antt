@@ -6,3 +6,4 @@ pub mod Facts
 pub mod Truth
 pub mod ScreenLaws
 pub mod Rows
+pub mod Histories

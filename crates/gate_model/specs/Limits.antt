@@ -12,6 +12,10 @@ most_rows = 256
 abbrev pub most_piece : ℕ
 most_piece = 65536
 
+-- the most cells of a screen that a script opens
+abbrev pub most_cells : ℕ
+most_cells = 8192
+
 -- the most entries of a session
 abbrev pub most_entries : ℕ
 most_entries = 2 ^ 40

@@ -61,6 +61,23 @@ impl Screen {
         })
     }
 
+    /// A screen in the same state.
+    pub fn copy(&self, alloc: Global) -> Result<Screen, NoMemory>
+        ensures { IfOk result (λ s. s ≡ self.now) }
+    {
+        let cells = Vec::from_slice(alloc, &self.cells)?;
+        Ok(Screen {
+            columns: self.columns,
+            rows: self.rows,
+            cells,
+            x: self.x,
+            y: self.y,
+            pending: self.pending,
+            visible: self.visible,
+            shift: self.shift,
+        })
+    }
+
     /// Does what the control function says, and answers its report, if it has one. The `count` of a
     /// `Csi` is at most 16 (ECMA-48; the effects are this project's own).
     pub fn apply(&mut self, control: &Control) -> Reply

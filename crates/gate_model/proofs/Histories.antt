@@ -1,0 +1,123 @@
+-- What each entry does to the parts of a history, for the proofs above.
+use Rattle.std.proofs.Common.{◌≡◌, ℕ, ◌+◌, ◌*◌, ◌<◌, ◌≤◌, List, [], ◌∷◌, ◌++◌, length, Bool, true, false, ◌||◌, refl, ap, sym, ◌∙◌, subst, append_assoc, append-nil, arith}
+use Rattle.std.specs.Prelude.{Some, None, if◌then◌else◌, ◌==◌, nat_lt}
+use Rattle.std.proofs.lemmas.Grind.{flat_map-append}
+use Rattle.std.proofs.lemmas.List.Elements.{filter-append}
+use Rattle.std.proofs.lemmas.Bool.{lt-ltb}
+use Rattle.gate_model.specs.declared.act.Act.{Act}
+use Rattle.gate_model.specs.declared.instr.Instr.{Instr}
+use Rattle.gate_model.specs.declared.entry.Entry.{Entry}
+use Rattle.gate_model.specs.declared.entry.Entry.TheVariants.{Start, Feed, Join, Read, Write, Take, Leave, Close}
+use Rattle.gate_model.specs.declared.how.How.{How}
+use Rattle.gate_model.specs.declared.how.How.TheVariants.{Suffix}
+use Rattle.gate_model.specs.declared.sharing.Role.{Role}
+use Rattle.gate_model.specs.Layers.{ShowsPicture, draw, nothing, visible}
+use Rattle.gate_model.specs.Frames.{IsReady, IsDrawn, Redraws}
+use Rattle.gate_model.specs.Screens.{after_bytes, screen, shown}
+use Rattle.gate_model.specs.Terminal.{Terminal, opening_screen}
+use Rattle.gate_model.specs.Entries.{fed, framed, is_close}
+use Rattle.gate_model.specs.History.{History, at, bytes, columns, lines, frames, frames_after, instructions, all_frames, newest, is_closed}
+use Rattle.gate_model.specs.Steps.{IsScreenSize, Starts, IsFirst, IsNext, Legal}
+use Rattle.gate_model.specs.Truth.{AllDrawn}
+use Rattle.gate_model.proofs.Drawing.{draw-append}
+use Rattle.gate_model.proofs.ScreenLaws.{Keeps, after_bytes-keeps, after_bytes-append}
+
+-- a Feed
+pub all_frames-feed : (h : History) (bs : List ℕ) (t : ℕ) (frame : List Instr) → all_frames (Feed bs t frame ∷ h) ≡ all_frames h ++ frame
+all_frames-feed h bs t frame = flat_map-append (λ (p : ℕ × List Instr). p.1) (frames h) ((t, frame) ∷ []) ∙ ap (λ (xs : List Instr). all_frames h ++ xs) (append-nil frame)
+
+pub at-feed : (h : History) (bs : List ℕ) (t : ℕ) (frame : List Instr) → at (Feed bs t frame ∷ h) ≡ after_bytes (at h) bs
+at-feed h bs t frame = after_bytes-append (opening_screen (columns h) (lines h)) (bytes h) bs
+
+-- the frames after a stamp that is older than the new one
+pub frames_after-feed : (h : History) (s t : ℕ) (frame : List Instr) → s < t → frames_after s (frames h ++ (t, frame) ∷ []) ≡ frames_after s (frames h) ++ (t, frame) ∷ []
+frames_after-feed h s t frame lt = filter-append (λ (p : ℕ × List Instr). nat_lt s p.0) (frames h) ((t, frame) ∷ []) ∙ ap (λ (xs : List (ℕ × List Instr)). frames_after s (frames h) ++ xs) (rw (lt-ltb s t lt) refl)
+
+-- an entry without bytes and without a frame, at any history that goes on the same way
+pub record IsPlain (e : Entry) : Type 0 where
+  pub no_bytes : fed e ≡ []
+  pub no_frame : framed e ≡ []
+  pub no_start : (g : History) → (columns (e ∷ g) ≡ columns g) × (lines (e ∷ g) ≡ lines g)
+
+pub plain-join : (viewer : ℕ) (role : Role) (first : List Instr) → IsPlain (Join viewer role first)
+plain-join viewer role first = record { no_bytes = refl; no_frame = refl; no_start = λ g. (refl, refl) }
+
+pub plain-read : (viewer : ℕ) (how : How) → IsPlain (Read viewer how)
+plain-read viewer how = record { no_bytes = refl; no_frame = refl; no_start = λ g. (refl, refl) }
+
+pub plain-write : (viewer : ℕ) (acts : List Act) → IsPlain (Write viewer acts)
+plain-write viewer acts = record { no_bytes = refl; no_frame = refl; no_start = λ g. (refl, refl) }
+
+pub at-plain : (h : History) (e : Entry) → IsPlain e → at (e ∷ h) ≡ at h
+at-plain h e p =
+    let b : bytes (e ∷ h) ≡ bytes h = rw p.no_bytes (append-nil (bytes h)) in
+    rw ((p.no_start h).0, (p.no_start h).1, b) refl
+
+pub all_frames-plain : (h : History) (e : Entry) → IsPlain e → all_frames (e ∷ h) ≡ all_frames h
+all_frames-plain h e p = let f : frames (e ∷ h) ≡ frames h = rw p.no_frame (append-nil (frames h)) in ap instructions f
+
+-- what a legal history has
+pub legal-open : (h : History) → Legal h → is_closed h ≡ false
+legal-open [] l = absurd l
+legal-open (Start cols rows mode term entries stamp frame ∷ []) l = refl
+legal-open (Feed bs stamp frame ∷ []) l = absurd l
+legal-open (Join viewer role first ∷ []) l = absurd l
+legal-open (Read viewer how ∷ []) l = absurd l
+legal-open (Write viewer acts ∷ []) l = absurd l
+legal-open (Take count ∷ []) l = absurd l
+legal-open (Leave viewer ∷ []) l = absurd l
+legal-open (Close cause ∷ []) l = absurd l
+legal-open (Start cols rows mode term entries stamp frame ∷ f ∷ g) l = absurd l.1
+legal-open (Feed bs stamp frame ∷ f ∷ g) l = legal-open (f ∷ g) l.0
+legal-open (Join viewer role first ∷ f ∷ g) l = legal-open (f ∷ g) l.0
+legal-open (Read viewer how ∷ f ∷ g) l = legal-open (f ∷ g) l.0
+legal-open (Write viewer acts ∷ f ∷ g) l = legal-open (f ∷ g) l.0
+legal-open (Take count ∷ f ∷ g) l = absurd l.1
+legal-open (Leave viewer ∷ f ∷ g) l = absurd l.1
+legal-open (Close cause ∷ f ∷ g) l = absurd l.1
+
+pub legal-size : (h : History) → Legal h → IsScreenSize (columns h) (lines h)
+legal-size [] l = absurd l
+legal-size (Start cols rows mode term entries stamp frame ∷ []) l = l.size
+legal-size (Feed bs stamp frame ∷ []) l = absurd l
+legal-size (Join viewer role first ∷ []) l = absurd l
+legal-size (Read viewer how ∷ []) l = absurd l
+legal-size (Write viewer acts ∷ []) l = absurd l
+legal-size (Take count ∷ []) l = absurd l
+legal-size (Leave viewer ∷ []) l = absurd l
+legal-size (Close cause ∷ []) l = absurd l
+legal-size (Start cols rows mode term entries stamp frame ∷ f ∷ g) l = absurd l.1
+legal-size (Feed bs stamp frame ∷ f ∷ g) l = legal-size (f ∷ g) l.0
+legal-size (Join viewer role first ∷ f ∷ g) l = legal-size (f ∷ g) l.0
+legal-size (Read viewer how ∷ f ∷ g) l = legal-size (f ∷ g) l.0
+legal-size (Write viewer acts ∷ f ∷ g) l = legal-size (f ∷ g) l.0
+legal-size (Take count ∷ f ∷ g) l = absurd l.1
+legal-size (Leave viewer ∷ f ∷ g) l = absurd l.1
+legal-size (Close cause ∷ f ∷ g) l = absurd l.1
+
+-- one entry more is legal where it may follow
+pub legal-next : (h : History) (e : Entry) → Legal h → IsNext h e → Legal (e ∷ h)
+legal-next [] e l n = absurd l
+legal-next (f ∷ g) e l n = (l, n)
+
+-- the newest drawing
+pub drawn-now : (h : History) → Legal h → AllDrawn h → IsDrawn (draw nothing (all_frames h) visible) (shown (at h))
+drawn-now [] l d = absurd l
+drawn-now (e ∷ g) l d = d.1
+
+-- a plain entry keeps what is drawn
+pub drawn-plain : (h : History) (e : Entry) → IsPlain e → Legal h → AllDrawn h → AllDrawn (e ∷ h)
+drawn-plain h e p l d = (d, rw (all_frames-plain h e p, at-plain h e p) (drawn-now h l d))
+
+-- a frame that redraws the new screen keeps the drawing true
+pub drawn-feed : (h : History) (bs : List ℕ) (t : ℕ) (frame : List Instr) → Legal h → AllDrawn h → Redraws frame (shown (after_bytes (at h) bs)) → AllDrawn (Feed bs t frame ∷ h)
+drawn-feed h bs t frame l d redraws =
+    let now = drawn-now h l d in
+    let keeps = after_bytes-keeps (at h) bs in
+    let ready : IsReady (draw nothing (all_frames h) visible) (shown (after_bytes (at h) bs)) = record {
+        width = rw keeps.columns now.shows.width;
+        height = rw keeps.rows now.shows.height;
+        no_path = now.no_path;
+      } in
+    let drawn : IsDrawn (draw (draw nothing (all_frames h)) frame visible) (shown (after_bytes (at h) bs)) = redraws (draw nothing (all_frames h)) ready in
+    (d, rw (all_frames-feed h bs t frame, draw-append nothing (all_frames h) frame, at-feed h bs t frame) drawn)
