@@ -1,5 +1,7 @@
 pub mod Cutting
 pub mod Drawing
+pub mod GlyphTests
+pub mod GlyphRects
 pub mod Fronts
 pub mod Syncs
 pub mod Facts

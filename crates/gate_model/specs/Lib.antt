@@ -6,6 +6,7 @@ pub mod Text
 pub mod KeyGrid
 pub mod Palette
 pub mod Glyphs
+pub mod GlyphRects
 pub mod Pictures
 pub mod Layers
 pub mod Shape

@@ -3,6 +3,6 @@ use Rattle.std.specs.Prelude.{ℕ, slice_index_or, slice_index, [], ◌∷◌}
 use Rattle.gate_model.specs.declared.colour.Colour.{Colour}
 use Rattle.gate_model.specs.declared.glyphs.TheConstants.{PALETTE}
 
-abbrev pub colour_of : ℕ → Colour
+unfoldable pub colour_of : ℕ → Colour
 colour_of index = let rgb = slice_index_or PALETTE index (0 ∷ 0 ∷ 0 ∷ []) in
     record { red = slice_index rgb 0; green = slice_index rgb 1; blue = slice_index rgb 2 }

@@ -1,4 +1,17 @@
-//! The palette and the font (this project's own).
+//! The palette and the font (this project's own), and what they make of a key: colours, lit pixels
+//! and rectangles.
+
+ghost use Rattle.std.specs.Prelude.{◌≡◌, ◌<◌};
+ghost use Rattle.gate_model.specs.Palette.{colour_of};
+ghost use Rattle.gate_model.specs.Glyphs.{bit_of, columns_of, in_font, lit};
+
+use crate::Colour;
+
+mod patch;
+mod rects;
+
+pub use patch::Patch;
+pub use rects::{Rects, rects_of};
 
 /// The palette: sixteen colours, as red, green and blue.
 pub const PALETTE: [[u8; 3]; 16] = [
@@ -122,3 +135,106 @@ pub const FONT: [[u8; 5]; 95] = [
 
 /// The glyph of every face that isn't in the font: a box.
 pub const BOX: [u8; 5] = [0x7f, 0x41, 0x41, 0x41, 0x7f];
+
+/// The colour of an index of the palette.
+#[tactic(auto, unfolding(crate::specs::Palette::colour_of))]
+pub fn colour_of(index: u8) -> Colour
+    requires { index < 16 }
+    ensures { result ≡ colour_of index }
+{
+    let [red, green, blue] = PALETTE[index as usize];
+    Colour { red, green, blue }
+}
+
+// The five columns of a face, from left to right.
+fn columns_of(face: char) -> [u8; 5]
+    ensures { result ≡ columns_of face }
+{
+    match face {
+        ' '..='~' => FONT[face as usize - 32],
+        _ => BOX,
+    }
+}
+
+// Bit `r` of a column, the least first.
+fn has_bit(column: u8, r: u8) -> bool
+    requires { r < 8 }
+    ensures { result ≡ bit_of column r }
+{
+    column >> r & 1 == 1
+}
+
+// Whether the face itself has the pixel.
+fn in_font(face: char, x: u8, y: u8) -> bool
+    requires { y < 16 }
+    ensures { result ≡ in_font face x y }
+{
+    if x < 1 || 5 < x || y < 2 {
+        return false;
+    }
+    has_bit(columns_of(face)[x as usize - 1], (y - 2) / 2)
+}
+
+/// Whether the face has the pixel: `x` counts the 8 pixels of the cell from the left, `y` the 16
+/// from above. A key with an underline has all of pixel line 15.
+#[tactic(auto, unfolding(crate::specs::Glyphs::lit))]
+pub fn lit(face: char, under: bool, x: u8, y: u8) -> bool
+    requires column { x < 8 }
+    requires row { y < 16 }
+    ensures { result ≡ lit face under x y }
+{
+    in_font(face, x, y) || (under && y == 15)
+}
+
+#[cfg(test)]
+mod tests {
+    use super::*;
+
+    #[test]
+    fn the_palette_has_its_sixteen_colours(rt: HostRuntime) {
+        let wanted = [
+            0x000000, 0xaa0000, 0x00aa00, 0xaa5500, 0x0000aa, 0xaa00aa, 0x00aaaa, 0xaaaaaa,
+            0x555555, 0xff5555, 0x55ff55, 0xffff55, 0x5555ff, 0xff55ff, 0x55ffff, 0xffffff,
+        ];
+        for (index, want) in wanted.iter().enumerate() {
+            let colour = colour_of(index as u8);
+            let got = colour.red as u32 * 0x10000
+                + colour.green as u32 * 0x100
+                + colour.blue as u32;
+            assert_eq!(rt; got, *want, "at {index}");
+        }
+    }
+
+    #[test]
+    fn an_underlined_letter_has_its_pixels(rt: HostRuntime) {
+        let wanted = [
+            b"        ",
+            b"        ",
+            b"  ###   ",
+            b"  ###   ",
+            b" #   #  ",
+            b" #   #  ",
+            b" #   #  ",
+            b" #   #  ",
+            b" #   #  ",
+            b" #   #  ",
+            b" #####  ",
+            b" #####  ",
+            b" #   #  ",
+            b" #   #  ",
+            b" #   #  ",
+            b"########",
+        ];
+        for (y, line) in wanted.iter().enumerate() {
+            for x in 0..8 {
+                assert_eq!(rt;
+                    lit('A', true, x as u8, y as u8),
+                    line[x] == b'#',
+                    "at {x}, {y}"
+                );
+            }
+        }
+        assert_eq!(rt; rects_of('A', true).as_slice().len(), 9);
+        assert_eq!(rt; rects_of(' ', false).as_slice().len(), 0);
+    }
+}
