@@ -1,0 +1,32 @@
+//! The program's edge: what it reads from and writes to, as traits with a written meaning and a count
+//! of faults, and forms of them in memory and over std's streams.
+//!
+//! What a source has left and what a sink holds are optional, since a real stream doesn't tell them;
+//! where they are told, a call's contract is an equation on them (`specs/Edge.antt`). A fault is
+//! answered only where the count of faults rose in that call.
+#![tactic(auto)]
+
+mod again;
+mod copying;
+mod failed;
+mod mem_sink;
+mod mem_source;
+mod sink;
+mod source;
+mod std_sink;
+mod std_source;
+mod sure_source;
+#[cfg(test)]
+mod tests;
+mod writing;
+
+pub use again::Again;
+pub use failed::Failed;
+pub use mem_sink::MemSink;
+pub use mem_source::MemSource;
+pub use sink::Sink;
+pub use source::Source;
+pub use std_sink::StdSink;
+pub use std_source::StdSource;
+pub use sure_source::SureSource;
+pub use writing::write_all;

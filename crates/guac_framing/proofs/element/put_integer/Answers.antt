@@ -1,0 +1,14 @@
+use Rattle.std.proofs.Common.{◌∙◌, ap, ◌++◌, decimal, length, sym, refl}
+use Rattle.std.proofs.lemmas.Result.{on_ok_weaker}
+use Rattle.guac_framing.specs.Appended.{separated, spelled}
+use Rattle.guac_framing.proofs.Spelled.{spelled-ascii}
+use Rattle.guac_framing.proofs.element.put_integer.Goals as goal
+
+pub returns-clause-appended : goal.returns-clause-appended
+returns-clause-appended g c =
+    on_ok_weaker c.put_counted.result
+    (λ put. put ∙ ap (λ text. c.args.into.now.items ++ text)
+    (ap (λ text. spelled c.args.first (decimal (length text)) text) c.as_bytes-text.ensures.value
+    ∙ spelled-ascii c.args.first (length c.format.result.now) c.format.result.now c.format.ensures.ascii refl
+    ∙ ap (separated c.args.first) c.format.ensures.text))
+    c.put_counted.ensures.appended
