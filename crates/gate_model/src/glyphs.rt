@@ -1,5 +1,5 @@
 //! The palette and the font (this project's own), and what they make of a key: colours, lit pixels
-//! and rectangles.
+//! and rectangles. The tables are statics: a read of a constant's element copies the whole table.
 
 ghost use Rattle.std.specs.Prelude.{◌≡◌, ◌<◌};
 ghost use Rattle.gate_model.specs.Palette.{colour_of};
@@ -14,7 +14,7 @@ pub use patch::Patch;
 pub use rects::{Rects, rects_of};
 
 /// The palette: sixteen colours, as red, green and blue.
-pub const PALETTE: [[u8; 3]; 16] = [
+pub static PALETTE: [[u8; 3]; 16] = [
     [0, 0, 0],
     [170, 0, 0],
     [0, 170, 0],
@@ -35,7 +35,7 @@ pub const PALETTE: [[u8; 3]; 16] = [
 
 /// The font: a glyph for each face from U+0020 to U+007E, by five columns from left to right. Bit r
 /// of a column, the least first, covers the pixels of x = 1 + column and y = 2 + 2r and 3 + 2r.
-pub const FONT: [[u8; 5]; 95] = [
+pub static FONT: [[u8; 5]; 95] = [
     [0x00, 0x00, 0x00, 0x00, 0x00],
     [0x00, 0x00, 0x5f, 0x00, 0x00],
     [0x00, 0x07, 0x00, 0x07, 0x00],

@@ -1,0 +1,6 @@
+pub mod Steps
+pub mod Filled
+pub mod Papers
+pub mod Inks
+pub mod Picture
+pub mod Shapes

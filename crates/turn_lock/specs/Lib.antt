@@ -1,0 +1,7 @@
+pub mod Places
+pub mod Views
+pub mod Rule
+pub mod Steps
+pub mod Passes
+pub mod Turns
+pub mod Lending
