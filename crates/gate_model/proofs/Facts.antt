@@ -1,18 +1,18 @@
 -- What holds of every legal history: its stamps rise, and every viewer was given just the frames up
 -- to its position.
-use Rattle.std.proofs.Common.{◌≡◌, ◌≢◌, ℕ, ◌+◌, ◌*◌, ◌<◌, ◌≤◌, max, min, List, [], ◌∷◌, ◌++◌, length, Bool, true, false, not, ◌&&◌, ◌||◌, ◌⊎◌, inl, inr, refl, ap, sym, ◌∙◌, subst, append_assoc, append-nil, arith}
-use Rattle.std.specs.Prelude.{flat_map, filter, Some, None, Option, unwrap_or, nat_lt, nat_eq, count_by, if◌then◌else◌, ◌==◌}
-use Rattle.std.proofs.lemmas.Grind.{flat_map-append, common_steps}
+use Rattle.std.proofs.Common.{◌≡◌, ℕ, ◌<◌, ◌≤◌, List, [], ◌∷◌, ◌++◌, Bool, true, false, not, ◌&&◌, ◌||◌, ◌⊎◌, inl, inr, refl, ap, sym, ◌∙◌, subst, append_assoc, append-nil, arith}
+use Rattle.std.specs.Prelude.{Some, None, nat_lt, if◌then◌else◌, ◌==◌}
+use Rattle.std.proofs.lemmas.Grind.{flat_map-append}
 use Rattle.std.proofs.lemmas.List.Elements.{filter-append}
-use Rattle.std.proofs.lemmas.Bool.{lt-ltb, ltb-true, eqb-true, eq-eqb}
+use Rattle.std.proofs.lemmas.Bool.{lt-ltb, eq-eqb}
 use Rattle.std.proofs.lemmas.Bool.Decides.{nat_tests, eqb_tells}
 use Rattle.gate_model.specs.declared.instr.Instr.{Instr}
 use Rattle.gate_model.specs.declared.instr.Instr.TheVariants.{Sync}
 use Rattle.gate_model.specs.declared.entry.Entry.{Entry}
 use Rattle.gate_model.specs.Sequences.{BeginsWith}
-use Rattle.gate_model.specs.Shape.{Draws, Shape}
-use Rattle.gate_model.specs.Entries.{fed, framed, stamp_of, is_join, joins, leaves}
-use Rattle.gate_model.specs.History.{History, frames, frames_after, instructions, all_frames, newest, upto, has_stamp, has_entry_at, joined}
+use Rattle.gate_model.specs.Shape.{Shape}
+use Rattle.gate_model.specs.Entries.{framed, stamp_of, is_join, joins, leaves}
+use Rattle.gate_model.specs.History.{History, frames, frames_after, instructions, all_frames, newest, upto, has_entry_at, joined}
 use Rattle.gate_model.specs.Delivered.{last_sync_from, last_sync, delivered, position, given, closing}
 use Rattle.gate_model.specs.Rights.{is_live}
 use Rattle.gate_model.proofs.Fronts.{front_cases}
@@ -35,17 +35,17 @@ pub record Facts (h : History) : Type 0 where
 
 pub no_facts : Facts []
 no_facts = record {
-    last = refl;
-    none_after = λ t le. refl;
-    all_after = refl;
-    stamped = λ t e. absurd (let f : false ≡ true = e in cc);
-    live_joined = λ v e. absurd (let f : false ≡ true = e in cc);
-    not_joined = λ v lt. refl;
-    behind = λ v. refl;
-    within = λ v. omega arith;
-    not_closing = refl;
-    cut = λ t front b. absurd (nothing_begins t front b.0 b.1);
-  }
+  last = refl;
+  none_after = λ t le. refl;
+  all_after = refl;
+  stamped = λ t e. absurd (let f : false ≡ true = e in cc);
+  live_joined = λ v e. absurd (let f : false ≡ true = e in cc);
+  not_joined = λ v lt. refl;
+  behind = λ v. refl;
+  within = λ v. omega arith;
+  not_closing = refl;
+  cut = λ t front b. absurd (nothing_begins t front b.0 b.1);
+}
   where
     nothing_begins : (t : ℕ) (front rest : List Instr) → [] ≡ (front ++ Sync t ∷ []) ++ rest → ⊥
     nothing_begins t [] rest e = cc
@@ -126,8 +126,8 @@ module _ (g : History) (e : Entry) (cols rows t : ℕ) (frame : List Instr) (f :
   cut_is : (s : ℕ) (front : List Instr) → BeginsWith (all_frames (e ∷ g)) (front ++ Sync s ∷ []) → (has_entry_at (e ∷ g) s ≡ true) × (front ++ Sync s ∷ [] ≡ all_frames (upto (e ∷ g) s))
   cut_is s front b =
       elim (front_cases (all_frames g) frame front (Sync s) (b.0, sym all_are ∙ b.1)) as (λ _. (has_entry_at (e ∷ g) s ≡ true) × (front ++ Sync s ∷ [] ≡ all_frames (upto (e ∷ g) s))) [
-        inl p ↦ before s front (f.cut s front p)
-      | inr p ↦ newly s front p.0 p.1 (sync_is_last cols rows [] a.shape.body p.0 s t a.shape.body_draws (p.2.0, sym a.shape.ends ∙ p.2.1))
+        | inl p ↦ before s front (f.cut s front p)
+        | inr p ↦ newly s front p.0 p.1 (sync_is_last cols rows [] a.shape.body p.0 s t a.shape.body_draws (p.2.0, sym a.shape.ends ∙ p.2.1))
       ]
     where
       before : (s : ℕ) (front : List Instr) → (has_entry_at g s ≡ true) × (front ++ Sync s ∷ [] ≡ all_frames (upto g s)) → (has_entry_at (e ∷ g) s ≡ true) × (front ++ Sync s ∷ [] ≡ all_frames (upto (e ∷ g) s))
@@ -136,6 +136,7 @@ module _ (g : History) (e : Entry) (cols rows t : ℕ) (frame : List Instr) (f :
           let there : ((t == s) || has_entry_at g s) ≡ true = rw differs p.0 in
           let older : (if t == s then e ∷ g else upto g s) ≡ upto g s = rw differs refl in
           (entry_at_is s ∙ there, p.1 ∙ ap all_frames (sym (upto_is s ∙ older)))
+
       newly : (s : ℕ) (front more : List Instr) → front ≡ all_frames g ++ more → (more ≡ a.shape.body) × (s ≡ t) → (has_entry_at (e ∷ g) s ≡ true) × (front ++ Sync s ∷ [] ≡ all_frames (upto (e ∷ g) s))
       newly s front more is p =
           let equal : (t == s) ≡ true = eq-eqb t s (sym p.1) in
@@ -146,25 +147,26 @@ module _ (g : History) (e : Entry) (cols rows t : ℕ) (frame : List Instr) (f :
 
   pub frame_facts : Facts (e ∷ g)
   frame_facts = record {
-      last = ap (last_sync_from 0) all_are ∙ (last_sync-append 0 (all_frames g) frame ∙ (ends_with (last_sync (all_frames g)) ∙ sym newest_is));
-      none_after = λ s le. let high : t ≤ s = subst (λ (n : ℕ). n ≤ s) newest_is le in after_are s ∙ (rw (f.none_after s (omega (arith, a.rises)), dropped s high) refl);
-      all_after = after_are 0 ∙ (rw (f.all_after, kept 0 (omega (arith, a.rises))) (sym frames_are));
-      stamped = λ s q. rw newest_is (stamped_by s (sym (entry_at_is s) ∙ q));
-      live_joined = λ v q. rw joined_is (f.live_joined v (sym (live_is v) ∙ q));
-      not_joined = λ v lt. same_delivered v ∙ f.not_joined v (subst (λ (n : ℕ). n < v) joined_is lt);
-      behind = behind_is;
-      within = λ v. rw (same_position v, newest_is) (omega (arith, f.within v, a.rises));
-      not_closing = a.closes_not ∙ f.not_closing;
-      cut = cut_is;
-    }
+    last = ap (last_sync_from 0) all_are ∙ (last_sync-append 0 (all_frames g) frame ∙ (ends_with (last_sync (all_frames g)) ∙ sym newest_is));
+    none_after = λ s le. let high : t ≤ s = subst (λ (n : ℕ). n ≤ s) newest_is le in after_are s ∙ (rw (f.none_after s (omega (arith, a.rises)), dropped s high) refl);
+    all_after = after_are 0 ∙ (rw (f.all_after, kept 0 (omega (arith, a.rises))) (sym frames_are));
+    stamped = λ s q. rw newest_is (stamped_by s (sym (entry_at_is s) ∙ q));
+    live_joined = λ v q. rw joined_is (f.live_joined v (sym (live_is v) ∙ q));
+    not_joined = λ v lt. same_delivered v ∙ f.not_joined v (subst (λ (n : ℕ). n < v) joined_is lt);
+    behind = behind_is;
+    within = λ v. rw (same_position v, newest_is) (omega (arith, f.within v, a.rises));
+    not_closing = a.closes_not ∙ f.not_closing;
+    cut = cut_is;
+  }
     where
       either : (x y : Bool) → x ≡ false → (x || y) ≡ true → y ≡ true
       either x y off q = subst (λ (z : Bool). (z || y) ≡ true) off q
+
       stamped_by : (s : ℕ) → ((t == s) || has_entry_at g s) ≡ true → s ≤ t
       stamped_by s q = elim (eqb_tells t s) as (λ _. s ≤ t) [
-          inl p ↦ omega (arith, p.1)
+        | inl p ↦ omega (arith, p.1)
         | inr p ↦ omega (arith, f.stamped s (either (t == s) (has_entry_at g s) p.0 q), a.rises)
-        ]
+      ]
 
 -- what an entry without a frame adds: it gives each viewer nothing, or all that it lacks
 pub record AddsPlain (g : History) (e : Entry) : Type 0 where
@@ -198,14 +200,14 @@ module _ (g : History) (e : Entry) (f : Facts g) (a : AddsPlain g e) where
 
   pub plain_facts : Facts (e ∷ g)
   plain_facts = record {
-      last = ap last_sync same_all ∙ (f.last ∙ sym same_newest);
-      none_after = λ s le. ap (frames_after s) same_frames ∙ f.none_after s (subst (λ (n : ℕ). n ≤ s) same_newest le);
-      all_after = ap (frames_after 0) same_frames ∙ (f.all_after ∙ sym same_frames);
-      stamped = λ s q. rw same_newest (f.stamped s (sym (same_entry_at s) ∙ q));
-      live_joined = a.live;
-      not_joined = λ v lt. a.gives_none v lt ∙ f.not_joined v (omega (arith, a.joins_more));
-      behind = λ v. rw (same_frames) (caught_up v (a.gives v)).0;
-      within = λ v. rw same_newest (caught_up v (a.gives v)).1;
-      not_closing = a.closes_not ∙ f.not_closing;
-      cut = λ s front b. let c = f.cut s front (b.0, sym same_all ∙ b.1) in (same_entry_at s ∙ c.0, c.1 ∙ ap all_frames (sym (same_upto s)));
-    }
+    last = ap last_sync same_all ∙ (f.last ∙ sym same_newest);
+    none_after = λ s le. ap (frames_after s) same_frames ∙ f.none_after s (subst (λ (n : ℕ). n ≤ s) same_newest le);
+    all_after = ap (frames_after 0) same_frames ∙ (f.all_after ∙ sym same_frames);
+    stamped = λ s q. rw same_newest (f.stamped s (sym (same_entry_at s) ∙ q));
+    live_joined = a.live;
+    not_joined = λ v lt. a.gives_none v lt ∙ f.not_joined v (omega (arith, a.joins_more));
+    behind = λ v. rw (same_frames) (caught_up v (a.gives v)).0;
+    within = λ v. rw same_newest (caught_up v (a.gives v)).1;
+    not_closing = a.closes_not ∙ f.not_closing;
+    cut = λ s front b. let c = f.cut s front (b.0, sym same_all ∙ b.1) in (same_entry_at s ∙ c.0, c.1 ∙ ap all_frames (sym (same_upto s)));
+  }

@@ -1,6 +1,6 @@
 -- What each entry does to the parts of a history, for the proofs above.
-use Rattle.std.proofs.Common.{◌≡◌, ℕ, ◌+◌, ◌*◌, ◌<◌, ◌≤◌, List, [], ◌∷◌, ◌++◌, length, Bool, true, false, ◌||◌, refl, ap, sym, ◌∙◌, subst, append_assoc, append-nil, arith}
-use Rattle.std.specs.Prelude.{Some, None, if◌then◌else◌, ◌==◌, nat_lt}
+use Rattle.std.proofs.Common.{◌≡◌, ℕ, ◌<◌, List, [], ◌∷◌, ◌++◌, false, refl, ap, ◌∙◌, append-nil}
+use Rattle.std.specs.Prelude.{nat_lt}
 use Rattle.std.proofs.lemmas.Grind.{flat_map-append}
 use Rattle.std.proofs.lemmas.List.Elements.{filter-append}
 use Rattle.std.proofs.lemmas.Bool.{lt-ltb}
@@ -9,18 +9,17 @@ use Rattle.gate_model.specs.declared.instr.Instr.{Instr}
 use Rattle.gate_model.specs.declared.entry.Entry.{Entry}
 use Rattle.gate_model.specs.declared.entry.Entry.TheVariants.{Start, Feed, Join, Read, Write, Take, Leave, Close}
 use Rattle.gate_model.specs.declared.how.How.{How}
-use Rattle.gate_model.specs.declared.how.How.TheVariants.{Suffix}
 use Rattle.gate_model.specs.declared.sharing.Role.{Role}
-use Rattle.gate_model.specs.Layers.{ShowsPicture, draw, nothing, visible}
+use Rattle.gate_model.specs.Layers.{draw, nothing, visible}
 use Rattle.gate_model.specs.Frames.{IsReady, IsDrawn, Redraws}
-use Rattle.gate_model.specs.Screens.{after_bytes, screen, shown}
-use Rattle.gate_model.specs.Terminal.{Terminal, opening_screen}
-use Rattle.gate_model.specs.Entries.{fed, framed, is_close}
-use Rattle.gate_model.specs.History.{History, at, bytes, columns, lines, frames, frames_after, instructions, all_frames, newest, is_closed}
-use Rattle.gate_model.specs.Steps.{IsScreenSize, Starts, IsFirst, IsNext, Legal}
+use Rattle.gate_model.specs.Screens.{after_bytes, shown}
+use Rattle.gate_model.specs.Terminal.{opening_screen}
+use Rattle.gate_model.specs.Entries.{fed, framed}
+use Rattle.gate_model.specs.History.{History, at, bytes, columns, lines, frames, frames_after, instructions, all_frames, is_closed}
+use Rattle.gate_model.specs.Steps.{IsScreenSize, IsNext, Legal}
 use Rattle.gate_model.specs.Truth.{AllDrawn}
 use Rattle.gate_model.proofs.Drawing.{draw-append}
-use Rattle.gate_model.proofs.ScreenLaws.{Keeps, after_bytes-keeps, after_bytes-append}
+use Rattle.gate_model.proofs.ScreenLaws.{after_bytes-keeps, after_bytes-append}
 
 -- a Feed
 pub all_frames-feed : (h : History) (bs : List ℕ) (t : ℕ) (frame : List Instr) → all_frames (Feed bs t frame ∷ h) ≡ all_frames h ++ frame
@@ -115,9 +114,9 @@ drawn-feed h bs t frame l d redraws =
     let now = drawn-now h l d in
     let keeps = after_bytes-keeps (at h) bs in
     let ready : IsReady (draw nothing (all_frames h) visible) (shown (after_bytes (at h) bs)) = record {
-        width = rw keeps.columns now.shows.width;
-        height = rw keeps.rows now.shows.height;
-        no_path = now.no_path;
-      } in
+      width = rw keeps.columns now.shows.width;
+      height = rw keeps.rows now.shows.height;
+      no_path = now.no_path;
+    } in
     let drawn : IsDrawn (draw (draw nothing (all_frames h)) frame visible) (shown (after_bytes (at h) bs)) = redraws (draw nothing (all_frames h)) ready in
     (d, rw (all_frames-feed h bs t frame, draw-append nothing (all_frames h) frame, at-feed h bs t frame) drawn)

@@ -1,9 +1,8 @@
 -- Worked facts, which the checker computes: a wrong definition shows here before any code.
-use Rattle.std.proofs.Common.{◌≡◌, ℕ, ◌+◌, ◌^◌, List, [], ◌∷◌, ◌++◌, true, false, refl, pos}
-use Rattle.std.specs.Prelude.{Some, None, Option}
+use Rattle.std.proofs.Common.{◌≡◌, [], ◌∷◌, true, false, refl, pos}
+use Rattle.std.specs.Prelude.{Some, None}
 use Rattle.gate_model.specs.Palette.{colour_of}
 use Rattle.gate_model.specs.declared.colour.Colour.{Colour}
-use Rattle.gate_model.specs.declared.instr.Instr.{Instr}
 use Rattle.gate_model.specs.declared.instr.Instr.TheVariants.{Size, Rect, Cfill, Copy, Sync}
 use Rattle.gate_model.specs.declared.sharing.Share.TheVariants.{Nobody}
 use Rattle.gate_model.specs.declared.sharing.Role.TheVariants.{Control}
@@ -12,7 +11,6 @@ use Rattle.gate_model.specs.declared.entry.Entry.TheVariants.{Start, Feed, Join,
 use Rattle.gate_model.specs.Glyphs.{lit}
 use Rattle.gate_model.specs.Pictures.{picture}
 use Rattle.gate_model.specs.Layers.{draw, nothing, visible}
-use Rattle.gate_model.specs.Shape.{Draws}
 use Rattle.gate_model.specs.Screens.{screen, shown}
 use Rattle.gate_model.specs.History.{History, next_stamp, newest, newest_frame, all_frames, upto}
 use Rattle.gate_model.specs.Delivered.{delivered, position}
@@ -52,7 +50,6 @@ pending_wrap = (refl, refl, refl, refl, refl)
 scrolled : let s = shown (screen 2 2 (65 ∷ 13 ∷ 10 ∷ 66 ∷ 13 ∷ 10 ∷ 67 ∷ [])) in (picture s 1 2 ≡ grey) × (picture s 8 0 ≡ black) × (picture s 1 18 ≡ black)
 unfolding colour_of picture lit grey black
 scrolled = (refl, refl, refl)
-
 
 -- a fill covers the path and nothing else; a rectangle after a fill begins a new path
 filled : let m = draw nothing (Size (pos 0) 3 2 ∷ Rect (pos 0) 0 0 2 2 ∷ Cfill (pos 0) 170 170 170 ∷ Rect (pos 0) 0 0 1 1 ∷ Cfill (pos 0) 0 0 0 ∷ []) visible in

@@ -1,6 +1,6 @@
 -- What every effect keeps: the size of the screen, and that each ink and paper is a colour.
-use Rattle.std.proofs.Common.{◌≡◌, ℕ, zero, suc, ◌+◌, ◌*◌, ◌<◌, ◌^◌, min, List, [], ◌∷◌, ◌++◌, length, Bool, true, false, refl, ap, sym, ◌∙◌, subst, drop, replicate, arith, lit<}
-use Rattle.std.specs.Prelude.{All, slice_set, slice_index_or, map, nat_lt, if◌then◌else◌, ◌==◌}
+use Rattle.std.proofs.Common.{◌≡◌, ℕ, zero, suc, ◌+◌, ◌*◌, ◌<◌, List, [], ◌∷◌, ◌++◌, Bool, true, false, refl, ◌∙◌, drop, replicate, arith, lit<}
+use Rattle.std.specs.Prelude.{All, map, if◌then◌else◌, ◌==◌}
 use Rattle.std.proofs.lemmas.List.Elements.{All-set, All-append, All-drop, All-replicate, All-map}
 use Rattle.gate_model.specs.declared.cell.Cell.{Cell}
 use Rattle.gate_model.specs.declared.key.Key.{Key}
@@ -8,7 +8,7 @@ use Rattle.gate_model.specs.declared.control.Control.{Control}
 use Rattle.gate_model.specs.declared.control.Control.TheVariants.{Print, Code, Esc, Csi}
 use Rattle.gate_model.specs.Pictures.{key_at, blank_key}
 use Rattle.gate_model.specs.Terminal.{Terminal, blank, opening_screen}
-use Rattle.gate_model.specs.Effects.{scrolled_up, line_feed, carriage_return, wrapped, placed, printed, effect}
+use Rattle.gate_model.specs.Effects.{scrolled_up, line_feed, carriage_return, wrapped, placed, effect}
 use Rattle.gate_model.specs.Screens.{control_of, after_bytes, screen, key_of, exchanged, exchanged_at, shown, IsColoured, AreColoured}
 
 -- a cell's ink and paper are indexes of the palette
@@ -81,8 +81,10 @@ coloured-shown t c = pick t.visible
   where
     keys : List Key
     keys = map key_of t.cells
+
     are : AreColoured (map key_of t.cells)
     are = All-map IsColoured key_of t.cells c
+
     pick : (b : Bool) → AreColoured (if b then exchanged_at (t.y * t.columns + t.x) (map key_of t.cells) else map key_of t.cells)
     pick false = are
     pick true = let k = coloured-key_at (map key_of t.cells) (t.y * t.columns + t.x) are in All-set IsColoured (map key_of t.cells) (t.y * t.columns + t.x) (exchanged (key_at (map key_of t.cells) (t.y * t.columns + t.x))) (k.1, k.0) are

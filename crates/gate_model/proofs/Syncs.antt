@@ -1,18 +1,10 @@
 -- Where the syncs of a frame stand: it has one, at its end.
-use Rattle.std.proofs.Common.{◌≡◌, ℤ, ◌≢◌, ℕ, ◌+◌, ◌*◌, ◌<◌, ◌≤◌, max, min, List, [], ◌∷◌, ◌++◌, length, Bool, true, false, ◌⊎◌, inl, inr, refl, ap, sym, ◌∙◌, subst, append_assoc, append-nil, arith}
-use Rattle.std.specs.Prelude.{flat_map, filter, Some, None, Option, unwrap_or, nat_lt, nat_eq, IsTrue}
-use Rattle.std.specs.List.{list_any}
-use Rattle.std.proofs.lemmas.Grind.{flat_map-append, common_steps}
-use Rattle.std.proofs.lemmas.Bool.Decides.{nat_tests}
+use Rattle.std.proofs.Common.{◌≡◌, ℤ, ℕ, List, [], ◌∷◌, ◌++◌, refl, subst}
 use Rattle.gate_model.specs.declared.instr.Instr.{Instr}
 use Rattle.gate_model.specs.declared.instr.Instr.TheVariants.{Size, Rect, Cfill, Copy, Sync, Disconnect, Error}
-use Rattle.gate_model.specs.declared.entry.Entry.{Entry}
-use Rattle.gate_model.specs.declared.entry.Entry.TheVariants.{Start, Feed, Join, Read, Write, Take, Leave, Close}
-use Rattle.gate_model.specs.declared.how.How.TheVariants.{Suffix, Fresh}
 use Rattle.gate_model.specs.Sequences.{BeginsWith}
-use Rattle.gate_model.specs.Shape.{Draws, Shape, without_layer}
-use Rattle.gate_model.specs.Delivered.{last_sync_from, last_sync, delivered, position, given}
-use Rattle.gate_model.proofs.Fronts.{front_cases}
+use Rattle.gate_model.specs.Shape.{Draws, without_layer}
+use Rattle.gate_model.specs.Delivered.{last_sync_from}
 
 -- a body holds no sync: the last sync of a frame is its own
 pub last_sync-body : (cols rows : ℕ) (unfilled : List ℤ) (body : List Instr) (t s : ℕ) → Draws cols rows unfilled body → last_sync_from s (body ++ Sync t ∷ []) ≡ t
@@ -27,7 +19,7 @@ last_sync-body cols rows unfilled (Error status ∷ is) t s d = absurd d
 
 -- a front of a frame that ends with a sync is the whole frame
 pub sync_is_last : (cols rows : ℕ) (unfilled : List ℤ) (body front : List Instr) (t s : ℕ) → Draws cols rows unfilled body
-  → BeginsWith (body ++ Sync s ∷ []) (front ++ Sync t ∷ []) → (front ≡ body) × (t ≡ s)
+    → BeginsWith (body ++ Sync s ∷ []) (front ++ Sync t ∷ []) → (front ≡ body) × (t ≡ s)
 sync_is_last cols rows unfilled [] [] t s d h = (refl, (let e : Sync s ∷ [] ≡ Sync t ∷ h.0 = h.1 in cc))
 sync_is_last cols rows unfilled [] (x ∷ []) t s d h = absurd (let e : Sync s ∷ [] ≡ x ∷ Sync t ∷ h.0 = h.1 in cc)
 sync_is_last cols rows unfilled [] (x ∷ y ∷ front) t s d h = absurd (let e : Sync s ∷ [] ≡ x ∷ y ∷ ((front ++ Sync t ∷ []) ++ h.0) = h.1 in cc)

@@ -1,5 +1,5 @@
 -- The state of a screen and its start (this project's own, after ECMA-48).
-use Rattle.std.specs.Prelude.{◌≡◌, ℕ, ◌*◌, ◌<◌, ◌^◌, List, length, replicate, Bool, true, false}
+use Rattle.std.specs.Prelude.{◌≡◌, ℕ, ◌*◌, ◌<◌, List, length, replicate, Bool, true, false}
 use Rattle.gate_model.specs.declared.cell.Cell.{Cell}
 
 -- Places are counted from 0. `pending` says that the last column was just printed and the next
