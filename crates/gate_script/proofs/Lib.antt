@@ -1,0 +1,9 @@
+pub mod DeskLaws
+pub mod PieceLaws
+pub mod WordLaws
+pub mod ReportLaws
+pub mod SessionLaws
+pub mod CutLaws
+pub mod DrawLaws
+pub mod OpeningLaws
+pub mod CommandLaws

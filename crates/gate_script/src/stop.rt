@@ -1,0 +1,38 @@
+ghost use Rattle.std.specs.Prelude.{◌≡◌};
+ghost use Rattle.gate_script.specs.declared.stop.Stop.TheVariants.{NoMemory as no_memory};
+
+use gate_model::NoMemory;
+use std::alloc::{AllocError, AllocFailed};
+
+/// Why a run ended before its input did.
+#[derive(Clone, Copy, Debug, PartialEq, Eq)]
+pub(crate) enum Stop {
+    /// The source failed.
+    ReadFault,
+    /// The answers' sink failed.
+    AnswersFault,
+    /// The frames' sink failed.
+    FramesFault,
+    /// Want of memory.
+    NoMemory,
+    /// The session has this many entries, and may have no more.
+    Worn { entries: u64 },
+    /// A piece has a byte without a meaning at this place.
+    Unbuilt { place: usize },
+}
+
+impl From<NoMemory> for Stop {
+    ghost from_gives = { λ _ e. e ≡ no_memory };
+
+    fn from(_refused: NoMemory) -> Stop {
+        Stop::NoMemory
+    }
+}
+
+impl From<AllocError> for Stop {
+    ghost from_gives = { λ _ e. e ≡ no_memory };
+
+    fn from(_refused: AllocError) -> Stop {
+        Stop::NoMemory
+    }
+}

@@ -1,0 +1,80 @@
+//! The program `guacgate`: it draws what a Telnet host sent, as the instructions of the Guacamole
+//! protocol that a viewer is given.
+//!
+//! All that it says of its input and its outputs is the contract of `gate_script::command`. What stands
+//! here is only the friendly edge: the words of the command line, `--help` and `--version`.
+#![tactic(auto)]
+
+use gate_outside::{Failed, StdSink, StdSource, write_all};
+use gate_script::command;
+use std::env;
+use std::io;
+use std::process::ExitCode;
+
+const VERSION: &str = "guacgate 0.1.0\n";
+
+const USAGE: &str = "usage: guacgate draw COLS ROWS < BYTES\n";
+
+const HELP: &str = "guacgate shows a Telnet session as instructions of the Guacamole protocol.
+
+usage: guacgate draw COLS ROWS < BYTES
+
+Draws what a Telnet host sent, read from standard input, on a screen of COLS columns (1 to 512) and
+ROWS rows (1 to 256), at most 8192 cells. The answers go to standard output, the instructions that
+each frame has, and those that the viewer is given, to standard error.
+
+status: 0 done, 2 faulty words, 4 reading failed, 5 writing failed, 6 no memory, 7 the session is
+full, 9 a byte has no meaning
+";
+
+fn main(rt: HostRuntime) -> ExitCode {
+    let alloc = rt.alloc();
+    let mut errors = StdSink::new(rt.stderr());
+    let words = match words(&rt) {
+        Ok(words) => words,
+        Err(status) => return usage(status, &mut errors),
+    };
+    let mut output = StdSink::new(rt.stdout());
+    if let Some(text) = asked(&words) {
+        return ExitCode::from(told(write_all(&mut output, text.as_bytes())));
+    }
+    let mut input = StdSource::new(rt.reader());
+    let status = command(alloc, &words, &mut input, &mut output, &mut errors);
+    usage(status, &mut errors)
+}
+
+// The words after the program's name. Words that aren't text are faulty words.
+fn words(rt: &HostRuntime) -> Result<Vec<String>, u8> {
+    let Ok(words) = env::args(rt) else {
+        return Err(2);
+    };
+    words.skip(1).collect(rt.alloc()).map_err(|_| 6)
+}
+
+// The text that was asked for, where one of these words is the only one.
+fn asked(words: &[String]) -> Option<&'static str> {
+    let [word] = words else {
+        return None;
+    };
+    match word.as_str() {
+        "--help" | "-h" => Some(HELP),
+        "--version" => Some(VERSION),
+        _ => None,
+    }
+}
+
+// The status after the text that was asked for.
+fn told(written: Result<(), Failed>) -> u8 {
+    match written {
+        Ok(()) => 0,
+        Err(Failed) => 5,
+    }
+}
+
+// Says how the words are written where they were faulty, and ends with the status.
+fn usage(status: u8, errors: &mut StdSink<io::Stderr>) -> ExitCode {
+    if status == 2 {
+        let _ = write_all(errors, USAGE.as_bytes());
+    }
+    ExitCode::from(status)
+}
