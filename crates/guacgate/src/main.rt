@@ -8,12 +8,9 @@
 use gate_outside::{Failed, StdSink, StdSource, write_all};
 use gate_script::command;
 use std::env;
-use std::io;
 use std::process::ExitCode;
 
 const VERSION: &str = "guacgate 0.1.0\n";
-
-const USAGE: &str = "usage: guacgate draw COLS ROWS < BYTES\n";
 
 const HELP: &str = "guacgate shows a Telnet session as instructions of the Guacamole protocol.
 
@@ -28,19 +25,18 @@ full, 9 a byte has no meaning
 ";
 
 fn main(rt: HostRuntime) -> ExitCode {
-    let alloc = rt.alloc();
-    let mut errors = StdSink::new(rt.stderr());
     let words = match words(&rt) {
         Ok(words) => words,
-        Err(status) => return usage(status, &mut errors),
+        Err(status) => return ExitCode::from(status),
     };
     let mut output = StdSink::new(rt.stdout());
     if let Some(text) = asked(&words) {
         return ExitCode::from(told(write_all(&mut output, text.as_bytes())));
     }
     let mut input = StdSource::new(rt.reader());
-    let status = command(alloc, &words, &mut input, &mut output, &mut errors);
-    usage(status, &mut errors)
+    let mut errors = StdSink::new(rt.stderr());
+    let status = command(rt.alloc(), &words, &mut input, &mut output, &mut errors);
+    ExitCode::from(status)
 }
 
 // The words after the program's name. Words that aren't text are faulty words.
@@ -69,12 +65,4 @@ fn told(written: Result<(), Failed>) -> u8 {
         Ok(()) => 0,
         Err(Failed) => 5,
     }
-}
-
-// Says how the words are written where they were faulty, and ends with the status.
-fn usage(status: u8, errors: &mut StdSink<io::Stderr>) -> ExitCode {
-    if status == 2 {
-        let _ = write_all(errors, USAGE.as_bytes());
-    }
-    ExitCode::from(status)
 }
