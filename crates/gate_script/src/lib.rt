@@ -12,6 +12,8 @@ mod pieces;
 mod report;
 mod session;
 mod stop;
+#[cfg(test)]
+mod tests;
 mod words;
 
 pub use commands::command;

@@ -10,3 +10,6 @@ mod screen;
 
 pub use reply::Reply;
 pub use screen::Screen;
+
+#[cfg(test)]
+mod tests;

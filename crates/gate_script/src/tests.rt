@@ -1,0 +1,192 @@
+use crate::command;
+use gate_outside::{MemSink, MemSource};
+use std::alloc::Global;
+use std::test::Fail;
+
+// What a run ended with.
+#[derive(Drop)]
+struct Ran {
+    status: u8,
+    answers: MemSink,
+    frames: MemSink,
+}
+
+// Where a source or a sink fails: the call's number, counted from 1; 0 for nowhere.
+#[derive(Clone, Copy)]
+struct Faults {
+    source: u64,
+    answers: u64,
+    frames: u64,
+}
+
+const NO_FAULT: Faults = Faults {
+    source: 0,
+    answers: 0,
+    frames: 0,
+};
+
+// Runs the words over the input, of which each read gives at most 7 bytes.
+fn run(alloc: Global, words: &str, input: &[u8], faults: Faults) -> Result<Ran, Fail> {
+    let mut list: Vec<String> = Vec::new(alloc);
+    for word in words.split(' ') {
+        list.push(word.to_string(alloc)?)?;
+    }
+    let mut source = MemSource::new(input.to_vec(alloc)?, 7, [faults.source].to_vec(alloc)?);
+    let mut answers = MemSink::new(alloc, 4096, 64, [faults.answers].to_vec(alloc)?)
+        .ok()
+        .ok_or("no memory")?;
+    let mut frames = MemSink::new(alloc, 65536, 4096, [faults.frames].to_vec(alloc)?)
+        .ok()
+        .ok_or("no memory")?;
+    let status = command(alloc, &list, &mut source, &mut answers, &mut frames);
+    Ok(Ran {
+        status,
+        answers,
+        frames,
+    })
+}
+
+#[test]
+fn the_rows_of_draw_have_their_answers_and_statuses(rt: HostRuntime) -> Result<(), Fail> {
+    let opened = "started 1\njoined 1 1\n";
+    let table = [
+        ("draw 1 24", b"".as_slice(), 0, "done 1\n"),
+        ("draw 01 024", b"".as_slice(), 0, "done 1\n"),
+        ("draw 1 24", b"A\n".as_slice(), 0, "synced 2\ndone 2\n"),
+        (
+            "draw 1 24",
+            b"A\nB".as_slice(),
+            0,
+            "synced 2\nsynced 3\ndone 3\n",
+        ),
+        (
+            "draw 1 24",
+            b"\n\n".as_slice(),
+            0,
+            "synced 2\nsynced 3\ndone 3\n",
+        ),
+        ("draw 1 24", b"A\x07".as_slice(), 9, "unbuilt 1\n"),
+        (
+            "draw 1 24",
+            b"A\nBC\x07\n".as_slice(),
+            9,
+            "synced 2\nunbuilt 2\n",
+        ),
+        (
+            "draw 1 24",
+            b"A\n\xff".as_slice(),
+            9,
+            "synced 2\nunbuilt 0\n",
+        ),
+    ];
+    for (words, input, status, rest) in table {
+        let ran = run(rt.alloc(), words, input, NO_FAULT)?;
+        assert_eq!(rt; ran.status, status, "at {input:?}");
+        assert!(rt; ran.answers.written().starts_with(opened.as_bytes()));
+        assert_eq!(rt;
+            &ran.answers.written()[opened.len()..],
+            rest.as_bytes(),
+            "at {input:?}"
+        );
+    }
+    Ok(())
+}
+
+#[test]
+fn faulty_words_read_and_write_nothing(rt: HostRuntime) -> Result<(), Fail> {
+    let table = [
+        "",
+        "draw",
+        "draw 80",
+        "draw 0 24",
+        "draw 80 0",
+        "draw 513 1",
+        "draw 1 257",
+        "draw 512 17",
+        "draw 80 24 x",
+        "draw +8 24",
+        "draw  24",
+        "draw 000000000000000000001 24",
+        "DRAW 80 24",
+        "--help",
+    ];
+    for words in table {
+        let ran = run(rt.alloc(), words, b"A\n", NO_FAULT)?;
+        assert_eq!(rt; ran.status, 2, "at {words}");
+        assert_eq!(rt; ran.answers.written(), b"".as_slice());
+        assert_eq!(rt; ran.frames.written(), b"".as_slice());
+    }
+    Ok(())
+}
+
+// The frames of an empty screen of one cell, and of a line feed on it, by hand: the cursor's cell has
+// its ink as its paper, and a blank has no lit pixel.
+const FRAMES: &[u8] =
+    b"0 4.size,1.0,1.8,2.16;4.rect,1.0,1.0,1.0,1.8,2.16;5.cfill,2.14,1.0,3.170,3.170,3.170,3.255;4.sync,1.1;
+1 4.size,1.0,1.8,2.16;4.rect,1.0,1.0,1.0,1.8,2.16;5.cfill,2.14,1.0,3.170,3.170,3.170,3.255;4.sync,1.1;
+0 4.rect,1.0,1.0,1.0,1.8,2.16;5.cfill,2.14,1.0,3.170,3.170,3.170,3.255;4.sync,1.2;
+1 4.rect,1.0,1.0,1.0,1.8,2.16;5.cfill,2.14,1.0,3.170,3.170,3.170,3.255;4.sync,1.2;
+";
+
+#[test]
+fn each_frame_is_written_once_made_and_once_given(rt: HostRuntime) -> Result<(), Fail> {
+    let ran = run(rt.alloc(), "draw 1 1", b"\n", NO_FAULT)?;
+    assert_eq!(rt; ran.status, 0);
+    assert_eq!(rt; ran.frames.written(), FRAMES);
+    Ok(())
+}
+
+#[test]
+fn a_fault_ends_the_run_with_a_front_of_what_it_writes(rt: HostRuntime) -> Result<(), Fail> {
+    let whole = b"started 1\njoined 1 1\nsynced 2\ndone 2\n".as_slice();
+    let source = Faults {
+        source: 2,
+        ..NO_FAULT
+    };
+    let ran = run(rt.alloc(), "draw 1 1", b"\n\n\nAAAAA\n", source)?;
+    assert_eq!(rt; ran.status, 4);
+    assert_eq!(rt;
+        ran.answers.written(),
+        b"started 1\njoined 1 1\nsynced 2\nsynced 3\nsynced 4\n".as_slice()
+    );
+    for call in 1..=4 {
+        let answers = Faults {
+            answers: call,
+            ..NO_FAULT
+        };
+        let ran = run(rt.alloc(), "draw 1 1", b"\n", answers)?;
+        assert_eq!(rt; ran.status, 5, "at call {call}");
+        assert!(rt; whole.starts_with(ran.answers.written()));
+        let frames = Faults {
+            frames: call,
+            ..NO_FAULT
+        };
+        let ran = run(rt.alloc(), "draw 1 1", b"\n", frames)?;
+        assert_eq!(rt; ran.status, 5, "at call {call}");
+        assert!(rt; FRAMES.starts_with(ran.frames.written()));
+    }
+    Ok(())
+}
+
+#[test]
+fn a_piece_ends_after_65536_bytes_without_a_line_feed(rt: HostRuntime) -> Result<(), Fail> {
+    let alloc = rt.alloc();
+    let mut input = vec![in alloc; b'\r'; 65536]?;
+    let table = [
+        (0, "started 1\njoined 1 1\nsynced 2\ndone 2\n"),
+        (1, "started 1\njoined 1 1\nsynced 2\nsynced 3\ndone 3\n"),
+        (
+            1,
+            "started 1\njoined 1 1\nsynced 2\nsynced 3\nsynced 4\ndone 4\n",
+        ),
+    ];
+    for (more, answers) in table {
+        for _ in 0..more {
+            input.push(b'\n')?;
+        }
+        let ran = run(alloc, "draw 1 1", &input, NO_FAULT)?;
+        assert_eq!(rt; ran.status, 0);
+        assert_eq!(rt; ran.answers.written(), answers.as_bytes());
+    }
+    Ok(())
+}
