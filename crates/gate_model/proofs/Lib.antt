@@ -9,3 +9,5 @@ pub mod Truth
 pub mod ScreenLaws
 pub mod Rows
 pub mod Histories
+pub mod Digits
+pub mod Spelt

@@ -3,6 +3,7 @@ pub mod Limits
 pub mod Sequences
 pub mod Reading
 pub mod Text
+pub mod Spelling
 pub mod KeyGrid
 pub mod Palette
 pub mod Glyphs

@@ -1,6 +1,7 @@
 //! Laws about the definitions: each function is empty, and its contract is the law.
 
 ghost use Rattle.gate_model.specs.Laws.{DrawingGoesOn, ReadsAnyCutting, TextGoesOn};
+ghost use Rattle.gate_model.specs.Spelling.{SpellingsArePrefixFree};
 
 /// To draw one list of instructions after the other is to draw both (this project's own).
 pub fn drawing_goes_on()
@@ -15,4 +16,10 @@ pub fn text_goes_on()
 /// A stream of bytes is read the same however it is cut into pieces.
 pub fn reads_any_cutting()
     ensures { ReadsAnyCutting }
+{}
+
+/// No spelling of an instruction is a proper prefix of another, and none has two meanings (the Guacamole
+/// manual, "The Guacamole protocol").
+pub fn spellings_are_prefix_free()
+    ensures { SpellingsArePrefixFree }
 {}

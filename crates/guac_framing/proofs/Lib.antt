@@ -1,3 +1,13 @@
 pub mod Words
 pub mod Spelled
 pub mod KindTexts
+pub mod Leads
+pub mod Begins
+pub mod Seconds
+pub mod Seen
+pub mod Rejects
+pub mod Completions
+pub mod Places
+pub mod Steps
+pub mod Stops
+pub mod Apart

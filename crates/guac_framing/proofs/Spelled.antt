@@ -1,7 +1,7 @@
 -- An element from the digits of its length and the bytes of its value.
-use Rattle.std.proofs.Common.{◌≡◌, ℕ, List, ◌++◌, Bool, true, false, length, decimal, refl, ap, sym, ◌∙◌}
+use Rattle.std.proofs.Common.{◌≡◌, ℕ, List, Bool, true, false, length, decimal, ap, sym, ◌∙◌}
 use Rattle.std.specs.Str.{IsUtf8, IsAscii, chars, encode_utf8_all}
-use Rattle.std.proofs.lemmas.Str.{chars_from_encodes, encodes-chars, encodes-IsAscii}
+use Rattle.std.proofs.lemmas.Str.{encodes-chars, encodes-IsAscii}
 use Rattle.guac_framing.specs.Appended.{separated, spelled}
 
 pub spelled-separated : (first : Bool) (value bytes : List ℕ) → encode_utf8_all value ≡ bytes → spelled first (decimal (length value)) bytes ≡ separated first value

@@ -1,5 +1,5 @@
 -- The words that the gateway sends are their own characters.
-use Rattle.std.proofs.Common.{◌≡◌, ℕ, List, codes, refl}
+use Rattle.std.proofs.Common.{◌≡◌, codes, refl}
 use Rattle.std.specs.Str.{chars}
 
 pub size_word : chars (codes "size") ≡ codes "size"

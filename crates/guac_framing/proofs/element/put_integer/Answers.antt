@@ -1,4 +1,4 @@
-use Rattle.std.proofs.Common.{◌∙◌, ap, ◌++◌, decimal, length, sym, refl}
+use Rattle.std.proofs.Common.{◌∙◌, ap, ◌++◌, decimal, length, refl}
 use Rattle.std.proofs.lemmas.Result.{on_ok_weaker}
 use Rattle.guac_framing.specs.Appended.{separated, spelled}
 use Rattle.guac_framing.proofs.Spelled.{spelled-ascii}

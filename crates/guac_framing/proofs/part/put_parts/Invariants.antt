@@ -1,4 +1,4 @@
-use Rattle.std.proofs.Common.{◌≡◌, ◌++◌, ◌∷◌, map, take, flat_map}
+use Rattle.std.proofs.Common.{◌≡◌, ◌++◌, map, take, flat_map}
 use Rattle.std.specs.Str.{chars}
 use Rattle.gate_model.specs.Text.{element, next_element}
 use Rattle.guac_framing.specs.Parts.{points_of}
