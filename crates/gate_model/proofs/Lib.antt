@@ -1,3 +1,7 @@
+pub mod UnfinishedLaws
+pub mod CharacterLaws
+pub mod ControlLaws
+mod ControlFacts
 pub mod Cutting
 pub mod Drawing
 pub mod GlyphTests
@@ -11,3 +15,6 @@ pub mod Rows
 pub mod Histories
 pub mod Digits
 pub mod Spelt
+pub mod Calling
+pub mod Bounds
+pub mod RefusalRows

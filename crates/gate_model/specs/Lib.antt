@@ -4,6 +4,9 @@ pub mod Sequences
 pub mod Reading
 pub mod Text
 pub mod Spelling
+pub mod Characters
+pub mod Parameters
+pub mod Controls
 pub mod KeyGrid
 pub mod Palette
 pub mod Glyphs
@@ -20,5 +23,8 @@ pub mod History
 pub mod Delivered
 pub mod Rights
 pub mod Steps
+pub mod Refusals
+pub mod Calls
 pub mod Truth
+pub mod ControlLaws
 pub mod Laws

@@ -1,7 +1,9 @@
 //! Laws about the definitions: each function is empty, and its contract is the law.
 
-ghost use Rattle.gate_model.specs.Laws.{DrawingGoesOn, ReadsAnyCutting, TextGoesOn};
+ghost use Rattle.gate_model.specs.Laws.{DrawingGoesOn, ReadsAnyCutting, StepsAreLegal, TextGoesOn};
 ghost use Rattle.gate_model.specs.Spelling.{SpellingsArePrefixFree};
+
+pub mod controls;
 
 /// To draw one list of instructions after the other is to draw both (this project's own).
 pub fn drawing_goes_on()
@@ -22,4 +24,9 @@ pub fn reads_any_cutting()
 /// manual, "The Guacamole protocol").
 pub fn spellings_are_prefix_free()
     ensures { SpellingsArePrefixFree }
+{}
+
+/// The entry that a call of a desk adds makes a longer legal history (this project's own).
+pub fn steps_are_legal()
+    ensures { StepsAreLegal }
 {}

@@ -1,0 +1,6 @@
+pub mod HeldLaws
+pub mod PartLaws
+pub mod SequenceLaws
+pub mod StringLaws
+pub mod StateLaws
+pub mod ParserLaws

@@ -1,0 +1,167 @@
+-- How one more character changes the parameters of a text.
+use Rattle.std.proofs.Common.{◌≡◌, ◌≢◌, ℕ, ◌+◌, ◌-◌, ◌≤◌, ◌<◌, min, List, [], ◌∷◌, ◌++◌, length, length-append, set, Bool, true, false, cond, ⊎_elim, append_assoc, refl, sym, ap, subst, ◌∙◌, arith}
+use Rattle.std.proofs.lemmas.Bool.{cases_lt, cond-true, cond-false, ne_eqb, lt-ltb, le-ltb, lt-leb, le-leb, and_left, and_right, and_from}
+use Rattle.std.proofs.lemmas.Bool.Decides.{nat_tests}
+use Rattle.std.proofs.lemmas.List.Folds.{list_all-append}
+use Rattle.std.specs.List.{list_all}
+use Rattle.std.specs.Prelude.{◌==◌, slice_index}
+use Rattle.gate_model.specs.declared.control.Control.TheVariants.{Csi}
+use Rattle.gate_model.specs.Controls.{has_effect, sequence}
+use Rattle.gate_model.specs.Parameters.{is_separator, private_mark, without_mark, is_plain, value, parts, params_of}
+use Rattle.ecma_parser.specs.declared.sequence.Sequence.{Sequence}
+use Rattle.ecma_parser.specs.Sequence.{Holds, Continues, IsVoid, next_value, with_digit, with_separator, csi_of}
+use Rattle.ecma_parser.proofs.PartLaws.{LastPart, last-part, filled, filled-next, filled-past, filled-at, filled-set, value-more}
+
+-- ---- the private mark
+
+record KeepsMark (text rest : List ℕ) : Type 0 where
+  mark : private_mark (text ++ rest) ≡ private_mark text
+  others : without_mark (text ++ rest) ≡ without_mark text ++ rest
+
+keeps-mark : (text : List ℕ) (c : ℕ) (rest : List ℕ) → Continues text c → KeepsMark text (c ∷ rest)
+keeps-mark [] c rest other =
+    let isnt : (c == 0x3F) ≡ false = ne_eqb c 0x3F (other refl) in
+    record { mark = isnt; others = cond-false _ _ _ isnt }
+keeps-mark (x ∷ xs) c rest other = record { mark = refl; others = by_test (x == 0x3F) }
+  where
+    by_test : (b : Bool) → cond b (xs ++ c ∷ rest) (x ∷ xs ++ c ∷ rest) ≡ cond b xs (x ∷ xs) ++ c ∷ rest
+    by_test true = refl
+    by_test false = refl
+
+-- ---- the sequence after one more character
+
+longer : (text : List ℕ) (c : ℕ) → length (text ++ c ∷ []) ≡ length text + 1
+longer text c = let long = length-append text (c ∷ []) in omega arith
+
+last-place : (t : List ℕ) (part : LastPart t) → length (parts t) ≡ length part.front + 1
+last-place t part = ap length part.is ∙ (let long = length-append part.front (part.last ∷ []) in omega arith)
+
+pub kept-digit : (s : Sequence) (text : List ℕ) (c : ℕ) → Holds s text → Continues text c → s.length < 256 → 48 ≤ c → c ≤ 57
+    → Holds (with_digit (record s { length = s.length + 1 }) (c - 48)) (text ++ c ∷ [])
+kept-digit s text c h other below from to = ⊎_elim low high (cases_lt s.place 16)
+  where
+    t : List ℕ
+    t = without_mark text
+
+    part : LastPart (without_mark text)
+    part = last-part (without_mark text)
+
+    keeps : KeepsMark text (c ∷ [])
+    keeps = keeps-mark text c [] other
+
+    isnt : is_separator c ≡ false
+    isnt = grind (arith, nat_tests)
+
+    parts-is : parts (without_mark (text ++ c ∷ [])) ≡ part.front ++ (part.last ++ c ∷ []) ∷ []
+    parts-is = ap parts keeps.others ∙ part.more c isnt
+
+    old-is : filled (part.front ++ part.last ∷ []) ≡ s.values
+    old-is = ap filled (sym part.is) ∙ h.values
+
+    plain-is : list_all is_plain (without_mark (text ++ c ∷ [])) ≡ true
+    plain-is =
+        ap (list_all is_plain) keeps.others ∙ list_all-append is_plain (without_mark text) (c ∷ [])
+        ∙ and_from _ _ h.plain (grind (arith, nat_tests))
+
+    place-is : s.place ≡ min 16 (length part.front)
+    place-is = h.place ∙ ap (λ n. min 16 (n - 1)) (last-place (without_mark text) part) ∙ ap (min 16) (one-less (length part.front))
+      where
+        one-less : (n : ℕ) → n + 1 - 1 ≡ n
+        one-less n = omega arith
+
+    new-place : s.place ≡ min 16 (length (parts (without_mark (text ++ c ∷ []))) - 1)
+    new-place = place-is ∙ sym (ap (λ n. min 16 (n - 1)) (ap length parts-is ∙ length-append part.front ((part.last ++ c ∷ []) ∷ [])) ∙ ap (min 16) (one-less (length part.front)))
+      where
+        one-less : (n : ℕ) → n + 1 - 1 ≡ n
+        one-less n = omega arith
+
+    holds : (values : List ℕ) → filled (part.front ++ (part.last ++ c ∷ []) ∷ []) ≡ values → Holds (record s { length = s.length + 1; values = values }) (text ++ c ∷ [])
+    holds values is = record {
+      long = longer text c ∙ ap (λ n. n + 1) h.long;
+      few = omega (arith, longer text c, h.long);
+      mark = keeps.mark ∙ h.mark;
+      plain = plain-is;
+      place = new-place;
+      values = ap filled parts-is ∙ is;
+    }
+
+    low : s.place < 16 → Holds (with_digit (record s { length = s.length + 1 }) (c - 48)) (text ++ c ∷ [])
+    low lt =
+        let at : s.place ≡ length part.front = omega (arith, place-is) in
+        let old : slice_index s.values s.place ≡ value part.last =
+        ap (slice_index s.values) at ∙ ap (λ vs. slice_index vs (length part.front)) (sym old-is) ∙ filled-at part.front part.last (omega (arith, at)) in
+        let new : filled (part.front ++ (part.last ++ c ∷ []) ∷ []) ≡ set s.values s.place (next_value (slice_index s.values s.place) (c - 48)) =
+        filled-set part.front part.last (part.last ++ c ∷ [])
+        ∙ ap (λ vs. set vs (length part.front) (value (part.last ++ c ∷ []))) old-is
+        ∙ ap (λ i. set s.values i (value (part.last ++ c ∷ []))) (sym at)
+        ∙ ap (set s.values s.place) (value-more part.last c from to ∙ ap (λ v. next_value v (c - 48)) (sym old)) in
+        subst (λ q. Holds q (text ++ c ∷ [])) (sym (cond-true _ _ _ (lt-ltb _ _ lt))) (holds _ new)
+
+    high : 16 ≤ s.place → Holds (with_digit (record s { length = s.length + 1 }) (c - 48)) (text ++ c ∷ [])
+    high past =
+        subst (λ q. Holds q (text ++ c ∷ [])) (sym (cond-false _ _ _ (le-ltb _ _ past)))
+        (holds s.values (filled-past part.front (part.last ++ c ∷ []) part.last (omega (arith, place-is)) ∙ old-is))
+
+kept-separator : (s : Sequence) (text : List ℕ) → Holds s text → s.length < 256
+    → Holds (with_separator (record s { length = s.length + 1 })) (text ++ 59 ∷ [])
+kept-separator s text h below = holds (min 16 (s.place + 1)) (omega (arith, h.place, some, long))
+  where
+    part : LastPart (without_mark text)
+    part = last-part (without_mark text)
+
+    keeps : KeepsMark text (59 ∷ [])
+    keeps = keeps-mark text 59 [] (λ e eq. absurd (omega arith))
+
+    parts-is : parts (without_mark (text ++ 59 ∷ [])) ≡ parts (without_mark text) ++ [] ∷ []
+    parts-is = ap parts keeps.others ∙ part.next 59 refl
+
+    some : length (parts (without_mark text)) ≡ length part.front + 1
+    some = last-place (without_mark text) part
+
+    long : length (parts (without_mark (text ++ 59 ∷ []))) ≡ length (parts (without_mark text)) + 1
+    long = ap length parts-is ∙ length-append (parts (without_mark text)) ([] ∷ [])
+
+    holds : (place : ℕ) → place ≡ min 16 (length (parts (without_mark (text ++ 59 ∷ []))) - 1) → Holds (record s { length = s.length + 1; place = place }) (text ++ 59 ∷ [])
+    holds place is = record {
+      long = longer text 59 ∙ ap (λ n. n + 1) h.long;
+      few = omega (arith, longer text 59, h.long);
+      mark = keeps.mark ∙ h.mark;
+      plain = ap (list_all is_plain) keeps.others ∙ list_all-append is_plain (without_mark text) (59 ∷ []) ∙ and_from _ _ h.plain refl;
+      place = is;
+      values = ap filled parts-is ∙ filled-next (parts (without_mark text)) ∙ h.values;
+    }
+
+pub kept-at : (s : Sequence) (text : List ℕ) (c : ℕ) → Holds s text → s.length < 256 → c ≡ 59
+    → Holds (with_separator (record s { length = s.length + 1 })) (text ++ c ∷ [])
+kept-at s text c h below is = subst (λ d. Holds (with_separator (record s { length = s.length + 1 })) (text ++ d ∷ [])) (sym is) (kept-separator s text h below)
+
+-- ---- sequences without effect
+
+pub void-long : (text : List ℕ) (c : ℕ) → 256 ≤ length text → IsVoid (text ++ c ∷ [])
+void-long text c many more =
+    and_left _ _ (lt-leb (length ((text ++ c ∷ []) ++ more)) 256 (omega (arith, length-append (text ++ c ∷ []) more, longer text c)))
+
+pub not_plain : (c : ℕ) → c ≢ 59 → (48 ≤ c → 57 < c) → is_plain c ≡ false
+not_plain c other outside = grind (arith, nat_tests)
+
+pub void-other : (text : List ℕ) (c : ℕ) → Continues text c → is_plain c ≡ false → IsVoid (text ++ c ∷ [])
+void-other text c other isnt more =
+    let keeps = keeps-mark text c more other in
+    and_right _ _ (
+    ap (λ cs. list_all is_plain (without_mark cs)) (append_assoc text (c ∷ []) more)
+    ∙ ap (list_all is_plain) keeps.others ∙ list_all-append is_plain (without_mark text) (c ∷ more)
+    ∙ and_right _ _ (and_left _ _ isnt))
+
+-- ---- a whole sequence
+
+pub control-is : (s : Sequence) (text : List ℕ) (last : ℕ) → Holds s text → sequence text [] last ≡ csi_of s last ∷ []
+control-is s text last h =
+    let t = without_mark text in
+    let part = last-part t in
+    let some = last-place t part in
+    let effect : has_effect text ≡ true = and_from _ _ (le-leb _ _ h.few) h.plain in
+    let counted : min 16 (length (parts t)) ≡ min 16 (s.place + 1) = omega (arith, h.place, some) in
+    cond-true _ _ _ effect
+    ∙ ap (λ b. Csi b (params_of t) last ∷ []) h.mark
+    ∙ ap (λ vs. Csi s.private (record { values = vs; count = min 16 (length (parts t)) }) last ∷ []) h.values
+    ∙ ap (λ n. Csi s.private (record { values = s.values; count = n }) last ∷ []) counted

@@ -1,0 +1,7 @@
+-- In reading order: the bytes held back, the parameters so far, the states, and what a parser has read.
+pub mod Waiting
+pub mod Held
+pub mod Sequence
+pub mod State
+pub mod Past
+pub mod Parser

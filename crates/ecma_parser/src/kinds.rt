@@ -1,0 +1,68 @@
+//! The kinds of characters in control functions (ECMA-48, sections 5.2 to 5.6).
+ghost use Rattle.std.specs.Prelude.{◌≡◌, [], IfSome};
+ghost use Rattle.std.specs.List.{cons_option};
+ghost use Rattle.gate_model.specs.Controls as model;
+
+use gate_model::Control;
+
+const BEL: char = '\x07';
+
+const CAN: char = '\x18';
+
+const SUB: char = '\x1A';
+
+/// What a character outside a sequence gives; DEL and the C1 set have no effect. ESC isn't one.
+pub fn control_of(c: char) -> Option<Control>
+    ensures control { model.control_of c ≡ cons_option result [] }
+    ensures few { IfSome result model.HasFewParameters }
+{
+    if c < ' ' {
+        Some(Control::Code(c as u8))
+    } else if matches!(c, '\x7F'..='\u{9F}') {
+        None
+    } else {
+        Some(Control::Print(c))
+    }
+}
+
+/// The character may stand among the parameters of a control sequence.
+pub fn is_parameter(c: char) -> bool
+    ensures { result ≡ model.is_parameter c }
+{
+    matches!(c, '0'..='?')
+}
+
+/// The character is an intermediate one, in an escape or control sequence.
+pub fn is_intermediate(c: char) -> bool
+    ensures { result ≡ model.is_intermediate c }
+{
+    matches!(c, ' '..='/')
+}
+
+/// The character ends a control sequence.
+pub fn is_csi_final(c: char) -> bool
+    ensures { result ≡ model.is_csi_final c }
+{
+    matches!(c, '@'..='~')
+}
+
+/// The character ends an escape sequence.
+pub fn is_escape_final(c: char) -> bool
+    ensures { result ≡ model.is_escape_final c }
+{
+    matches!(c, '0'..='~')
+}
+
+/// After ESC the character begins a string that BEL doesn't end: DCS, SOS, PM or APC.
+pub fn begins_string(c: char) -> bool
+    ensures { result ≡ model.begins_string c }
+{
+    matches!(c, 'P' | 'X' | '^' | '_')
+}
+
+/// The character ends a string.
+pub fn ends_string(c: char, by_bell: bool) -> bool
+    ensures { result ≡ model.ends_string by_bell c }
+{
+    c == CAN || c == SUB || (by_bell && c == BEL)
+}

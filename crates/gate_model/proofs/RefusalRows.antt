@@ -1,0 +1,89 @@
+-- Worked refusals: a session of at most three entries with its owner.
+use Rattle.std.proofs.Common.{◌≡◌, ℕ, List, [], ◌∷◌, refl}
+use Rattle.std.specs.Prelude.{Option, Some, None, Ok, Err}
+use Rattle.gate_model.specs.declared.act.Act.TheVariants.{Sync as act_sync}
+use Rattle.gate_model.specs.declared.cause.Cause.TheVariants.{Stopped}
+use Rattle.gate_model.specs.declared.how.How.TheVariants.{Suffix}
+use Rattle.gate_model.specs.declared.sharing.Role.TheVariants.{Control}
+use Rattle.gate_model.specs.declared.sharing.Share.TheVariants.{Nobody}
+use Rattle.gate_model.specs.declared.instr.Instr.TheVariants.{Sync}
+use Rattle.gate_model.specs.declared.entry.Entry.TheVariants.{Start, Feed, Join, Read, Close}
+use Rattle.gate_model.specs.declared.feed_refusal.FeedRefusal.TheVariants.{Closed as feed_closed, Worn as feed_worn, Unbuilt}
+use Rattle.gate_model.specs.declared.join_refusal.JoinRefusal.TheVariants.{Closed as join_closed, Worn as join_worn}
+use Rattle.gate_model.specs.declared.read_answer.ReadAnswer.TheVariants.{Empty}
+use Rattle.gate_model.specs.declared.read_refusal.ReadRefusal.TheVariants.{NoViewer as read_no_viewer, Worn as read_worn}
+use Rattle.gate_model.specs.declared.write_refusal.WriteRefusal.TheVariants.{NoViewer as write_no_viewer, Closed as write_closed, Worn as write_worn}
+use Rattle.gate_model.specs.History.{History}
+use Rattle.gate_model.specs.Refusals.{feed_refusal, join_refusal, read_stop, write_refusal}
+use Rattle.gate_model.specs.Calls.{lacked}
+
+abbrev opened : History
+opened = Start 2 1 Nobody [] 3 1 (Sync 1 ∷ []) ∷ []
+
+abbrev with_owner : History
+with_owner = Join 1 Control (Sync 1 ∷ []) ∷ opened
+
+abbrev full : History
+full = Feed (65 ∷ []) 2 (Sync 2 ∷ []) ∷ with_owner
+
+abbrev shut : History
+shut = Close Stopped ∷ full
+
+-- a byte without a meaning is told by its place; a full session tells its entries first, a closed one its cause
+a_byte : feed_refusal with_owner (65 ∷ 10 ∷ []) ≡ None
+a_byte = refl
+
+unbuilt_byte : feed_refusal with_owner (65 ∷ 7 ∷ []) ≡ Some (Unbuilt 1)
+unbuilt_byte = refl
+
+worn_before_unbuilt : feed_refusal full (65 ∷ 7 ∷ []) ≡ Some (feed_worn 3)
+worn_before_unbuilt = refl
+
+closed_before_worn : feed_refusal shut (65 ∷ []) ≡ Some (feed_closed Stopped)
+closed_before_worn = refl
+
+-- join
+joins_opened : join_refusal opened ≡ None
+joins_opened = refl
+
+joins_full : join_refusal full ≡ Some (join_worn 3)
+joins_full = refl
+
+joins_shut : join_refusal shut ≡ Some (join_closed Stopped)
+joins_shut = refl
+
+-- read: nobody; the owner with every frame; the owner that lacks one
+reads_nobody : read_stop full 2 ≡ Some (Err read_no_viewer)
+reads_nobody = refl
+
+reads_zero : read_stop full 0 ≡ Some (Err read_no_viewer)
+reads_zero = refl
+
+reads_at_once : read_stop with_owner 1 ≡ Some (Ok Empty)
+reads_at_once = refl
+
+reads_full : read_stop full 1 ≡ Some (Err (read_worn 3))
+reads_full = refl
+
+lacks_none : lacked with_owner 1 ≡ 0
+lacks_none = refl
+
+lacks_one : lacked full 1 ≡ 1
+lacks_one = refl
+
+-- a full session that has nothing more to give is Empty and not worn
+had_all : read_stop (Read 1 Suffix ∷ full) 1 ≡ Some (Ok Empty)
+had_all = refl
+
+-- write
+writes_owner : write_refusal with_owner 1 ≡ None
+writes_owner = refl
+
+writes_nobody : write_refusal shut 2 ≡ Some write_no_viewer
+writes_nobody = refl
+
+writes_full : write_refusal full 1 ≡ Some (write_worn 3)
+writes_full = refl
+
+writes_shut : write_refusal shut 1 ≡ Some (write_closed Stopped)
+writes_shut = refl
