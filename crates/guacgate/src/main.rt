@@ -5,6 +5,8 @@
 //! here is only the friendly edge: the words of the command line, `--help` and `--version`.
 #![tactic(auto)]
 
+ghost use Rattle.std.specs.Prelude.{◌≡◌, ◌≢◌, length, None, OnOk, OnErr};
+
 use gate_outside::{Failed, StdSink, StdSource, write_all};
 use gate_script::command;
 use std::env;
@@ -48,7 +50,9 @@ fn words(rt: &HostRuntime) -> Result<Vec<String>, u8> {
 }
 
 // The text that was asked for, where one of these words is the only one.
-fn asked(words: &[String]) -> Option<&'static str> {
+fn asked(words: &[String]) -> Option<&'static str>
+    ensures alone { length words.now ≢ 1 → result ≡ None }
+{
     let [word] = words else {
         return None;
     };
@@ -60,7 +64,10 @@ fn asked(words: &[String]) -> Option<&'static str> {
 }
 
 // The status after the text that was asked for.
-fn told(written: Result<(), Failed>) -> u8 {
+fn told(written: Result<(), Failed>) -> u8
+    ensures done { OnOk written (result ≡ 0) }
+    ensures fault { OnErr written (result ≡ 5) }
+{
     match written {
         Ok(()) => 0,
         Err(Failed) => 5,
