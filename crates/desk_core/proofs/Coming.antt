@@ -1,0 +1,174 @@
+-- How far the frames go, and how far each viewer has come, after each entry.
+use Rattle.std.proofs.Common.{◌≡◌, ◌≢◌, ℕ, ◌+◌, ◌-◌, ◌<◌, ◌≤◌, List, [], ◌∷◌, ◌++◌, length, Bool, true, false, ◌⊎◌, inl, inr, take, drop, set, get_or, reverse, refl, ap, sym, ◌∙◌, subst, append-nil, append_assoc, length-append, length-drop, arith}
+use Rattle.std.specs.Prelude.{if◌then◌else◌, ◌==◌, flat_map}
+use Rattle.std.proofs.lemmas.Grind.{flat_map-append}
+use Rattle.std.proofs.lemmas.Bool.{eq-eqb}
+use Rattle.std.proofs.lemmas.Bool.Decides.{eqb_tells}
+use Rattle.std.proofs.lemmas.List.{reverse-append, take_all, get_or_append_left, get_or-set_same, get_or-set_other, length-set}
+use Rattle.std.proofs.Math.Seq.{drop-append_seam, get_or-append_seam}
+use Rattle.gate_model.specs.declared.act.Act.{Act}
+use Rattle.gate_model.specs.declared.how.How.{How}
+use Rattle.gate_model.specs.declared.how.How.TheVariants.{Suffix}
+use Rattle.gate_model.specs.declared.sharing.Role.{Role}
+use Rattle.gate_model.specs.declared.instr.Instr.{Instr}
+use Rattle.gate_model.specs.declared.entry.Entry.{Entry}
+use Rattle.gate_model.specs.declared.entry.Entry.TheVariants.{Start, Feed, Join, Read, Write, Take, Leave, Close}
+use Rattle.gate_model.specs.Text.{text, texts}
+use Rattle.gate_model.specs.Entries.{framed}
+use Rattle.gate_model.specs.History.{History, frames, frames_after, instructions, all_frames, newest, joined}
+use Rattle.gate_model.specs.Delivered.{last_sync, closing, delivered, position, given, handed}
+use Rattle.gate_model.proofs.Facts.{Facts}
+use Rattle.gate_model.proofs.Histories.{frames_after-feed, all_frames-feed}
+use Rattle.desk_core.specs.declared.progress.Progress.{Progress}
+use Rattle.desk_core.specs.Desk.{HasCome}
+use Rattle.desk_core.specs.Stored.{frame_of}
+
+-- how far each of the viewers has come
+abbrev pub AllCome : History → List Progress → Type 0
+AllCome h ps = (i : ℕ) (p : Progress) → i < length ps → HasCome h (delivered h (i + 1)) (get_or ps i p)
+
+-- the text of two lists
+pub texts-append : (xs ys : List Instr) → texts (xs ++ ys) ≡ texts xs ++ texts ys
+texts-append xs ys = flat_map-append text xs ys
+
+-- the rest of some bytes from a place on, as a slice is seen
+pub rest_of : (at : ℕ) (bytes : List ℕ) → take (length bytes - at) (drop at bytes) ≡ drop at bytes
+rest_of at bytes = take_all (length bytes - at) (drop at bytes) (omega (arith, length-drop at bytes))
+
+-- the same frames, and the same that was given
+pub come-same : (h g : History) (before now : List Instr) (p : Progress) → frames g ≡ frames h → now ≡ before → HasCome h before p → HasCome g now p
+come-same h g before now p same is c = subst (λ (xs : List Instr). HasCome g xs p) (sym is) record { stamp = c.stamp; frames = rw same c.frames; bytes = c.bytes }
+
+-- a frame more that wasn't given
+come-feed : (h : History) (bs : List ℕ) (t : ℕ) (frame before now : List Instr) (p : Progress) → last_sync before < t → now ≡ before → HasCome h before p → HasCome (Feed bs t frame ∷ h) now p
+come-feed h bs t frame before now p lt is c = subst (λ (xs : List Instr). HasCome (Feed bs t frame ∷ h) xs p) (sym is) record {
+  stamp = c.stamp;
+  frames = omega (arith, c.frames, ap length (frames_after-feed h (last_sync before) t frame lt), length-append (frames_after (last_sync before) (frames h)) ((t, frame) ∷ []), length-append (frames h) ((t, frame) ∷ []));
+  bytes = c.bytes;
+}
+
+-- everything was given
+pub come-all : (h : History) (p : Progress) → Facts h → p.stamp ≡ newest h → p.frames ≡ length (frames h) → p.bytes ≡ length (texts (all_frames h)) → HasCome h (all_frames h) p
+come-all h p f stamp count bytes = record {
+  stamp = stamp ∙ sym f.last;
+  frames = omega (arith, count, ap length (f.none_after (last_sync (all_frames h)) (omega (arith, f.last))));
+  bytes = bytes;
+}
+
+pub record IsAll (h : History) (p : Progress) : Type 0 where
+  pub stamp : p.stamp ≡ newest h
+  pub frames : p.frames ≡ length (frames h)
+  pub bytes : p.bytes ≡ length (texts (all_frames h))
+
+pub all-come : (h : History) (p : Progress) → Facts h → HasCome h (all_frames h) p → IsAll h p
+all-come h p f c = record {
+  stamp = c.stamp ∙ f.last;
+  frames = omega (arith, c.frames, ap length (f.none_after (last_sync (all_frames h)) (omega (arith, f.last))));
+  bytes = c.bytes;
+}
+
+-- a Feed: the frames go one further, and nobody has come further
+pub viewers-feed : (h : History) (bs : List ℕ) (t : ℕ) (frame : List Instr) (ps : List Progress) → Facts h → newest h < t → AllCome h ps → AllCome (Feed bs t frame ∷ h) ps
+viewers-feed h bs t frame ps f lt all i p small =
+    come-feed h bs t frame (delivered h (i + 1)) (delivered (Feed bs t frame ∷ h) (i + 1)) (get_or ps i p) (omega (arith, f.within (i + 1), lt)) (append-nil (delivered h (i + 1))) (all i p small)
+
+-- a Join: the new viewer has come as far as the frames go
+pub viewers-join : (h : History) (role : Role) (ps : List Progress) (latest : Progress) → Facts h → length ps ≡ joined h → HasCome h (all_frames h) latest → AllCome h ps
+    → AllCome (Join (joined h + 1) role (all_frames h) ∷ h) (ps ++ latest ∷ [])
+viewers-join h role ps latest f count last all i p small = cases (eqb_tells (joined h + 1) (i + 1))
+  where
+    e : Entry
+    e = Join (joined h + 1) role (all_frames h)
+
+    same : frames (Join (joined h + 1) role (all_frames h) ∷ h) ≡ frames h
+    same = append-nil (frames h)
+
+    cases : (((joined h + 1 == i + 1) ≡ true) × (joined h + 1 ≡ i + 1)) ⊎ (((joined h + 1 == i + 1) ≡ false) × (joined h + 1 ≡ i + 1 → ⊥))
+        → HasCome (Join (joined h + 1) role (all_frames h) ∷ h) (delivered (Join (joined h + 1) role (all_frames h) ∷ h) (i + 1)) (get_or (ps ++ latest ∷ []) i p)
+    cases (inl q) =
+        let is : i ≡ length ps = omega (arith, q.1, count) in
+        let has : get_or (ps ++ latest ∷ []) i p ≡ latest = ap (λ (n : ℕ). get_or (ps ++ latest ∷ []) n p) is ∙ get_or-append_seam ps latest [] p in
+        let gives : (if joined h + 1 == i + 1 then all_frames h else []) ≡ all_frames h = rw q.0 refl in
+        let every : delivered h (i + 1) ++ (if joined h + 1 == i + 1 then all_frames h else []) ≡ all_frames h =
+        ap (λ (xs : List Instr). delivered h (i + 1) ++ xs) gives ∙ ap (λ (xs : List Instr). xs ++ all_frames h) (f.not_joined (i + 1) (omega (arith, q.1))) in
+        subst (λ (r : Progress). HasCome (Join (joined h + 1) role (all_frames h) ∷ h) (delivered (Join (joined h + 1) role (all_frames h) ∷ h) (i + 1)) r) (sym has)
+        (come-same h (Join (joined h + 1) role (all_frames h) ∷ h) (all_frames h) (delivered (Join (joined h + 1) role (all_frames h) ∷ h) (i + 1)) latest same every last)
+    cases (inr q) =
+        let lt : i < length ps = omega (arith, small, length-append ps (latest ∷ []), q.1, count) in
+        let has : get_or (ps ++ latest ∷ []) i p ≡ get_or ps i p = get_or_append_left ps (latest ∷ []) p i lt in
+        let gives : (if joined h + 1 == i + 1 then all_frames h else []) ≡ [] = rw q.0 refl in
+        let none : delivered h (i + 1) ++ (if joined h + 1 == i + 1 then all_frames h else []) ≡ delivered h (i + 1) =
+        ap (λ (xs : List Instr). delivered h (i + 1) ++ xs) gives ∙ append-nil (delivered h (i + 1)) in
+        subst (λ (r : Progress). HasCome (Join (joined h + 1) role (all_frames h) ∷ h) (delivered (Join (joined h + 1) role (all_frames h) ∷ h) (i + 1)) r) (sym has)
+        (come-same h (Join (joined h + 1) role (all_frames h) ∷ h) (delivered h (i + 1)) (delivered (Join (joined h + 1) role (all_frames h) ∷ h) (i + 1)) (get_or ps i p) same none (all i p lt))
+
+-- what a read gives is all that the viewer lacks
+pub lacked-all : (h : History) (v : ℕ) → Facts h → handed h (position h v) Suffix ++ closing h ≡ instructions (frames_after (position h v) (frames h))
+lacked-all h v f = ap (λ (xs : List Instr). instructions (frames_after (position h v) (frames h)) ++ xs) f.not_closing ∙ append-nil (instructions (frames_after (position h v) (frames h)))
+
+-- a Read: the viewer has come as far as the frames go
+pub viewers-read : (h : History) (place : ℕ) (ps : List Progress) (latest : Progress) → Facts h → place < length ps → HasCome h (all_frames h) latest → AllCome h ps
+    → AllCome (Read (place + 1) Suffix ∷ h) (set ps place latest)
+viewers-read h place ps latest f there last all i p small = cases (eqb_tells (place + 1) (i + 1))
+  where
+    same : frames (Read (place + 1) Suffix ∷ h) ≡ frames h
+    same = append-nil (frames h)
+
+    cases : (((place + 1 == i + 1) ≡ true) × (place + 1 ≡ i + 1)) ⊎ (((place + 1 == i + 1) ≡ false) × (place + 1 ≡ i + 1 → ⊥))
+        → HasCome (Read (place + 1) Suffix ∷ h) (delivered (Read (place + 1) Suffix ∷ h) (i + 1)) (get_or (set ps place latest) i p)
+    cases (inl q) =
+        let is : i ≡ place = omega (arith, q.1) in
+        let has : get_or (set ps place latest) i p ≡ latest = ap (λ (n : ℕ). get_or (set ps place latest) n p) is ∙ get_or-set_same ps place latest p there in
+        let part : List Instr = handed h (position h (i + 1)) Suffix ++ closing h in
+        let gives : (if place + 1 == i + 1 then part else []) ≡ instructions (frames_after (position h (i + 1)) (frames h)) = rw q.0 (lacked-all h (i + 1) f) in
+        let every : delivered h (i + 1) ++ (if place + 1 == i + 1 then part else []) ≡ all_frames h =
+        ap (λ (xs : List Instr). delivered h (i + 1) ++ xs) gives ∙ sym (f.behind (i + 1)) in
+        subst (λ (r : Progress). HasCome (Read (place + 1) Suffix ∷ h) (delivered (Read (place + 1) Suffix ∷ h) (i + 1)) r) (sym has)
+        (come-same h (Read (place + 1) Suffix ∷ h) (all_frames h) (delivered (Read (place + 1) Suffix ∷ h) (i + 1)) latest same every last)
+    cases (inr q) =
+        let other : i ≢ place = λ is. q.1 (omega (arith, is)) in
+        let has : get_or (set ps place latest) i p ≡ get_or ps i p = get_or-set_other ps place i latest p other in
+        let part : List Instr = handed h (position h (i + 1)) Suffix ++ closing h in
+        let gives : (if place + 1 == i + 1 then part else []) ≡ [] = rw q.0 refl in
+        let none : delivered h (i + 1) ++ (if place + 1 == i + 1 then part else []) ≡ delivered h (i + 1) =
+        ap (λ (xs : List Instr). delivered h (i + 1) ++ xs) gives ∙ append-nil (delivered h (i + 1)) in
+        subst (λ (r : Progress). HasCome (Read (place + 1) Suffix ∷ h) (delivered (Read (place + 1) Suffix ∷ h) (i + 1)) r) (sym has)
+        (come-same h (Read (place + 1) Suffix ∷ h) (delivered h (i + 1)) (delivered (Read (place + 1) Suffix ∷ h) (i + 1)) (get_or ps i p) same none (all i p (omega (arith, small, length-set ps place latest))))
+
+-- a Write: nobody has come further
+pub viewers-write : (h : History) (viewer : ℕ) (acts : List Act) (ps : List Progress) → AllCome h ps → AllCome (Write viewer acts ∷ h) ps
+viewers-write h viewer acts ps all i p small =
+    come-same h (Write viewer acts ∷ h) (delivered h (i + 1)) (delivered (Write viewer acts ∷ h) (i + 1)) (get_or ps i p) (append-nil (frames h)) (append-nil (delivered h (i + 1))) (all i p small)
+
+-- the text past what a viewer was given is the text of what it lacks
+pub text_past : (h : History) (v : ℕ) → Facts h → drop (length (texts (delivered h v))) (texts (all_frames h)) ≡ texts (instructions (frames_after (position h v) (frames h)))
+text_past h v f =
+    let rest : List Instr = instructions (frames_after (position h v) (frames h)) in
+    ap (λ (xs : List ℕ). drop (length (texts (delivered h v))) xs) (ap texts (f.behind v) ∙ texts-append (delivered h v) rest) ∙ drop-append_seam (texts (delivered h v)) (texts rest)
+
+-- .. and isn't past the end
+pub text_within : (h : History) (v : ℕ) → Facts h → length (texts (delivered h v)) ≤ length (texts (all_frames h))
+text_within h v f =
+    let rest : List Instr = instructions (frames_after (position h v) (frames h)) in
+    omega (arith, ap length (ap texts (f.behind v) ∙ texts-append (delivered h v) rest), length-append (texts (delivered h v)) (texts rest))
+
+-- the stored list, with one entry more
+pub reverse_more : (e : Entry) (h : History) → reverse (e ∷ h) ≡ reverse h ++ e ∷ []
+reverse_more e h = reverse-append (e ∷ []) h
+
+-- the frames of the stored entries are all frames
+pub stored_frames : (h : History) → flat_map frame_of (reverse h) ≡ all_frames h
+stored_frames [] = refl
+stored_frames (e ∷ g) =
+    ap (λ (es : List Entry). flat_map frame_of es) (reverse_more e g) ∙ (flat_map-append frame_of (reverse g) (e ∷ []) ∙ (ap (λ (xs : List Instr). xs ++ (frame_of e ++ [])) (stored_frames g)
+    ∙ (ap (λ (xs : List Instr). all_frames g ++ xs) (one e) ∙ sym (flat_map-append (λ (p : ℕ × List Instr). p.1) (frames g) (framed e)))))
+  where
+    one : (e : Entry) → frame_of e ++ [] ≡ instructions (framed e)
+    one (Start cols rows mode term entries stamp frame) = refl
+    one (Feed bytes stamp frame) = refl
+    one (Join viewer role first) = refl
+    one (Read viewer how) = refl
+    one (Write viewer acts) = refl
+    one (Take count) = refl
+    one (Leave viewer) = refl
+    one (Close cause) = refl

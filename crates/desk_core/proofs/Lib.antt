@@ -1,0 +1,6 @@
+pub mod Results
+pub mod Showing
+pub mod Coming
+pub mod Standing
+pub mod Calling
+pub mod Refusing

@@ -1,0 +1,12 @@
+use Rattle.std.proofs.Common.{◌≡◌, ◌∙◌, ap, sym, subst}
+use Rattle.gate_model.proofs.Truth.{facts_of}
+use Rattle.desk_core.specs.Desk.{DeskState, Stands}
+use Rattle.desk_core.proofs.Coming.{all-come}
+use Rattle.desk_core.proofs.desk.Desk.stamp.Goals as goal
+
+pub returns : goal.returns
+returns c = λ h stood.
+    let i = c.self.inside in
+    let d : DeskState = record { capacity = i.capacity; stored = i.stored.items; entries = i.entries; screen = i.screen; text = i.text.items; last = i.last; latest = i.latest; viewers = i.viewers.items } in
+    let s : Stands d h = subst (λ (k : DeskState). Stands k h) (sym c.self.view_is) stood in
+    (all-come h i.latest (facts_of h s.legal) s.latest).stamp

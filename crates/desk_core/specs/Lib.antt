@@ -1,0 +1,6 @@
+-- In reading order: what a desk keeps and stands for, how its calls end, the law about it.
+pub mod Desk
+pub mod Calls
+pub mod Stored
+pub mod Places
+pub mod Laws

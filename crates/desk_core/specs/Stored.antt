@@ -1,0 +1,11 @@
+-- What a stored entry draws (this project's own).
+use Rattle.std.specs.Prelude.{List, []}
+use Rattle.gate_model.specs.declared.entry.Entry.{Entry}
+use Rattle.gate_model.specs.declared.entry.Entry.TheVariants.{Start, Feed}
+use Rattle.gate_model.specs.declared.instr.Instr.{Instr}
+
+-- the frame of a Start or a Feed; any other entry has none
+abbrev pub frame_of : Entry → List Instr
+frame_of (Start cols rows mode term entries stamp frame) = frame
+frame_of (Feed bytes stamp frame) = frame
+frame_of e = []

@@ -1,0 +1,67 @@
+//! The opening of a session.
+
+ghost use Rattle.std.specs.Prelude.{◌≡◌, [], IfOk};
+
+use crate::desk::Desk;
+use crate::drawing::next_stamp;
+use crate::progress::Progress;
+use crate::storing::store;
+use frame_draw::opening;
+use gate_model::{Entry, NoMemory, Setup};
+use guac_framing::texts_of;
+use std::alloc::Global;
+use vt_screen::Screen;
+
+impl Desk {
+    ghost use Rattle.gate_model.specs.Calls.{IsSetup};
+    ghost use Rattle.desk_core.specs.Calls.{Opened};
+
+    /// Opens a session of 1 to 512 columns, 1 to 256 rows, a terminal type of 1 to 40 characters U+0021
+    /// to U+007E and at most 1 to 2^40 entries, and draws its first frame at the moment `now` (this
+    /// project's own rule).
+    pub fn start(alloc: Global, setup: Setup, now: u64) -> Result<Desk, NoMemory>
+        requires { IsSetup setup }
+        ensures opened { IfOk result (Opened setup now) }
+        ensures nobody { IfOk result (λ d. d.viewers ≡ []) }
+    {
+        let Setup {
+            cols,
+            rows,
+            mode,
+            term,
+            entries,
+        } = setup;
+        let stamp = next_stamp(0, now);
+        let screen = Screen::new(alloc, cols, rows)?;
+        let shown = screen.shown(alloc)?;
+        let frame = opening(alloc, &shown, stamp)?;
+        let mut text = Vec::new(alloc);
+        texts_of(frame.as_slice(), &mut text)?;
+        let bytes = text.len();
+        let mut stored = Vec::new(alloc);
+        let first = Entry::Start {
+            cols,
+            rows,
+            mode,
+            term,
+            entries,
+            stamp,
+            frame,
+        };
+        store(&mut stored, first)?;
+        Ok(Desk {
+            capacity: entries,
+            stored,
+            entries: 1,
+            screen,
+            text,
+            last: 0,
+            latest: Progress {
+                stamp,
+                frames: 1,
+                bytes,
+            },
+            viewers: Vec::new(alloc),
+        })
+    }
+}

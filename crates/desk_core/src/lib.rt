@@ -1,0 +1,24 @@
+//! The desk: one session's screen, its frames and its viewers, and the one place where the session's
+//! entries are added.
+//!
+//! Contracts see a desk as what it keeps (`DeskState`), and `Stands` says for which histories it may
+//! stand (`specs/Desk.antt`). Each call answers by the rule of its call in gate_model
+//! (`specs/Calls.antt` there) for every history for which the desk stood, and leaves a desk that
+//! stands for that history with the entry that the call added. A call that is refused leaves the desk
+//! and the buffer as they were. Every entry is stored.
+#![tactic(auto)]
+
+mod desk;
+mod drawing;
+pub mod laws;
+mod places;
+mod progress;
+mod storing;
+#[cfg(test)]
+mod tests;
+
+pub use desk::Desk;
+pub use gate_model::{
+    Answer, Closed, Event, FeedRefusal, Forbidden, JoinRefusal, Joined, NoMemory, NoViewer,
+    ReadAnswer, ReadRefusal, Setup, WriteRefusal, Written,
+};

@@ -1,0 +1,115 @@
+ghost use Rattle.std.specs.Prelude.{◌≡◌, ◌≤◌, ◌^◌, [], IfOk};
+ghost use Rattle.gate_model.specs.Steps.{IsScreenSize};
+
+use crate::{
+    Desk, FeedRefusal, JoinRefusal, Joined, NoMemory, ReadAnswer, ReadRefusal, Setup, WriteRefusal,
+    Written,
+};
+use gate_model::{Act, Asked, Role, Share, Text};
+use std::alloc::Global;
+use std::test::Fail;
+
+/// A desk of a session that nobody shares, with the terminal type `linux`.
+fn opened(alloc: Global, cols: u16, rows: u16, entries: u64, now: u64) -> Result<Desk, NoMemory>
+    requires size { IsScreenSize cols rows }
+    requires some { 1 ≤ entries }
+    requires few { entries ≤ 2 ^ 40 }
+    ensures { IfOk result (λ d. d.viewers ≡ []) }
+{
+    let setup = Setup {
+        cols,
+        rows,
+        mode: Share::Nobody,
+        term: Text::of(String::from_str(alloc, "linux")?),
+        entries,
+    };
+    Desk::start(alloc, setup, now)
+}
+
+/// The viewer acknowledges the stamp.
+fn acknowledge(
+    desk: &mut Desk,
+    alloc: Global,
+    viewer: u32,
+    stamp: u64,
+) -> Result<Written, WriteRefusal> {
+    desk.write(alloc, viewer, &[Act::Sync { stamp }])
+}
+
+/// Each stamp follows the clock, which counts no further than 2^53, and rises where the clock falls
+/// back. The owner is given the frames that it lacks, once.
+#[test]
+fn stamps_rise_and_each_frame_is_given_once(rt: HostRuntime) -> Result<(), Fail> {
+    let alloc = rt.alloc();
+    let clear = "4.rect,1.0,1.0,1.0,1.8,2.16;5.cfill,2.14,1.0,3.170,3.170,3.170,3.255;";
+    let mut desk = opened(alloc, 1, 1, 100, 1000)?;
+    assert_eq!(rt; desk.stamp(), 1000);
+    let mut given = Vec::new(alloc);
+    let first = format!(in alloc; "4.size,1.0,1.8,2.16;{clear}4.sync,4.1000;")?;
+    assert!(rt; desk.newest_frame() == first.as_bytes());
+    let owner = desk.join(alloc, Asked::Owner, &mut given);
+    let joined = Joined {
+        viewer: 1,
+        role: Role::Control,
+        stamp: 1000,
+    };
+    assert_eq!(rt; owner, Ok(joined));
+    assert!(rt; given.as_slice() == first.as_bytes());
+    assert_eq!(rt; desk.read(1, &mut given), Ok(ReadAnswer::Empty));
+    assert_eq!(rt; desk.feed(alloc, b"\r", 10), Ok(1001));
+    let late = 9007199254740993;
+    assert_eq!(rt; desk.feed(alloc, b"\r", late), Ok(9007199254740992));
+    assert_eq!(rt; desk.feed(alloc, b"\r", late), Ok(late));
+    assert_eq!(rt; desk.stamp(), late);
+    let newest = format!(in alloc; "{clear}4.sync,16.9007199254740993;")?;
+    assert!(rt; desk.newest_frame() == newest.as_bytes());
+    given.clear();
+    let frames = ReadAnswer::Frames {
+        count: 3,
+        stamp: late,
+        closed: false,
+    };
+    assert_eq!(rt; desk.read(1, &mut given), Ok(frames));
+    let lacked = format!(in alloc;
+        "{clear}4.sync,4.1001;{clear}4.sync,16.9007199254740992;{newest}"
+    )?;
+    assert!(rt; given.as_slice() == lacked.as_bytes());
+    assert_eq!(rt; desk.read(1, &mut given), Ok(ReadAnswer::Empty));
+    let written = Written { keys: 0, denied: 0 };
+    assert_eq!(rt; acknowledge(&mut desk, alloc, 1, late), Ok(written));
+    assert_eq!(rt; desk.entries(), 7);
+    Ok(())
+}
+
+/// A session of at most three entries refuses the fourth, and a refusal adds nothing.
+#[test]
+fn a_full_session_is_worn(rt: HostRuntime) -> Result<(), Fail> {
+    let alloc = rt.alloc();
+    let mut desk = opened(alloc, 80, 24, 3, 0)?;
+    let mut given = Vec::new(alloc);
+    let owner = desk.join(alloc, Asked::Owner, &mut given);
+    assert!(rt; owner.is_ok());
+    assert_eq!(rt;
+        desk.feed(alloc, b"A\x07", 0),
+        Err(FeedRefusal::Unbuilt { place: 1 })
+    );
+    assert_eq!(rt; desk.feed(alloc, b"A", 0), Ok(2));
+    assert_eq!(rt;
+        desk.feed(alloc, b"B", 0),
+        Err(FeedRefusal::Worn { entries: 3 })
+    );
+    given.clear();
+    let worn = ReadRefusal::Worn { entries: 3 };
+    assert_eq!(rt; desk.read(1, &mut given), Err(worn));
+    assert_eq!(rt; desk.read(2, &mut given), Err(ReadRefusal::NoViewer));
+    assert!(rt; given.is_empty());
+    let worn = JoinRefusal::Worn { entries: 3 };
+    assert_eq!(rt; desk.join(alloc, Asked::Owner, &mut given), Err(worn));
+    let worn = WriteRefusal::Worn { entries: 3 };
+    assert_eq!(rt; acknowledge(&mut desk, alloc, 1, 1), Err(worn));
+    let nobody = WriteRefusal::NoViewer;
+    assert_eq!(rt; acknowledge(&mut desk, alloc, 0, 1), Err(nobody));
+    assert_eq!(rt; desk.stamp(), 2);
+    assert_eq!(rt; desk.entries(), 3);
+    Ok(())
+}
