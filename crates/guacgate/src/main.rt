@@ -10,6 +10,7 @@ ghost use Rattle.std.specs.Prelude.{◌≡◌, ◌≢◌, length, None, OnOk, On
 use gate_outside::{Failed, StdSink, StdSource, write_all};
 use gate_script::command;
 use std::env;
+use std::io::ErrorKind;
 use std::process::ExitCode;
 
 const VERSION: &str = "guacgate 0.1.0\n";
@@ -41,12 +42,18 @@ fn main(rt: HostRuntime) -> ExitCode {
     ExitCode::from(status)
 }
 
-// The words after the program's name. Words that aren't text are faulty words.
+// The words after the program's name.
 fn words(rt: &HostRuntime) -> Result<Vec<String>, u8> {
-    let Ok(words) = env::args(rt) else {
-        return Err(2);
-    };
+    let words = env::args(rt).map_err(|error| unread(error.kind()))?;
     words.skip(1).collect(rt.alloc()).map_err(|_| 6)
+}
+
+// The status where the words couldn't be had. Words that aren't text are faulty words.
+fn unread(kind: ErrorKind) -> u8 {
+    match kind {
+        ErrorKind::OutOfMemory => 6,
+        _ => 2,
+    }
 }
 
 // The text that was asked for, where one of these words is the only one.
