@@ -1,19 +1,15 @@
 -- What holds of every legal history: it is open, its numbers have bounds, and its viewers are those
 -- that joined.
-use Rattle.std.proofs.Common.{◌≡◌, ◌≢◌, ℕ, ◌+◌, ◌<◌, ◌≤◌, max, min, List, [], ◌∷◌, length, Bool, true, false, not, ◌&&◌, ◌||◌, refl, ap, sym, ◌∙◌, subst, length-append, arith}
-use Rattle.std.specs.Prelude.{Option, Some, None, nat_le, ◌==◌}
+use Rattle.std.proofs.Common.{◌≡◌, ℕ, ◌+◌, ◌≤◌, [], ◌∷◌, length, Bool, true, false, not, ◌&&◌, ◌||◌, refl, length-append, arith}
+use Rattle.std.specs.Prelude.{None, nat_le, ◌==◌}
 use Rattle.std.proofs.lemmas.Bool.{leb-false}
 use Rattle.std.proofs.lemmas.Bool.Decides.{nat_tests}
-use Rattle.gate_model.specs.declared.act.Act.{Act}
-use Rattle.gate_model.specs.declared.how.How.{How}
-use Rattle.gate_model.specs.declared.sharing.Role.{Role}
-use Rattle.gate_model.specs.declared.instr.Instr.{Instr}
 use Rattle.gate_model.specs.declared.entry.Entry.{Entry}
 use Rattle.gate_model.specs.declared.entry.Entry.TheVariants.{Start, Feed, Join, Read, Write, Take, Leave, Close}
 use Rattle.gate_model.specs.Limits.{most_entries, most_clock}
 use Rattle.gate_model.specs.History.{History, capacity, newest, frames, joined}
 use Rattle.gate_model.specs.Rights.{is_live}
-use Rattle.gate_model.specs.Steps.{Starts, Feeds, Joins, Reads, Writes, IsOpen, IsFirst, IsNext, Legal}
+use Rattle.gate_model.specs.Steps.{IsFirst, IsNext, Legal}
 use Rattle.gate_model.specs.Refusals.{close_cause}
 
 pub record Bounds (h : History) : Type 0 where

@@ -1,5 +1,5 @@
 -- A head of control functions takes something, and finds the same whatever follows.
-use Rattle.std.proofs.Common.{◌≡◌, ℕ, zero, suc, ◌≤◌, ◌<◌, List, [], ◌∷◌, ◌++◌, length, Bool, true, false, cond, Some, None, refl, ap, ◌∙◌, arith}
+use Rattle.std.proofs.Common.{◌≡◌, ℕ, zero, suc, ◌≤◌, ◌<◌, List, [], ◌∷◌, ◌++◌, length, Bool, true, false, cond, Some, refl, ap, ◌∙◌, arith}
 use Rattle.std.proofs.lemmas.Bool.{false≢true}
 use Rattle.std.proofs.lemmas.List.Sums.{take_while-cons}
 use Rattle.std.specs.Prelude.{◌==◌, is_some}
@@ -7,17 +7,7 @@ use Rattle.std.specs.List.{take_while}
 use Rattle.gate_model.specs.declared.control.Control.{Control}
 use Rattle.gate_model.specs.Controls.{Found, after_while, ended_by, no_control, is_parameter, is_intermediate, is_csi_final, sequence, csi_after, ends_string, string_escape, head_string, head_palette, head_osc, is_escape_final, begins_string, escape_after, plain_escape, head_escape, head_control}
 use Rattle.gate_model.specs.Reading.{IsHead}
-
--- what was found, with more characters behind it
-abbrev carried : List ℕ → Found → Found
-carried more None = None
-carried more (Some found) = Some (found.0, found.1 ++ more)
-
--- the two ways of a test
-either : (b : Bool) (more : List ℕ) (x y u v : Found) → (is_some x ≡ true → u ≡ carried more x) → (is_some y ≡ true → v ≡ carried more y)
-    → is_some (cond b x y) ≡ true → cond b u v ≡ carried more (cond b x y)
-either true more x y u v first second e = first e
-either false more x y u v first second e = second e
+use Rattle.gate_model.proofs.Heads.{carried, either, left_of, left-either}
 
 ended_by-carried : (p : ℕ → Bool) (given : ℕ → List Control) (xs more : List ℕ) → is_some (ended_by p given xs) ≡ true
     → ended_by p given (xs ++ more) ≡ carried more (ended_by p given xs)
@@ -120,14 +110,6 @@ head_control-carried [] more e = absurd (false≢true e)
 head_control-carried (c ∷ cs) more e = either (c == 0x1B) more _ _ _ _ (head_escape-carried cs more) (λ s. refl) e
 
 -- ---- what is left
-
-abbrev left_of : Found → ℕ
-left_of None = 0
-left_of (Some found) = length found.1
-
-left-either : (b : Bool) (x y : Found) (n : ℕ) → left_of x ≤ n → left_of y ≤ n → left_of (cond b x y) ≤ n
-left-either true x y n p q = p
-left-either false x y n p q = q
 
 after_while-left : (p : ℕ → Bool) (xs : List ℕ) → length (after_while p xs) ≤ length xs
 after_while-left p [] = omega arith

@@ -1,6 +1,6 @@
 -- Each call of a desk after a history: what it is given, what it answers, and the entry that it adds
 -- (this project's own).
-use Rattle.std.specs.Prelude.{◌≡◌, ℕ, ◌+◌, ◌-◌, ◌<◌, ◌≤◌, ◌^◌, min, List, [], ◌∷◌, length, Bool, true, false, ◌&&◌, nat_le, All, count_by, Option, Some, None, Result, Ok, Err}
+use Rattle.std.specs.Prelude.{◌≡◌, ℕ, ◌-◌, ◌<◌, ◌≤◌, ◌^◌, min, List, [], ◌∷◌, length, Bool, true, false, ◌&&◌, nat_le, count_by, Some, None, Result, Ok, Err}
 use Rattle.std.specs.List.{list_all}
 use Rattle.gate_model.specs.declared.act.Act.{Act}
 use Rattle.gate_model.specs.declared.act.Act.TheVariants.{Key as key_act}
@@ -24,9 +24,9 @@ use Rattle.gate_model.specs.declared.read_answer.ReadAnswer.TheVariants.{Frames}
 use Rattle.gate_model.specs.declared.read_refusal.ReadRefusal.{ReadRefusal}
 use Rattle.gate_model.specs.declared.write_refusal.WriteRefusal.{WriteRefusal}
 use Rattle.gate_model.specs.Limits.{most_piece, most_entries, most_acts}
-use Rattle.gate_model.specs.History.{History, next_stamp, newest, frames, frames_after, joined}
+use Rattle.gate_model.specs.History.{History, next_stamp, newest, frames, frames_after, joined, is_closed}
 use Rattle.gate_model.specs.Delivered.{position}
-use Rattle.gate_model.specs.Steps.{IsScreenSize, Starts, Feeds, Joins, Reads, Writes, IsAcknowledgement}
+use Rattle.gate_model.specs.Steps.{IsScreenSize, Starts, Feeds, Joins, Reads, Writes}
 use Rattle.gate_model.specs.Refusals.{feed_refusal, join_refusal, read_stop, write_refusal}
 
 -- a terminal type is 1 to 40 characters from ! to ~
@@ -95,13 +95,14 @@ JoinStep h asked result added = IsJoin h asked × JoinOutcome h result added
 abbrev pub lacked : History → ℕ → ℕ
 lacked h viewer = length (frames_after (position h viewer) (frames h))
 
--- the Read is added, and the number of frames, at most 2^32 - 1, and the newest stamp are answered
+-- the Read is added, and the number of frames, at most 2^32 - 1, the newest stamp, and whether the
+-- session is closed are answered
 pub record ReadAdds (h : History) (viewer count stamp : ℕ) (closed : Bool) (added : List Entry) : Type 0 where
   pub allowed : read_stop h viewer ≡ None
   pub adds : added ≡ Read viewer Suffix ∷ []
   pub counts : count ≡ min (lacked h viewer) (2 ^ 32 - 1)
   pub stamp_is : stamp ≡ newest h
-  pub is_open : closed ≡ false
+  pub closes : closed ≡ is_closed h
   pub reads : Reads h viewer Suffix
 
 abbrev pub ReadStep : History → ℕ → Result ReadAnswer ReadRefusal → List Entry → Type 0
@@ -112,10 +113,9 @@ abbrev pub is_key_act : Act → Bool
 is_key_act (key_act keysym pressed) = true
 is_key_act a = false
 
--- a write has at most 4,096 acts, in this version acknowledgements alone
+-- a write has at most 4,096 acts
 pub record IsWrite (acts : List Act) : Type 0 where
   pub few : length acts ≤ most_acts
-  pub acknowledges : All IsAcknowledgement acts
 
 -- the Write is added; every viewer of this version may type, so its key acts count and none is denied
 pub record WriteAdds (h : History) (viewer : ℕ) (acts : List Act) (counts : Written) (added : List Entry) : Type 0 where

@@ -1,12 +1,18 @@
--- In reading order: numbers and lists, text, the screen, its picture, the drawing machine, histories.
+-- In reading order: numbers and lists, text, the screen, its picture, the drawing machine, keys, roles, histories.
 pub mod Limits
 pub mod Sequences
 pub mod Reading
 pub mod Text
 pub mod Spelling
+pub mod Numerals
+pub mod ClientMeaning
+pub mod HelloMeaning
+pub mod ServerMeaning
 pub mod Characters
 pub mod Parameters
 pub mod Controls
+pub mod TelnetTokens
+pub mod OptionAnswers
 pub mod KeyGrid
 pub mod Palette
 pub mod Glyphs
@@ -16,8 +22,14 @@ pub mod Layers
 pub mod Shape
 pub mod Frames
 pub mod Terminal
+pub mod Cells
 pub mod Effects
 pub mod Screens
+pub mod Keysyms
+pub mod Modifiers
+pub mod NamedKeys
+pub mod Encoding
+pub mod Roles
 pub mod Entries
 pub mod History
 pub mod Delivered
@@ -26,5 +38,9 @@ pub mod Steps
 pub mod Refusals
 pub mod Calls
 pub mod Truth
+pub mod CellLaws
 pub mod ControlLaws
+pub mod KeyLaws
+pub mod TelnetLaws
+pub mod InstrLaws
 pub mod Laws

@@ -1,7 +1,6 @@
 -- Which entry may follow which history: the rules of each call, and the legal histories.
-use Rattle.std.specs.Prelude.{◌≡◌, ℕ, ◌+◌, ◌<◌, ◌≤◌, ◌^◌, List, [], ◌∷◌, length, true, false, ◌==◌, All, None}
+use Rattle.std.specs.Prelude.{◌≡◌, ℕ, ◌+◌, ◌<◌, ◌≤◌, ◌^◌, List, [], ◌∷◌, length, true, false, ◌==◌, None}
 use Rattle.gate_model.specs.declared.act.Act.{Act}
-use Rattle.gate_model.specs.declared.act.Act.TheVariants.{Sync as act_sync}
 use Rattle.gate_model.specs.declared.how.How.{How}
 use Rattle.gate_model.specs.declared.how.How.TheVariants.{Suffix}
 use Rattle.gate_model.specs.declared.sharing.Role.{Role}
@@ -62,16 +61,11 @@ pub record Reads (g : History) (viewer : ℕ) (how : How) : Type 0 where
   pub not_full : is_full g ≡ false
   pub suffix : how ≡ Suffix
 
--- the acts that this version lets a write have
-abbrev pub IsAcknowledgement : Act → Type 0
-IsAcknowledgement a = (stamp : ℕ) × (a ≡ act_sync stamp)
-
 -- write: the acts of a viewer who is there
 pub record Writes (g : History) (viewer : ℕ) (acts : List Act) : Type 0 where
   pub live : is_live g viewer ≡ true
   pub is_open : IsOpen g
   pub few : length acts ≤ most_acts
-  pub acknowledges : All IsAcknowledgement acts
 
 -- the entry is the first
 abbrev pub IsFirst : Entry → Type 0

@@ -3,7 +3,11 @@
 ghost use Rattle.gate_model.specs.Laws.{DrawingGoesOn, ReadsAnyCutting, StepsAreLegal, TextGoesOn};
 ghost use Rattle.gate_model.specs.Spelling.{SpellingsArePrefixFree};
 
+pub mod cells;
 pub mod controls;
+pub mod instructions;
+pub mod keys;
+pub mod telnet;
 
 /// To draw one list of instructions after the other is to draw both (this project's own).
 pub fn drawing_goes_on()

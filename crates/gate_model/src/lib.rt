@@ -37,6 +37,7 @@ mod read_refusal;
 mod setup;
 mod sharing;
 mod shown;
+pub mod telnet_codes;
 mod text;
 mod token;
 mod tokens;

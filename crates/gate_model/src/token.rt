@@ -13,7 +13,8 @@ pub enum Token {
     Will(u8),
     /// WONT and its option.
     Wont(u8),
-    /// A subnegotiation of at most 1,024 bytes, the option first, with doubled 255 undone.
+    /// A subnegotiation of at most 1,024 bytes, the option first, with doubled 255 undone. It may be
+    /// empty.
     Sub(Bytes),
     /// A command of one byte, 241 to 249.
     Single(u8),

@@ -1,6 +1,4 @@
-pub mod Words
 pub mod Spelled
-pub mod KindTexts
 pub mod Leads
 pub mod Begins
 pub mod Seconds

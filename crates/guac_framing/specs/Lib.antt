@@ -1,5 +1,4 @@
 pub mod Appended
-pub mod Parts
 pub mod Begun
 pub mod Standing
 pub mod Found

@@ -24,7 +24,10 @@ pub fn put_number(into: &mut Vec<u8>, first: bool, value: i128) -> Result<(), No
     ensures appended { OnOk result (into.new.items ≡ into.old.items ++ separated first (signed_decimal value)) }
     ensures unchanged { OnErr result (into.new.items ≡ into.old.items) }
 {
-    put_integer(into, first, value)
+    match i64::try_from(value) {
+        Ok(small) => put_integer(into, first, small),
+        Err(_) => put_integer(into, first, value),
+    }
 }
 
 /// Appends the `;` that ends an instruction.
@@ -36,12 +39,8 @@ pub fn put_end(into: &mut Vec<u8>) -> Result<(), NoMemory>
     Ok(())
 }
 
-/// Appends an element whose value is the number in decimal.
-pub(crate) fn put_integer<I: Integer>(
-    into: &mut Vec<u8>,
-    first: bool,
-    value: I,
-) -> Result<(), NoMemory>
+// Appends an element whose value is the number in decimal.
+fn put_integer<I: Integer>(into: &mut Vec<u8>, first: bool, value: I) -> Result<(), NoMemory>
     ensures appended { OnOk result (into.new.items ≡ into.old.items ++ separated first (I.text value)) }
     ensures unchanged { OnErr result (into.new.items ≡ into.old.items) }
 {

@@ -1,0 +1,8 @@
+//! A law of keys.
+
+ghost use Rattle.gate_model.specs.KeyLaws.{ModifiersSendNothing};
+
+/// A key that changes what is held sends nothing, whatever is held at its press.
+pub fn modifiers_send_nothing()
+    ensures { ModifiersSendNothing }
+{}

@@ -1,0 +1,4 @@
+mod greeting;
+mod meaning;
+mod sent;
+mod writing;
