@@ -1,0 +1,2 @@
+-- What the contracts read of the options.
+pub mod Options
