@@ -1,0 +1,15 @@
+//! The cells of a screen: a rectangle of them, and the moves of whole runs that the control functions
+//! of a terminal make.
+//!
+//! Contracts see a grid as gate_model's `CellGrid`, its columns, its rows and its cells row by row, and
+//! each call leaves just the cells that its definition gives (`gate_model/specs/Cells.antt`). The grid
+//! knows of no cursor and of no control function.
+#![tactic(auto)]
+
+mod grid;
+mod runs;
+
+pub use grid::Grid;
+
+#[cfg(test)]
+mod tests;
