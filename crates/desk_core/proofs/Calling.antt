@@ -1,17 +1,15 @@
 -- What each call adds to a desk, from what the layers below it left.
-use Rattle.std.proofs.Common.{◌≡◌, ℕ, ◌+◌, ◌-◌, ◌<◌, ◌≤◌, ◌^◌, min, max, List, [], ◌∷◌, ◌++◌, length, reverse, drop, set, get_or, Bool, true, false, refl, ap, sym, ◌∙◌, subst, append-nil, length-append, arith}
-use Rattle.std.specs.Prelude.{Option, Some, None, Ok, Err, ◌==◌, if◌then◌else◌, flat_map, All, count_by}
+use Rattle.std.proofs.Common.{◌≡◌, ℕ, ◌+◌, ◌-◌, ◌<◌, ◌^◌, min, List, [], ◌∷◌, ◌++◌, length, drop, set, true, false, refl, ap, sym, ◌∙◌, subst, length-append, arith}
+use Rattle.std.specs.Prelude.{None, Ok, ◌==◌, if◌then◌else◌, flat_map, count_by}
 use Rattle.std.proofs.lemmas.Bool.{eq-eqb}
 use Rattle.std.proofs.lemmas.List.{length-set}
 use Rattle.gate_model.specs.declared.act.Act.{Act}
 use Rattle.gate_model.specs.declared.how.How.TheVariants.{Suffix}
 use Rattle.gate_model.specs.declared.instr.Instr.{Instr}
-use Rattle.gate_model.specs.declared.joined.Joined.{Joined}
 use Rattle.gate_model.specs.declared.read_answer.ReadAnswer.TheVariants.{Frames}
 use Rattle.gate_model.specs.declared.sharing.Asked.{Asked}
 use Rattle.gate_model.specs.declared.sharing.Asked.TheVariants.{Owner}
 use Rattle.gate_model.specs.declared.sharing.Role.TheVariants.{Control}
-use Rattle.gate_model.specs.declared.written.Written.{Written}
 use Rattle.gate_model.specs.declared.entry.Entry.{Entry}
 use Rattle.gate_model.specs.declared.entry.Entry.TheVariants.{Feed, Join, Read, Write}
 use Rattle.gate_model.specs.Text.{texts}
@@ -20,12 +18,12 @@ use Rattle.gate_model.specs.Frames.{Redraws}
 use Rattle.gate_model.specs.Terminal.{Terminal, opening_screen}
 use Rattle.gate_model.specs.Screens.{AreColoured, after_bytes, first_unbuilt, screen, shown}
 use Rattle.gate_model.specs.History.{History, at, bytes, columns, lines, newest, next_stamp, frames, frames_after, instructions, all_frames, joined}
-use Rattle.gate_model.specs.Delivered.{delivered, position, given, handed, closing}
-use Rattle.gate_model.specs.Steps.{IsScreenSize, IsAcknowledgement, Feeds, Joins, Reads, Writes}
-use Rattle.gate_model.specs.Calls.{IsPiece, IsJoin, IsWrite, FeedStep, JoinStep, ReadStep, WriteStep, is_key_act}
+use Rattle.gate_model.specs.Delivered.{delivered, position, handed, closing}
+use Rattle.gate_model.specs.Steps.{IsScreenSize, Feeds, Joins, Reads, Writes}
+use Rattle.gate_model.specs.Calls.{IsPiece, IsWrite, is_key_act, FeedStep, JoinStep, ReadStep, WriteStep}
 use Rattle.gate_model.proofs.Truth.{facts_of}
 use Rattle.gate_model.proofs.ScreenLaws.{after_bytes-keeps, after_bytes-append, columns-screen, rows-screen, coloured-screen}
-use Rattle.gate_model.proofs.Histories.{legal-size, plain-join, plain-read, plain-write}
+use Rattle.gate_model.proofs.Histories.{legal-open, legal-size, plain-join, plain-read, plain-write}
 use Rattle.desk_core.specs.declared.progress.Progress.{Progress}
 use Rattle.desk_core.specs.Desk.{DeskState, HasCome, Stands}
 use Rattle.desk_core.specs.Calls.{Adds, Gives}
@@ -33,7 +31,7 @@ use Rattle.desk_core.specs.Stored.{frame_of}
 use Rattle.desk_core.specs.Places.{is_there}
 use Rattle.desk_core.proofs.Coming.{AllCome, all-come, lacked-all, viewers-join, viewers-read, viewers-write, text_past, stored_frames}
 use Rattle.desk_core.proofs.Standing.{plain_desk, fed_desk}
-use Rattle.desk_core.proofs.Refusing.{IsPlace, live, is_open, not_full, is_behind, feed_is_allowed, join_is_allowed, read_is_allowed, write_is_allowed, lacks, no_keys}
+use Rattle.desk_core.proofs.Refusing.{IsPlace, live, is_open, not_full, is_behind, feed_is_allowed, join_is_allowed, read_is_allowed, write_is_allowed, lacks}
 
 -- the size of the screen after more bytes
 cols_after : (d : DeskState) (h : History) (bs : List ℕ) → Stands d h → (shown (after_bytes d.screen bs)).cols ≡ columns h
@@ -108,7 +106,7 @@ added_read d h v place count p stored viewers before after s is come differs roo
     ap (λ (n : ℕ). drop n d.text) come.bytes ∙ (ap (λ (xs : List ℕ). drop (length (texts (delivered h v))) xs) s.text ∙ text_past h v f) in
     record {
       entry = Read v Suffix;
-      step = record { allowed = read_is_allowed d h v s is.there behind room; adds = refl; counts = counts ∙ ap (λ (n : ℕ). min n (2 ^ 32 - 1)) (lacks d h v p s come); stamp_is = (all-come h d.latest f s.latest).stamp; is_open = refl; reads = reads };
+      step = record { allowed = read_is_allowed d h v s is.there behind room; adds = refl; counts = counts ∙ ap (λ (n : ℕ). min n (2 ^ 32 - 1)) (lacks d h v p s come); stamp_is = (all-come h d.latest f s.latest).stamp; closes = sym (legal-open h s.legal); reads = reads };
       stands = plain_desk d h (Read v Suffix) stored viewers s record { plain = plain-read v Suffix; next = reads; stamp = refl; frame = refl; room = refl } kept
           (ap length comes ∙ (length-set d.viewers place d.latest ∙ s.joined)) all_come;
       appended = gains ∙ ap (λ (xs : List ℕ). before ++ xs) (past ∙ ap texts (sym gives));
@@ -116,12 +114,12 @@ added_read d h v place count p stored viewers before after s is come differs roo
 
 -- a Write
 pub added_write : (d : DeskState) (h : History) (v : ℕ) (acts : List Act) (stored : List Entry) → Stands d h → IsWrite acts → d.entries < d.capacity → is_there v (length d.viewers) ≡ true
-    → stored ≡ d.stored ++ Write v acts ∷ []
-    → Adds h (WriteStep h v acts (Ok record { keys = 0; denied = 0 })) record { capacity = d.capacity; stored = stored; entries = d.entries + 1; screen = d.screen; text = d.text; last = d.last; latest = d.latest; viewers = d.viewers }
-added_write d h v acts stored s is room there kept =
-    let writes : Writes h v acts = record { live = live d h v s ∙ there; is_open = is_open d h s room; few = is.few; acknowledges = is.acknowledges } in
+    → stored ≡ d.stored ++ Write v acts ∷ [] → (keys : ℕ) → keys ≡ count_by is_key_act acts
+    → Adds h (WriteStep h v acts (Ok record { keys = keys; denied = 0 })) record { capacity = d.capacity; stored = stored; entries = d.entries + 1; screen = d.screen; text = d.text; last = d.last; latest = d.latest; viewers = d.viewers }
+added_write d h v acts stored s is room there kept keys counted =
+    let writes : Writes h v acts = record { live = live d h v s ∙ there; is_open = is_open d h s room; few = is.few } in
     record {
       entry = Write v acts;
-      step = (is, record { allowed = write_is_allowed d h v s there room; adds = refl; keys = no_keys acts is.acknowledges; denied = refl; writes = writes });
+      step = (is, record { allowed = write_is_allowed d h v s there room; adds = refl; keys = counted; denied = refl; writes = writes });
       stands = plain_desk d h (Write v acts) stored d.viewers s record { plain = plain-write v acts; next = writes; stamp = refl; frame = refl; room = refl } kept s.joined (viewers-write h v acts d.viewers s.viewers);
     }

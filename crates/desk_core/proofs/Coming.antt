@@ -1,13 +1,11 @@
 -- How far the frames go, and how far each viewer has come, after each entry.
-use Rattle.std.proofs.Common.{◌≡◌, ◌≢◌, ℕ, ◌+◌, ◌-◌, ◌<◌, ◌≤◌, List, [], ◌∷◌, ◌++◌, length, Bool, true, false, ◌⊎◌, inl, inr, take, drop, set, get_or, reverse, refl, ap, sym, ◌∙◌, subst, append-nil, append_assoc, length-append, length-drop, arith}
+use Rattle.std.proofs.Common.{◌≡◌, ◌≢◌, ℕ, ◌+◌, ◌-◌, ◌<◌, ◌≤◌, List, [], ◌∷◌, ◌++◌, length, true, false, ◌⊎◌, inl, inr, take, drop, set, get_or, reverse, refl, ap, sym, ◌∙◌, subst, append-nil, length-append, length-drop, arith}
 use Rattle.std.specs.Prelude.{if◌then◌else◌, ◌==◌, flat_map}
 use Rattle.std.proofs.lemmas.Grind.{flat_map-append}
-use Rattle.std.proofs.lemmas.Bool.{eq-eqb}
 use Rattle.std.proofs.lemmas.Bool.Decides.{eqb_tells}
 use Rattle.std.proofs.lemmas.List.{reverse-append, take_all, get_or_append_left, get_or-set_same, get_or-set_other, length-set}
 use Rattle.std.proofs.Math.Seq.{drop-append_seam, get_or-append_seam}
 use Rattle.gate_model.specs.declared.act.Act.{Act}
-use Rattle.gate_model.specs.declared.how.How.{How}
 use Rattle.gate_model.specs.declared.how.How.TheVariants.{Suffix}
 use Rattle.gate_model.specs.declared.sharing.Role.{Role}
 use Rattle.gate_model.specs.declared.instr.Instr.{Instr}
@@ -16,9 +14,9 @@ use Rattle.gate_model.specs.declared.entry.Entry.TheVariants.{Start, Feed, Join,
 use Rattle.gate_model.specs.Text.{text, texts}
 use Rattle.gate_model.specs.Entries.{framed}
 use Rattle.gate_model.specs.History.{History, frames, frames_after, instructions, all_frames, newest, joined}
-use Rattle.gate_model.specs.Delivered.{last_sync, closing, delivered, position, given, handed}
+use Rattle.gate_model.specs.Delivered.{last_sync, closing, delivered, position, handed}
 use Rattle.gate_model.proofs.Facts.{Facts}
-use Rattle.gate_model.proofs.Histories.{frames_after-feed, all_frames-feed}
+use Rattle.gate_model.proofs.Histories.{frames_after-feed}
 use Rattle.desk_core.specs.declared.progress.Progress.{Progress}
 use Rattle.desk_core.specs.Desk.{HasCome}
 use Rattle.desk_core.specs.Stored.{frame_of}

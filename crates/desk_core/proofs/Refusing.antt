@@ -1,26 +1,22 @@
 -- Why calls are refused, from what the desk keeps.
-use Rattle.std.proofs.Common.{◌≡◌, ℕ, zero, suc, ◌+◌, ◌-◌, ◌<◌, ◌≤◌, ◌^◌, min, List, [], ◌∷◌, ◌++◌, length, drop, get_or, Bool, true, false, not, ◌&&◌, ◌⊎◌, inl, inr, refl, ap, sym, ◌∙◌, subst, arith}
-use Rattle.std.specs.Prelude.{Option, Some, None, Ok, Err, nat_le, ◌==◌, if◌then◌else◌, All, count_by}
-use Rattle.std.proofs.lemmas.Bool.{lt-leb, le-leb, leb-true, eq-eqb}
+use Rattle.std.proofs.Common.{◌≡◌, ℕ, ◌+◌, ◌-◌, ◌<◌, ◌≤◌, ◌^◌, List, length, get_or, Bool, true, false, ◌⊎◌, inl, inr, refl, ap, sym, ◌∙◌, subst, arith}
+use Rattle.std.specs.Prelude.{Option, Some, None, Ok, Err, ◌==◌, if◌then◌else◌}
+use Rattle.std.proofs.lemmas.Bool.{lt-leb, le-leb, eq-eqb}
 use Rattle.std.proofs.lemmas.Bool.Decides.{nat_tests, eqb_tells}
-use Rattle.gate_model.specs.declared.act.Act.{Act}
-use Rattle.gate_model.specs.declared.act.Act.TheVariants.{Sync as act_sync}
 use Rattle.gate_model.specs.declared.feed_refusal.FeedRefusal.TheVariants.{Worn as feed_worn, Unbuilt}
 use Rattle.gate_model.specs.declared.join_refusal.JoinRefusal.TheVariants.{Worn as join_worn}
 use Rattle.gate_model.specs.declared.read_answer.ReadAnswer.TheVariants.{Empty}
 use Rattle.gate_model.specs.declared.read_refusal.ReadRefusal.TheVariants.{NoViewer as read_no_viewer, Worn as read_worn}
 use Rattle.gate_model.specs.declared.write_refusal.WriteRefusal.TheVariants.{NoViewer as write_no_viewer, Worn as write_worn}
-use Rattle.gate_model.specs.Limits.{most_entries, most_clock}
 use Rattle.gate_model.specs.Screens.{first_unbuilt}
-use Rattle.gate_model.specs.History.{History, newest, frames, frames_after, joined, capacity, is_closed, is_full}
+use Rattle.gate_model.specs.History.{History, newest, capacity, is_full}
 use Rattle.gate_model.specs.Delivered.{delivered, position}
 use Rattle.gate_model.specs.Rights.{is_live}
-use Rattle.gate_model.specs.Steps.{IsOpen, IsAcknowledgement}
-use Rattle.gate_model.specs.Refusals.{close_cause, feed_refusal, join_refusal, read_stop, write_refusal}
-use Rattle.gate_model.specs.Calls.{IsWrite, is_key_act, lacked}
-use Rattle.gate_model.proofs.Facts.{Facts}
+use Rattle.gate_model.specs.Steps.{IsOpen}
+use Rattle.gate_model.specs.Refusals.{feed_refusal, join_refusal, read_stop, write_refusal}
+use Rattle.gate_model.specs.Calls.{lacked}
 use Rattle.gate_model.proofs.Truth.{facts_of}
-use Rattle.gate_model.proofs.Bounds.{Bounds, bounds_of}
+use Rattle.gate_model.proofs.Bounds.{bounds_of}
 use Rattle.gate_model.proofs.Histories.{legal-open}
 use Rattle.desk_core.specs.declared.progress.Progress.{Progress}
 use Rattle.desk_core.specs.Desk.{DeskState, HasCome, Stands}
@@ -133,22 +129,6 @@ write_is_worn d h v s there le = rw (live d h v s ∙ there, (bounds_of h s.lega
 
 pub write_is_allowed : (d : DeskState) (h : History) (v : ℕ) → Stands d h → is_there v (length d.viewers) ≡ true → d.entries < d.capacity → write_refusal h v ≡ None
 write_is_allowed d h v s there lt = rw (live d h v s ∙ there, (bounds_of h s.legal).no_cause, not_full d h s lt) refl
-
--- acknowledgements hold no key
-pub no_keys : (acts : List Act) → All IsAcknowledgement acts → 0 ≡ count_by is_key_act acts
-no_keys [] all = refl
-no_keys (a ∷ rest) all =
-    let one = all 0 a (omega arith) in
-    let none : is_key_act a ≡ false = ap is_key_act one.1 in
-    rw none (no_keys rest (λ i d lt. all (suc i) d (omega (arith, lt))))
-
--- an acknowledgement alone may be written
-pub one_acknowledgement : (stamp : ℕ) → IsWrite (act_sync stamp ∷ [])
-one_acknowledgement stamp = record { few = omega arith; acknowledges = alone }
-  where
-    alone : All IsAcknowledgement (act_sync stamp ∷ [])
-    alone zero d lt = (stamp, refl)
-    alone (suc i) d lt = absurd (omega (arith, lt))
 
 -- the numbers that a desk keeps are small
 pub record IsSmall (d : DeskState) : Type 0 where

@@ -1,5 +1,5 @@
 -- A desk that stood for a history stands for it with one entry more.
-use Rattle.std.proofs.Common.{◌≡◌, ℕ, ◌+◌, ◌<◌, ◌≤◌, List, [], ◌∷◌, ◌++◌, length, reverse, drop, refl, ap, sym, ◌∙◌, subst, append-nil, length-append, arith}
+use Rattle.std.proofs.Common.{◌≡◌, ℕ, ◌+◌, ◌<◌, List, [], ◌∷◌, ◌++◌, length, drop, refl, ap, sym, ◌∙◌, subst, append-nil, length-append, arith}
 use Rattle.gate_model.specs.declared.instr.Instr.{Instr}
 use Rattle.gate_model.specs.declared.entry.Entry.{Entry}
 use Rattle.gate_model.specs.declared.entry.Entry.TheVariants.{Start, Feed}
@@ -7,20 +7,17 @@ use Rattle.gate_model.specs.declared.setup.Setup.{Setup}
 use Rattle.gate_model.specs.Text.{texts}
 use Rattle.gate_model.specs.Shape.{Shape, OpensScreen}
 use Rattle.gate_model.specs.Layers.{draw, nothing, visible}
-use Rattle.gate_model.specs.Frames.{IsDrawn, Redraws, Opens}
+use Rattle.gate_model.specs.Frames.{Redraws, Opens}
 use Rattle.gate_model.specs.Terminal.{Terminal, opening_screen}
 use Rattle.gate_model.specs.Screens.{after_bytes, shown}
-use Rattle.gate_model.specs.Entries.{framed, stamp_of}
-use Rattle.gate_model.specs.History.{History, at, frames, newest, next_stamp, newest_frame, all_frames, joined, capacity}
-use Rattle.gate_model.specs.Delivered.{delivered}
+use Rattle.gate_model.specs.History.{History, frames, newest, next_stamp, newest_frame, all_frames, joined, capacity}
 use Rattle.gate_model.specs.Steps.{Starts, Feeds, IsNext, Legal}
-use Rattle.gate_model.specs.Calls.{IsSetup, StartStep}
-use Rattle.gate_model.proofs.Facts.{Facts}
+use Rattle.gate_model.specs.Calls.{IsSetup}
 use Rattle.gate_model.proofs.Truth.{facts_of}
 use Rattle.gate_model.proofs.Histories.{IsPlain, at-feed, at-plain, all_frames-plain, all_frames-feed, legal-next, drawn-plain, drawn-feed}
 use Rattle.std.proofs.Math.Seq.{drop-append_seam}
 use Rattle.desk_core.specs.declared.progress.Progress.{Progress}
-use Rattle.desk_core.specs.Desk.{DeskState, HasCome, Stands}
+use Rattle.desk_core.specs.Desk.{DeskState, Stands}
 use Rattle.desk_core.specs.Calls.{Opened}
 use Rattle.desk_core.proofs.Coming.{AllCome, come-same, come-all, all-come, texts-append, viewers-feed, reverse_more}
 

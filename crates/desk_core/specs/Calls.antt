@@ -2,13 +2,12 @@
 use Rattle.std.specs.Prelude.{◌≡◌, ℕ, List, [], ◌∷◌, ◌++◌, Result, Ok, Err}
 use Rattle.gate_model.specs.declared.act.Act.{Act}
 use Rattle.gate_model.specs.declared.entry.Entry.{Entry}
-use Rattle.gate_model.specs.declared.instr.Instr.{Instr}
 use Rattle.gate_model.specs.declared.setup.Setup.{Setup}
 use Rattle.gate_model.specs.declared.sharing.Asked.{Asked}
 use Rattle.gate_model.specs.declared.joined.Joined.{Joined}
 use Rattle.gate_model.specs.declared.written.Written.{Written}
 use Rattle.gate_model.specs.declared.feed_refusal.FeedRefusal.{FeedRefusal}
-use Rattle.gate_model.specs.declared.feed_refusal.FeedRefusal.TheVariants.{NoMemory as feed_no_memory}
+use Rattle.gate_model.specs.declared.feed_refusal.FeedRefusal.TheVariants.{Closed as feed_closed, NoMemory as feed_no_memory}
 use Rattle.gate_model.specs.declared.join_refusal.JoinRefusal.{JoinRefusal}
 use Rattle.gate_model.specs.declared.join_refusal.JoinRefusal.TheVariants.{NoMemory as join_no_memory}
 use Rattle.gate_model.specs.declared.read_answer.ReadAnswer.{ReadAnswer}
@@ -46,6 +45,11 @@ abbrev pub FeedEnds : History → List ℕ → ℕ → Result ℕ FeedRefusal �
 FeedEnds h bytes now (Ok stamp) new = Adds h (FeedStep h bytes now (Ok stamp)) new
 FeedEnds h bytes now (Err feed_no_memory) new = Unit {0}
 FeedEnds h bytes now (Err refusal) new = FeedStep h bytes now (Err refusal) []
+
+-- in this version no session is closed
+abbrev pub IsStillOpen : FeedRefusal → Type 0
+IsStillOpen (feed_closed cause) = ⊥
+IsStillOpen refusal = Unit {0}
 
 abbrev pub JoinEnds : History → Asked → Result Joined JoinRefusal → DeskState → List ℕ → List ℕ → Type 0
 JoinEnds h asked (Ok joined) new before after = Gives h joined.viewer (JoinStep h asked (Ok joined)) new before after

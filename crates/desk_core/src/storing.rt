@@ -6,7 +6,7 @@ ghost use Rattle.gate_model.specs.declared.entry.Entry.TheVariants.{Feed};
 ghost use Rattle.desk_core.specs.Stored.{frame_of};
 
 use gate_model::{Bytes, Entry, Instr, Instrs, NoMemory};
-use guac_framing::texts_of;
+use guac_instr::texts_of;
 use std::alloc::Global;
 
 /// Appends the entry to the list.

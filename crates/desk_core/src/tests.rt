@@ -113,3 +113,34 @@ fn a_full_session_is_worn(rt: HostRuntime) -> Result<(), Fail> {
     assert_eq!(rt; desk.entries(), 3);
     Ok(())
 }
+
+/// A write counts the keys that go down and up, and no other act.
+#[test]
+fn a_write_counts_its_keys(rt: HostRuntime) -> Result<(), Fail> {
+    let alloc = rt.alloc();
+    let mut desk = opened(alloc, 80, 24, 100, 0)?;
+    let mut given = Vec::new(alloc);
+    let owner = desk.join(alloc, Asked::Owner, &mut given);
+    assert!(rt; owner.is_ok());
+    let keysym = 97;
+    let acts = [
+        Act::Key {
+            keysym,
+            pressed: true,
+        },
+        Act::Nop,
+        Act::Sync { stamp: 1 },
+        Act::Key {
+            keysym,
+            pressed: false,
+        },
+    ];
+    let written = Written { keys: 2, denied: 0 };
+    assert_eq!(rt; desk.write(alloc, 1, &acts), Ok(written));
+    assert_eq!(rt;
+        desk.write(alloc, 1, &[]),
+        Ok(Written { keys: 0, denied: 0 })
+    );
+    assert_eq!(rt; desk.entries(), 4);
+    Ok(())
+}

@@ -1,6 +1,6 @@
 //! Viewers that join.
 
-ghost use Rattle.std.specs.Prelude.{◌≡◌, ◌+◌, ◌<◌, ◌^◌, ◌-◌, length, OnErr, OnOk};
+ghost use Rattle.std.specs.Prelude.{◌≡◌, ◌+◌, ◌<◌, ◌≤◌, ◌^◌, ◌-◌, length, OnErr, OnOk};
 ghost use Rattle.gate_model.specs.History.{History};
 ghost use Rattle.gate_model.specs.declared.sharing.Asked.TheVariants.{Owner};
 
@@ -27,6 +27,7 @@ impl Desk {
         ensures step { (h : History) → Stands self.old h → JoinEnds h asked result self.new into.old.items into.new.items }
         ensures unchanged { OnErr result (self.new ≡ self.old) }
         ensures counts { OnOk result (self.new.entries ≡ self.old.entries + 1) }
+        ensures few { OnOk result (self.new.entries ≤ 2 ^ 40) }
         ensures viewers { OnOk result (length self.new.viewers ≡ length self.old.viewers + 1) }
         ensures buffer { OnErr result (into.new.items ≡ into.old.items) }
     {

@@ -8,7 +8,7 @@ use crate::progress::Progress;
 use crate::storing::store;
 use frame_draw::opening;
 use gate_model::{Entry, NoMemory, Setup};
-use guac_framing::texts_of;
+use guac_instr::texts_of;
 use std::alloc::Global;
 use vt_screen::Screen;
 
@@ -23,6 +23,7 @@ impl Desk {
         requires { IsSetup setup }
         ensures opened { IfOk result (Opened setup now) }
         ensures nobody { IfOk result (λ d. d.viewers ≡ []) }
+        ensures one { IfOk result (λ d. d.entries ≡ 1) }
     {
         let Setup {
             cols,

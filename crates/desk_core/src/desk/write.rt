@@ -1,6 +1,7 @@
 //! What viewers ask for.
 
-ghost use Rattle.std.specs.Prelude.{◌≡◌, ◌+◌, ◌≤◌, ◌^◌, OnErr, OnOk};
+ghost use Rattle.std.specs.Prelude.{◌≡◌, ◌+◌, ◌≤◌, ◌^◌, count_by, length, OnErr, OnOk};
+ghost use Rattle.gate_model.specs.Calls.{is_key_act};
 ghost use Rattle.gate_model.specs.History.{History};
 
 use crate::desk::Desk;
@@ -14,8 +15,8 @@ impl Desk {
     ghost use Rattle.desk_core.specs.Desk.{Stands};
     ghost use Rattle.desk_core.specs.Calls.{WriteEnds};
 
-    /// Takes at most 4,096 acts of a viewer, in this version acknowledgements alone, which don't count
-    /// as keys (this project's own rule).
+    /// Takes at most 4,096 acts of a viewer, and answers how many of them are keys. In this version
+    /// every viewer may type, and no key has an effect (this project's own rule).
     pub fn write(
         &mut self,
         alloc: Global,
@@ -37,9 +38,20 @@ impl Desk {
                 entries: self.entries,
             });
         }
+        let keys = keys_among(acts);
         let acts = Acts::of(Vec::from_slice(alloc, acts)?);
         store(&mut self.stored, Entry::Write { viewer, acts })?;
         self.entries += 1;
-        Ok(Written { keys: 0, denied: 0 })
+        Ok(Written { keys, denied: 0 })
     }
+}
+
+// How many of the acts are keys.
+fn keys_among(acts: &[Act]) -> u32
+    requires { length acts.now ≤ 4096 }
+    ensures { result ≡ count_by is_key_act acts.now }
+{
+    acts.iter()
+        .filter(|act| matches!(act, Act::Key { .. }))
+        .count() as u32
 }

@@ -1,8 +1,7 @@
-use Rattle.std.proofs.Common.{◌≡◌, ◌∙◌, ap, sym, get_or, take, arith}
+use Rattle.std.proofs.Common.{◌∙◌, ap, sym, get_or, arith}
 use Rattle.gate_model.specs.declared.control.Control.{Control}
-use Rattle.gate_model.specs.Terminal.{Terminal}
 use Rattle.gate_model.specs.Effects.{effect}
-use Rattle.gate_model.specs.Screens.{after_bytes, control_of}
+use Rattle.gate_model.specs.Screens.{control_of}
 use Rattle.desk_core.proofs.Showing.{after_bytes-take}
 use Rattle.desk_core.proofs.drawing.show.Goals as goal
 

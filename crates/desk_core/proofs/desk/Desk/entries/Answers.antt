@@ -1,4 +1,4 @@
-use Rattle.std.proofs.Common.{◌≡◌, ◌≤◌, ◌^◌, subst}
+use Rattle.std.proofs.Common.{◌≤◌, ◌^◌, subst}
 use Rattle.desk_core.specs.Desk.{DeskState}
 use Rattle.desk_core.proofs.Refusing.{small}
 use Rattle.desk_core.proofs.desk.Desk.entries.Goals as goal

@@ -1,10 +1,7 @@
-use Rattle.std.proofs.Common.{◌≡◌, ℕ, ◌+◌, ◌<◌, ◌≤◌, List, [], ◌∷◌, ◌++◌, ◌∙◌, length, refl, ap, sym, subst, arith}
-use Rattle.std.specs.Prelude.{Some, None}
-use Rattle.gate_model.specs.declared.instr.Instr.{Instr}
-use Rattle.gate_model.specs.declared.entry.Entry.{Entry}
+use Rattle.std.proofs.Common.{◌≡◌, ℕ, List, [], ◌∷◌, ◌++◌, ◌∙◌, refl, ap, sym, subst, arith}
+use Rattle.std.specs.Prelude.{None}
 use Rattle.gate_model.specs.declared.entry.Entry.TheVariants.{Feed}
 use Rattle.gate_model.specs.Screens.{first_unbuilt}
-use Rattle.gate_model.specs.History.{History}
 use Rattle.desk_core.specs.Desk.{DeskState, Stands}
 use Rattle.desk_core.proofs.Refusing.{feed_is_worn, feed_is_unbuilt, is_none, small}
 use Rattle.desk_core.proofs.Calling.{size_after, colours_after, added_feed}

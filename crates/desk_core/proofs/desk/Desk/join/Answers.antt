@@ -1,15 +1,12 @@
-use Rattle.std.proofs.Common.{◌≡◌, ℕ, ◌+◌, ◌-◌, ◌^◌, ◌<◌, ◌≤◌, List, [], ◌∷◌, ◌++◌, ◌∙◌, length, refl, ap, sym, subst, arith}
+use Rattle.std.proofs.Common.{◌≡◌, ℕ, ◌+◌, ◌-◌, ◌^◌, ◌<◌, List, [], ◌∷◌, ◌++◌, ◌∙◌, length, refl, ap, sym, subst, arith}
 use Rattle.std.specs.Prelude.{flat_map}
-use Rattle.gate_model.specs.declared.instr.Instr.{Instr}
 use Rattle.gate_model.specs.declared.entry.Entry.{Entry}
 use Rattle.gate_model.specs.declared.entry.Entry.TheVariants.{Join}
 use Rattle.gate_model.specs.declared.sharing.Role.TheVariants.{Control}
-use Rattle.gate_model.specs.History.{History}
-use Rattle.desk_core.specs.declared.progress.Progress.{Progress}
 use Rattle.desk_core.specs.Desk.{DeskState, Stands}
 use Rattle.desk_core.specs.Stored.{frame_of}
 use Rattle.desk_core.proofs.Results.{on_ok, chosen_on_ok}
-use Rattle.desk_core.proofs.Refusing.{join_is_worn}
+use Rattle.desk_core.proofs.Refusing.{join_is_worn, small}
 use Rattle.desk_core.proofs.Calling.{added_join}
 use Rattle.desk_core.proofs.desk.Desk.join.Goals as goal
 
@@ -54,3 +51,9 @@ returns-clause-step c = λ h stood.
     let gains : c.store_giving.new.into.items ≡ c.args.into.now.items ++ i.text.items =
     on_ok c.store_giving.result (c.store_giving.new.into.items ≡ c.args.into.now.items ++ c.deref-2.result.now) given c.store_giving.ensures.appended ∙ ap (λ (xs : List ℕ). c.args.into.now.items ++ xs) c.deref-2.ensures.value in
     added_join d h c.args.asked number c.in_ok-first.first c.store_giving.new.stored.items c.push.new.self.items c.args.into.now.items c.store_giving.new.into.items s c.requires.owner few (omega (arith, c.if-self.false)) is_number first kept comes gains
+
+pub returns-clause-few : goal.returns-clause-few
+returns-clause-few c =
+    let i = c.self.inside in
+    let d : DeskState = record { capacity = i.capacity; stored = i.stored.items; entries = i.entries; screen = i.screen; text = i.text.items; last = i.last; latest = i.latest; viewers = i.viewers.items } in
+    omega (arith, (small d c.self.invariant.0 c.self.invariant.1).room, c.if-self.false)

@@ -1,8 +1,4 @@
-use Rattle.std.proofs.Common.{◌≡◌, ℕ, ◌+◌, ◌-◌, ◌<◌, ◌≤◌, List, [], ◌∷◌, ◌++◌, length, drop, set, not, true, false, refl, ap, sym, ◌∙◌, subst, arith}
-use Rattle.std.specs.Prelude.{Some, None}
-use Rattle.gate_model.specs.declared.how.How.TheVariants.{Suffix}
-use Rattle.gate_model.specs.declared.entry.Entry.TheVariants.{Read}
-use Rattle.gate_model.specs.History.{History}
+use Rattle.std.proofs.Common.{◌≡◌, ℕ, List, ◌∷◌, ◌++◌, length, drop, set, refl, ap, sym, ◌∙◌, subst, arith}
 use Rattle.gate_model.specs.Delivered.{delivered}
 use Rattle.desk_core.specs.declared.progress.Progress.{Progress}
 use Rattle.desk_core.specs.Desk.{DeskState, HasCome, Stands}

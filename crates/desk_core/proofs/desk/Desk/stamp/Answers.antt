@@ -1,4 +1,4 @@
-use Rattle.std.proofs.Common.{◌≡◌, ◌∙◌, ap, sym, subst}
+use Rattle.std.proofs.Common.{sym, subst}
 use Rattle.gate_model.proofs.Truth.{facts_of}
 use Rattle.desk_core.specs.Desk.{DeskState, Stands}
 use Rattle.desk_core.proofs.Coming.{all-come}

@@ -1,5 +1,4 @@
-use Rattle.std.proofs.Common.{◌≡◌, ℕ, List, [], ◌∷◌, ◌++◌, ◌∙◌, refl, ap, sym, subst, arith}
-use Rattle.gate_model.specs.declared.instr.Instr.{Instr}
+use Rattle.std.proofs.Common.{◌≡◌, List, [], ◌∷◌, ◌++◌, ◌∙◌, refl, ap, sym, subst, arith}
 use Rattle.gate_model.specs.declared.entry.Entry.{Entry}
 use Rattle.gate_model.specs.declared.entry.Entry.TheVariants.{Start}
 use Rattle.gate_model.specs.KeyGrid.{KeyGrid}
@@ -8,9 +7,7 @@ use Rattle.gate_model.specs.Terminal.{opening_screen}
 use Rattle.gate_model.specs.Screens.{AreColoured, shown}
 use Rattle.gate_model.specs.Shape.{Shape}
 use Rattle.gate_model.specs.Frames.{Opens}
-use Rattle.gate_model.specs.History.{next_stamp}
 use Rattle.gate_model.proofs.ScreenLaws.{coloured-screen}
-use Rattle.desk_core.specs.Desk.{DeskState, Stands}
 use Rattle.desk_core.proofs.Standing.{opened_desk}
 use Rattle.desk_core.proofs.desk.Desk.start.Goals as goal
 
