@@ -1,156 +1,136 @@
--- What each status says, from how `draw` ended and what its last answer wrote.
-use Rattle.std.proofs.Common.{◌≡◌, ℕ, List, [], ◌∷◌, ◌++◌, inl, inr, take, drop, refl, ap, sym, ◌∙◌, subst, append_assoc, append-nil, arith}
+-- What each status says, from how the run ended and what its last answer wrote.
+use Rattle.std.proofs.Common.{◌≡◌, ℕ, List, [], ◌∷◌, ◌++◌, ◌⊎◌, inl, inr, take, drop, refl, ap, sym, ◌∙◌, subst, append_assoc, append-nil, arith}
 use Rattle.std.specs.Prelude.{Option, Some, None, Result, Ok, Err}
 use Rattle.std.proofs.lemmas.List.{take-append-drop}
-use Rattle.gate_model.specs.Sequences.{BeginsWith}
-use Rattle.gate_outside.specs.Edge.{AtEnd, gained}
-use Rattle.gate_outside.proofs.Moved.{gained-gained}
+use Rattle.gate_model.specs.Sequences.{IsLater}
+use Rattle.gate_outside.specs.Edge.{AtEnd, came, gained}
+use Rattle.gate_outside.proofs.Moved.{gained-gained, came-none}
+use Rattle.gate_script.specs.declared.form.Form.{Form}
+use Rattle.gate_script.specs.declared.refused.Refused.{Refused as Refusal}
+use Rattle.gate_script.specs.declared.refused.Refused.TheVariants.{BadLine, Worn, Unbuilt}
 use Rattle.gate_script.specs.declared.stop.Stop.{Stop}
-use Rattle.gate_script.specs.declared.stop.Stop.TheVariants.{ReadFault, AnswersFault, FramesFault, NoMemory, Worn, Unbuilt}
-use Rattle.gate_model.specs.History.{History}
-use Rattle.gate_script.specs.Lines.{Line, server}
-use Rattle.gate_script.specs.Told.{worn_line, unbuilt_line}
-use Rattle.gate_script.specs.Outcomes.{Tells, AreFirst, Finished, Interrupted, CutShort, WriteFault, Ran, Outcome}
-use Rattle.gate_script.specs.Outcomes.{Worn as worn_outcome, Unbuilt as unbuilt_outcome}
-use Rattle.gate_script.specs.Session.{DrawEnds, LastSaid, Ended}
+use Rattle.gate_script.specs.declared.stop.Stop.TheVariants.{ReadFault, WriteFault, NoMemory, Refused}
+use Rattle.gate_script.specs.Lines.{Line}
+use Rattle.gate_script.specs.Grammar.{lines_of, whole_lines, all_lines}
+use Rattle.gate_script.specs.Outcomes.{AreFirst, Finished, Interrupted, Refuses, Ends, CutShort, Ran, Outcome, last_line}
+use Rattle.gate_script.specs.Outcomes.{WriteFault as write_fault}
+use Rattle.gate_script.specs.Running.{StoppedIn, ShortOf, RefusedOf, HasRead, RunEnds, LastSaid, Ended, refused_status}
+use Rattle.gate_script.proofs.InputLaws.{no_pieces, run_stopped}
 
-module _ (cols rows : ℕ) (left : Option (List ℕ)) (bytes a f : List ℕ) where
-  at_done : AtEnd left × Finished cols rows bytes a f → Outcome 0 cols rows left bytes a f
-  at_done p = record { done = λ e. p; read_fault = λ e. absurd (omega arith); write_fault = λ e. absurd (omega arith); memory = λ e. absurd (omega arith); worn = λ e. absurd (omega arith); unbuilt = λ e. absurd (omega arith); only = inl refl }
+module _ (form : Form) (left : Option (List ℕ)) (bytes a f : List ℕ) where
+  at_done : AtEnd left × Finished form bytes a f → Outcome 0 form left bytes a f
+  at_done p = record { done = λ e. p; bad_script = λ e. absurd (omega arith); read_fault = λ e. absurd (omega arith); write_fault = λ e. absurd (omega arith); memory = λ e. absurd (omega arith); worn = λ e. absurd (omega arith); unbuilt = λ e. absurd (omega arith); only = inl refl }
 
-  at_read_fault : Interrupted cols rows bytes a f → Outcome 4 cols rows left bytes a f
-  at_read_fault p = record { done = λ e. absurd (omega arith); read_fault = λ e. p; write_fault = λ e. absurd (omega arith); memory = λ e. absurd (omega arith); worn = λ e. absurd (omega arith); unbuilt = λ e. absurd (omega arith); only = inr (inl refl) }
+  at_read_fault : Interrupted form bytes a f → Outcome 4 form left bytes a f
+  at_read_fault p = record { done = λ e. absurd (omega arith); bad_script = λ e. absurd (omega arith); read_fault = λ e. p; write_fault = λ e. absurd (omega arith); memory = λ e. absurd (omega arith); worn = λ e. absurd (omega arith); unbuilt = λ e. absurd (omega arith); only = inr (inr (inl refl)) }
 
-  at_write_fault : WriteFault cols rows bytes a f left → Outcome 5 cols rows left bytes a f
-  at_write_fault p = record { done = λ e. absurd (omega arith); read_fault = λ e. absurd (omega arith); write_fault = λ e. p; memory = λ e. absurd (omega arith); worn = λ e. absurd (omega arith); unbuilt = λ e. absurd (omega arith); only = inr (inr (inl refl)) }
+  at_write_fault : write_fault form bytes a f left → Outcome 5 form left bytes a f
+  at_write_fault p = record { done = λ e. absurd (omega arith); bad_script = λ e. absurd (omega arith); read_fault = λ e. absurd (omega arith); write_fault = λ e. p; memory = λ e. absurd (omega arith); worn = λ e. absurd (omega arith); unbuilt = λ e. absurd (omega arith); only = inr (inr (inr (inl refl))) }
 
-  at_memory : CutShort cols rows bytes a f left → Outcome 6 cols rows left bytes a f
-  at_memory p = record { done = λ e. absurd (omega arith); read_fault = λ e. absurd (omega arith); write_fault = λ e. absurd (omega arith); memory = λ e. p; worn = λ e. absurd (omega arith); unbuilt = λ e. absurd (omega arith); only = inr (inr (inr (inl refl))) }
+  at_memory : CutShort form bytes a f left → Outcome 6 form left bytes a f
+  at_memory p = record { done = λ e. absurd (omega arith); bad_script = λ e. absurd (omega arith); read_fault = λ e. absurd (omega arith); write_fault = λ e. absurd (omega arith); memory = λ e. p; worn = λ e. absurd (omega arith); unbuilt = λ e. absurd (omega arith); only = inr (inr (inr (inr (inl refl)))) }
 
-  at_worn : worn_outcome cols rows bytes a f left → Outcome 7 cols rows left bytes a f
-  at_worn p = record { done = λ e. absurd (omega arith); read_fault = λ e. absurd (omega arith); write_fault = λ e. absurd (omega arith); memory = λ e. absurd (omega arith); worn = λ e. p; unbuilt = λ e. absurd (omega arith); only = inr (inr (inr (inr (inl refl)))) }
+  at_refused : (refused : Refusal) → Ends form bytes a f left refused → Outcome (refused_status refused) form left bytes a f
+  at_refused (BadLine number) p = record { done = λ e. absurd (omega arith); bad_script = λ e. (number, p); read_fault = λ e. absurd (omega arith); write_fault = λ e. absurd (omega arith); memory = λ e. absurd (omega arith); worn = λ e. absurd (omega arith); unbuilt = λ e. absurd (omega arith); only = inr (inl refl) }
+  at_refused (Worn entries) p = record { done = λ e. absurd (omega arith); bad_script = λ e. absurd (omega arith); read_fault = λ e. absurd (omega arith); write_fault = λ e. absurd (omega arith); memory = λ e. absurd (omega arith); worn = λ e. (entries, p); unbuilt = λ e. absurd (omega arith); only = inr (inr (inr (inr (inr (inl refl))))) }
+  at_refused (Unbuilt place) p = record { done = λ e. absurd (omega arith); bad_script = λ e. absurd (omega arith); read_fault = λ e. absurd (omega arith); write_fault = λ e. absurd (omega arith); memory = λ e. absurd (omega arith); worn = λ e. absurd (omega arith); unbuilt = λ e. (place, p); only = inr (inr (inr (inr (inr (inr refl))))) }
 
-  at_unbuilt : unbuilt_outcome cols rows bytes a f left → Outcome 9 cols rows left bytes a f
-  at_unbuilt p = record { done = λ e. absurd (omega arith); read_fault = λ e. absurd (omega arith); write_fault = λ e. absurd (omega arith); memory = λ e. absurd (omega arith); worn = λ e. absurd (omega arith); unbuilt = λ e. p; only = inr (inr (inr (inr (inr refl)))) }
-
--- the lines before one that was refused are first ones too
-before : (cols rows : ℕ) (bytes : List ℕ) (left : Option (List ℕ)) (l : Line) (ls : List Line) → AreFirst cols rows bytes left (l ∷ ls) → AreFirst cols rows bytes left ls
-before cols rows bytes left l ls first = record {
-  pieces = first.pieces;
-  are = first.are;
-  first = (first.first.0 ++ l ∷ [], first.first.1 ∙ sym (append_assoc first.first.0 (l ∷ []) ls));
-}
-
--- a front of a last answer, after all that the lines tell
-begins-last : (a last : List ℕ) (n : ℕ) → BeginsWith (a ++ last) (a ++ take n last)
-begins-last a last n = (drop n last, ap (λ (l : List ℕ). a ++ l) (sym (take-append-drop n last)) ∙ sym (append_assoc a (take n last) (drop n last)))
-
--- all that the lines tell is the front of itself
-cut_after : (cols rows : ℕ) (bytes a f : List ℕ) (left : Option (List ℕ)) (ls : List Line) (h : History) → AreFirst cols rows bytes left ls → Tells ls h a f → CutShort cols rows bytes a f left
-cut_after cols rows bytes a f left ls h first tells = record {
-  lines = ls;
-  history = h;
-  first = first;
-  done = tells.done;
-  answers_begin = ([], sym tells.answers_are ∙ sym (append-nil a));
-  framings_begin = ([], sym tells.framings_are ∙ sym (append-nil f));
-}
-
-module _ (cols rows k : ℕ) (Fault : Type 0) (left0 left1 answers0 answers1 answers2 frames0 frames1 : Option (List ℕ)) where
+module _ (form : Form) (k : ℕ) (left0 left a0 f0 a a' f : Option (List ℕ)) where
   -- no last answer was due
-  unchanged : (n : ℕ) (Ends : List ℕ → List ℕ → List ℕ → Type 0) (ran : Ran left0 left1 answers0 answers1 frames0 frames1 Ends)
-      → (k ≡ n) × (answers2 ≡ answers1) → Outcome n cols rows left1 ran.bytes ran.a ran.f → Ran left0 left1 answers0 answers2 frames0 frames1 (Outcome k cols rows left1)
-  unchanged n Ends ran same o = record {
-    bytes = ran.bytes;
-    a = ran.a;
-    f = ran.f;
-    read = ran.read;
-    answered = same.1 ∙ ran.answered;
-    framed_on = ran.framed_on;
-    ends = subst (λ (j : ℕ). Outcome j cols rows left1 ran.bytes ran.a ran.f) (sym same.0) o;
+  unchanged : (n : ℕ) (bytes own_a own_f : List ℕ) → left0 ≡ came bytes left → a ≡ gained a0 own_a → f ≡ gained f0 own_f → (k ≡ n) × (a' ≡ a) → Outcome n form left bytes own_a own_f → Ran left0 left a0 a' f0 f (Outcome k form left)
+  unchanged n bytes own_a own_f came_is answered framed same o = record {
+    bytes = bytes;
+    a = own_a;
+    f = own_f;
+    read = came_is;
+    answered = same.1 ∙ answered;
+    framed_on = framed;
+    holds = subst (λ (j : ℕ). Outcome j form left bytes own_a own_f) (sym same.0) o;
   }
 
   -- more of the answers was written
-  told : (n : ℕ) (more : List ℕ) (Ends : List ℕ → List ℕ → List ℕ → Type 0) (ran : Ran left0 left1 answers0 answers1 frames0 frames1 Ends)
-      → k ≡ n → answers2 ≡ gained answers1 more → Outcome n cols rows left1 ran.bytes (ran.a ++ more) ran.f → Ran left0 left1 answers0 answers2 frames0 frames1 (Outcome k cols rows left1)
-  told n more Ends ran is put o = record {
-    bytes = ran.bytes;
-    a = ran.a ++ more;
-    f = ran.f;
-    read = ran.read;
-    answered = put ∙ (ap (λ (x : Option (List ℕ)). gained x more) ran.answered ∙ gained-gained answers0 ran.a more);
-    framed_on = ran.framed_on;
-    ends = subst (λ (j : ℕ). Outcome j cols rows left1 ran.bytes (ran.a ++ more) ran.f) (sym is) o;
+  said : (n : ℕ) (bytes own_a own_f more : List ℕ) → left0 ≡ came bytes left → a ≡ gained a0 own_a → f ≡ gained f0 own_f → k ≡ n → a' ≡ gained a more → Outcome n form left bytes (own_a ++ more) own_f → Ran left0 left a0 a' f0 f (Outcome k form left)
+  said n bytes own_a own_f more came_is answered framed is put o = record {
+    bytes = bytes;
+    a = own_a ++ more;
+    f = own_f;
+    read = came_is;
+    answered = put ∙ (ap (λ (x : Option (List ℕ)). gained x more) answered ∙ gained-gained a0 own_a more);
+    framed_on = framed;
+    holds = subst (λ (j : ℕ). Outcome j form left bytes (own_a ++ more) own_f) (sym is) o;
   }
 
-  -- the session was full
-  said_worn : (count : ℕ) (ran : Ran left0 left1 answers0 answers1 frames0 frames1 (λ bytes a f. DrawEnds cols rows left1 (Err (Worn count)) bytes a f))
-      → LastSaid 7 (worn_line count) k Fault answers1 answers2 → Ran left0 left1 answers0 answers2 frames0 frames1 (Outcome k cols rows left1)
-  said_worn count ran (inl s) = told 7 (worn_line count) (λ bytes a f. DrawEnds cols rows left1 (Err (Worn count)) bytes a f) ran s.0 s.1
-      (at_worn cols rows left1 ran.bytes (ran.a ++ worn_line count) ran.f (record {
-        lines = ran.ends.lines;
-        history = ran.ends.history;
-        written = ran.a;
-        tells = ran.ends.tells;
-        refused = ran.ends.refused;
-        answers_are = ap (λ (n : ℕ). ran.a ++ worn_line n) ran.ends.counts;
-      }))
-  said_worn count ran (inr (inl s)) = told 5 (take s.2.0 (worn_line count)) (λ bytes a f. DrawEnds cols rows left1 (Err (Worn count)) bytes a f) ran s.0 s.2.2
-      (at_write_fault cols rows left1 ran.bytes (ran.a ++ take s.2.0 (worn_line count)) ran.f (inr (record {
-        lines = ran.ends.lines;
-        history = ran.ends.history;
-        written = ran.a;
-        last = worn_line count;
-        tells = ran.ends.tells;
-        is_last = inr (inl (ran.ends.refused, ap worn_line ran.ends.counts));
-        answers_begin = begins-last ran.a (worn_line count) s.2.0;
-      })))
-  said_worn count ran (inr (inr s)) = unchanged 6 (λ bytes a f. DrawEnds cols rows left1 (Err (Worn count)) bytes a f) ran s
-      (at_memory cols rows left1 ran.bytes ran.a ran.f (cut_after cols rows ran.bytes ran.a ran.f left1 ran.ends.lines ran.ends.history
-      (before cols rows ran.bytes left1 ran.ends.refused.next ran.ends.lines ran.ends.refused.first) ran.ends.tells))
+  -- a front was written of what some first lines tell
+  short : (bytes : List ℕ) (all : List Line) → ((lines : List Line) → IsLater lines all → AreFirst form bytes left lines) → (s : ShortOf all a0 f0 a f) → CutShort form bytes s.own_a s.own_f left
+  short bytes all are s = record { lines = s.lines; play = s.play; answers = s.answers; framings = s.framings; first = are s.lines s.first; tells = s.tells; answers_begin = s.answers_begin; framings_begin = s.framings_begin }
 
-  -- a piece has a byte without a meaning
-  said_unbuilt : (place : ℕ) (ran : Ran left0 left1 answers0 answers1 frames0 frames1 (λ bytes a f. DrawEnds cols rows left1 (Err (Unbuilt place)) bytes a f))
-      → LastSaid 9 (unbuilt_line place) k Fault answers1 answers2 → Ran left0 left1 answers0 answers2 frames0 frames1 (Outcome k cols rows left1)
-  said_unbuilt place ran (inl s) = told 9 (unbuilt_line place) (λ bytes a f. DrawEnds cols rows left1 (Err (Unbuilt place)) bytes a f) ran s.0 s.1
-      (at_unbuilt cols rows left1 ran.bytes (ran.a ++ unbuilt_line place) ran.f (record {
-        lines = ran.ends.lines;
-        history = ran.ends.history;
-        written = ran.a;
-        place = place;
-        tells = ran.ends.tells;
-        refused = ran.ends.refused;
-        answers_are = refl;
-      }))
-  said_unbuilt place ran (inr (inl s)) = told 5 (take s.2.0 (unbuilt_line place)) (λ bytes a f. DrawEnds cols rows left1 (Err (Unbuilt place)) bytes a f) ran s.0 s.2.2
-      (at_write_fault cols rows left1 ran.bytes (ran.a ++ take s.2.0 (unbuilt_line place)) ran.f (inr (record {
-        lines = ran.ends.lines;
-        history = ran.ends.history;
-        written = ran.a;
-        last = unbuilt_line place;
-        tells = ran.ends.tells;
-        is_last = inr (inr (place, ran.ends.refused, refl));
-        answers_begin = begins-last ran.a (unbuilt_line place) s.2.0;
+  refuses : (bytes : List ℕ) (all : List Line) → ((lines : List Line) → IsLater lines all → AreFirst form bytes left lines) → (refused : Refusal) → (s : RefusedOf all refused a0 f0 a f) → Refuses form bytes s.told.answers s.told.framings left refused
+  refuses bytes all are refused s = record { lines = s.lines; next = s.next; play = s.play; first = are (s.next ∷ s.lines) s.first; tells = record { plays = s.told.plays; lawful = s.lawful }; is_refused = s.is_refused }
+
+  -- the last answer was due
+  last_said : (Fault : Type 0) (bytes : List ℕ) (all : List Line) → ((lines : List Line) → IsLater lines all → AreFirst form bytes left lines) → left0 ≡ came bytes left → (refused : Refusal) → RefusedOf all refused a0 f0 a f → LastSaid refused k Fault a a'
+      → Ran left0 left a0 a' f0 f (Outcome k form left)
+  last_said Fault bytes all are came_is refused s (inl w) =
+      said (refused_status refused) bytes s.told.answers s.told.framings (last_line refused) came_is s.told.answered s.told.framed w.0 w.1
+      (at_refused form left bytes (s.told.answers ++ last_line refused) s.told.framings refused (record { written = s.told.answers; refuses = refuses bytes all are refused s; answers_are = refl }))
+  last_said Fault bytes all are came_is refused s (inr (inl w)) =
+      said 5 bytes s.told.answers s.told.framings (take w.2.0 (last_line refused)) came_is s.told.answered s.told.framed w.0 w.2.2
+      (at_write_fault form left bytes (s.told.answers ++ take w.2.0 (last_line refused)) s.told.framings (inr (record {
+        refused = refused;
+        written = s.told.answers;
+        refuses = refuses bytes all are refused s;
+        answers_begin = (drop w.2.0 (last_line refused), ap (λ (l : List ℕ). s.told.answers ++ l) (sym (take-append-drop w.2.0 (last_line refused))) ∙ sym (append_assoc s.told.answers (take w.2.0 (last_line refused)) (drop w.2.0 (last_line refused))));
       })))
-  said_unbuilt place ran (inr (inr s)) = unchanged 6 (λ bytes a f. DrawEnds cols rows left1 (Err (Unbuilt place)) bytes a f) ran s
-      (at_memory cols rows left1 ran.bytes ran.a ran.f (cut_after cols rows ran.bytes ran.a ran.f left1 ran.ends.lines ran.ends.history
-      (before cols rows ran.bytes left1 (server ran.ends.refused.piece) ran.ends.lines ran.ends.refused.first) ran.ends.tells))
+  last_said Fault bytes all are came_is refused s (inr (inr w)) =
+      unchanged 6 bytes s.told.answers s.told.framings came_is s.told.answered s.told.framed w
+      (at_memory form left bytes s.told.answers s.told.framings (record {
+        lines = s.lines;
+        play = s.play;
+        answers = s.told.answers;
+        framings = s.told.framings;
+        first = are s.lines (s.first.0 ++ s.next ∷ [], s.first.1 ∙ sym (append_assoc s.first.0 (s.next ∷ []) s.lines));
+        tells = record { plays = s.told.plays; lawful = s.lawful };
+        answers_begin = ([], sym (append-nil s.told.answers));
+        framings_begin = ([], sym (append-nil s.told.framings));
+      }))
+
+  -- what the status says of a run that stopped
+  stopped : (Fault : Type 0) (bytes : List ℕ) (all : List Line) → ((lines : List Line) → IsLater lines all → AreFirst form bytes left lines) → left0 ≡ came bytes left → (stop : Stop) → StoppedIn all stop a0 f0 a f → Ended (Err stop) k Fault a a'
+      → Ran left0 left a0 a' f0 f (Outcome k form left)
+  stopped Fault bytes all are came_is WriteFault s e = unchanged 5 bytes s.own_a s.own_f came_is s.answered s.framed e (at_write_fault form left bytes s.own_a s.own_f (inl (short bytes all are s)))
+  stopped Fault bytes all are came_is NoMemory s e = unchanged 6 bytes s.own_a s.own_f came_is s.answered s.framed e (at_memory form left bytes s.own_a s.own_f (short bytes all are s))
+  stopped Fault bytes all are came_is (Refused refused) s e = last_said Fault bytes all are came_is refused s e
+  stopped Fault bytes all are came_is ReadFault s e = absurd s
+
+  stopped_either : (Fault : Type 0) (bytes : List ℕ) → left0 ≡ came bytes left → (stop : Stop) → StoppedIn (whole_lines form bytes) stop a0 f0 a f ⊎ (AtEnd left × StoppedIn (all_lines form bytes) stop a0 f0 a f) → Ended (Err stop) k Fault a a'
+      → Ran left0 left a0 a' f0 f (Outcome k form left)
+  stopped_either Fault bytes came_is stop (inl s) e = stopped Fault bytes (whole_lines form bytes) (λ lines later. inl later) came_is stop s e
+  stopped_either Fault bytes came_is stop (inr s) e = stopped Fault bytes (all_lines form bytes) (λ lines later. inr (s.0, later)) came_is stop s.1 e
 
   -- what the status says
-  pub outcome_of : (r : Result (Unit {0}) Stop) → Ran left0 left1 answers0 answers1 frames0 frames1 (λ bytes a f. DrawEnds cols rows left1 r bytes a f) → Ended r k Fault answers1 answers2
-      → Ran left0 left1 answers0 answers2 frames0 frames1 (Outcome k cols rows left1)
-  outcome_of (Ok done) ran e = unchanged 0 (λ bytes a f. DrawEnds cols rows left1 (Ok done) bytes a f) ran e (at_done cols rows left1 ran.bytes ran.a ran.f ran.ends)
-  outcome_of (Err ReadFault) ran e = unchanged 4 (λ bytes a f. DrawEnds cols rows left1 (Err ReadFault) bytes a f) ran e (at_read_fault cols rows left1 ran.bytes ran.a ran.f ran.ends)
-  outcome_of (Err AnswersFault) ran e = unchanged 5 (λ bytes a f. DrawEnds cols rows left1 (Err AnswersFault) bytes a f) ran e (at_write_fault cols rows left1 ran.bytes ran.a ran.f ran.ends)
-  outcome_of (Err FramesFault) ran e = unchanged 5 (λ bytes a f. DrawEnds cols rows left1 (Err FramesFault) bytes a f) ran e (at_write_fault cols rows left1 ran.bytes ran.a ran.f ran.ends)
-  outcome_of (Err NoMemory) ran e = unchanged 6 (λ bytes a f. DrawEnds cols rows left1 (Err NoMemory) bytes a f) ran e (at_memory cols rows left1 ran.bytes ran.a ran.f ran.ends)
-  outcome_of (Err (Worn count)) ran e = said_worn count ran e
-  outcome_of (Err (Unbuilt place)) ran e = said_unbuilt place ran e
+  pub outcome_of : (Fault : Type 0) (r : Result (Unit {0}) Stop) → HasRead left0 left (λ bytes. RunEnds form bytes left r a0 f0 a f) → Ended r k Fault a a' → Ran left0 left a0 a' f0 f (Outcome k form left)
+  outcome_of Fault (Ok u) ran e =
+      let d = ran.holds.1 in
+      unchanged 0 ran.bytes d.told.answers d.told.framings ran.came_is d.told.answered d.told.framed e (at_done form left ran.bytes d.told.answers d.told.framings (ran.holds.0, record { play = d.play; tells = record { plays = d.told.plays; lawful = d.lawful } }))
+  outcome_of Fault (Err ReadFault) ran e =
+      let d = ran.holds in
+      unchanged 4 ran.bytes d.told.answers d.told.framings ran.came_is d.told.answered d.told.framed e (at_read_fault form left ran.bytes d.told.answers d.told.framings (record { play = d.play; tells = record { plays = d.told.plays; lawful = d.lawful } }))
+  outcome_of Fault (Err WriteFault) ran e = stopped_either Fault ran.bytes ran.came_is WriteFault ran.holds e
+  outcome_of Fault (Err NoMemory) ran e = stopped_either Fault ran.bytes ran.came_is NoMemory ran.holds e
+  outcome_of Fault (Err (Refused refused)) ran e = stopped_either Fault ran.bytes ran.came_is (Refused refused) ran.holds e
 
--- the size that the words give is one
-pub same_size : (s t : ℕ × ℕ) → Some s ≡ Some t → s ≡ t
-same_size s t e = ap (or_else s) e
+-- the run stopped before it read
+pub not_opened : (form : Form) (left a0 f0 a f : Option (List ℕ)) (stop : Stop) → StoppedIn (lines_of form []) stop a0 f0 a f → HasRead left left (λ bytes. RunEnds form bytes left (Err stop) a0 f0 a f)
+not_opened form left a0 f0 a f stop s = record {
+  bytes = [];
+  came_is = sym (came-none left);
+  holds = run_stopped form [] left a0 f0 a f stop (subst (λ (ps : List (List ℕ)). StoppedIn (lines_of form ps) stop a0 f0 a f) (sym (no_pieces form)) s);
+}
+
+-- the form that the words give is one
+pub same_form : (s t : Form) → Some s ≡ Some t → s ≡ t
+same_form s t e = ap (or_else s) e
   where
-    or_else : ℕ × ℕ → Option (ℕ × ℕ) → ℕ × ℕ
+    or_else : Form → Option Form → Form
     or_else s None = s
     or_else s (Some t) = t

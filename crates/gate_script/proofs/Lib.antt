@@ -1,9 +1,9 @@
-pub mod DeskLaws
 pub mod PieceLaws
-pub mod WordLaws
+pub mod NumberLaws
 pub mod ReportLaws
 pub mod SessionLaws
-pub mod CutLaws
-pub mod DrawLaws
-pub mod OpeningLaws
+pub mod RunLaws
+pub mod HexLaws
+pub mod GrammarLaws
+pub mod InputLaws
 pub mod CommandLaws

@@ -1,8 +1,12 @@
--- In reading order: the words, the pieces of the input, the lines and what they tell, how a run ends.
+-- In reading order: numbers, the words, the pieces of the input, a script's line, what lines do and
+-- tell, how a run ends.
+pub mod Numbers
 pub mod Words
 pub mod Pieces
 pub mod Lines
+pub mod Grammar
 pub mod Told
+pub mod Meanings
+pub mod Plays
 pub mod Outcomes
-pub mod Desk
-pub mod Session
+pub mod Running

@@ -1,120 +1,109 @@
--- How a run of `draw` ends: what it read and what it wrote, for each status.
-use Rattle.std.specs.Prelude.{◌≡◌, ℕ, List, ◌∷◌, ◌++◌, length, reverse, true, false, Option, Some, ◌⊎◌}
+-- How a run ends: what it read and what it wrote, for each status (this project's own).
+use Rattle.std.specs.Prelude.{◌≡◌, ℕ, ◌+◌, List, [], ◌∷◌, ◌++◌, length, Option, Some, ◌⊎◌}
+use Rattle.gate_model.specs.declared.answer.Answer.{Answer}
+use Rattle.gate_model.specs.declared.event.Event.{Event}
 use Rattle.gate_model.specs.Sequences.{IsLater, BeginsWith}
-use Rattle.gate_model.specs.Screens.{first_unbuilt}
-use Rattle.gate_model.specs.History.{History, is_full}
+use Rattle.gate_model.specs.Calls.{Step}
 use Rattle.gate_outside.specs.Edge.{AtEnd, came, gained}
-use Rattle.gate_script.specs.Pieces.{whole_pieces, all_pieces}
-use Rattle.gate_script.specs.Lines.{Line, server, IsStory, draw_lines}
-use Rattle.gate_script.specs.Told.{answers, framings, done_line, worn_line, unbuilt_line, IsLawful}
+use Rattle.gate_script.specs.declared.form.Form.{Form}
+use Rattle.gate_script.specs.declared.refused.Refused.{Refused}
+use Rattle.gate_script.specs.declared.refused.Refused.TheVariants.{BadLine, Worn, Unbuilt}
+use Rattle.gate_script.specs.Lines.{Line, bad}
+use Rattle.gate_script.specs.Grammar.{whole_lines, all_lines}
+use Rattle.gate_script.specs.Told.{bad_line, worn_line, unbuilt_line, worn_by, unbuilt_by}
+use Rattle.gate_script.specs.Plays.{Play, event_of, Tells}
 
--- the lines were done, and h is their story, legal and true
-pub record Done (ls : List Line) (h : History) : Type 0 where
-  pub story : IsStory ls h
-  pub lawful : IsLawful h
+-- the lines are some first lines of what the bytes read make: of the whole pieces, or at the end of the
+-- input of all of them
+abbrev pub AreFirst : Form → List ℕ → Option (List ℕ) → List Line → Type 0
+AreFirst form bytes left lines = IsLater lines (whole_lines form bytes) ⊎ (AtEnd left × IsLater lines (all_lines form bytes))
 
--- all that the lines tell was written
-pub record Tells (ls : List Line) (h : History) (a f : List ℕ) : Type 0 where
-  pub done : Done ls h
-  pub answers_are : a ≡ answers h
-  pub framings_are : f ≡ framings h
-
--- the pieces that can be done of the bytes read: the whole ones, and at the end of the input the last
-abbrev pub ArePieces : List ℕ → Option (List ℕ) → List (List ℕ) → Type 0
-ArePieces bytes left pieces = (pieces ≡ whole_pieces bytes) ⊎ (AtEnd left × (pieces ≡ all_pieces bytes))
-
--- the lines are some first lines of what the bytes read make
-pub record AreFirst (cols rows : ℕ) (bytes : List ℕ) (left : Option (List ℕ)) (ls : List Line) : Type 0 where
-  pub pieces : List (List ℕ)
-  pub are : ArePieces bytes left pieces
-  pub first : IsLater ls (draw_lines cols rows (reverse pieces))
-
--- the end of the input: every line was done, and `done` is the last answer
-pub record Finished (cols rows : ℕ) (bytes a f : List ℕ) : Type 0 where
-  pub history : History
-  pub done : Done (draw_lines cols rows (reverse (all_pieces bytes))) history
-  pub answers_are : a ≡ answers history ++ done_line history
-  pub framings_are : f ≡ framings history
+-- every line that the bytes make was done, all that they tell was written
+pub record Finished (form : Form) (bytes a f : List ℕ) : Type 0 where
+  pub play : Play
+  pub tells : Tells (all_lines form bytes) play a f
 
 -- a read fault: every whole line was done
-pub record Interrupted (cols rows : ℕ) (bytes a f : List ℕ) : Type 0 where
-  pub history : History
-  pub tells : Tells (draw_lines cols rows (reverse (whole_pieces bytes))) history a f
+pub record Interrupted (form : Form) (bytes a f : List ℕ) : Type 0 where
+  pub play : Play
+  pub tells : Tells (whole_lines form bytes) play a f
 
--- a line was refused since the session is full
-pub record IsWorn (cols rows : ℕ) (bytes : List ℕ) (left : Option (List ℕ)) (ls : List Line) (h : History) : Type 0 where
+-- the rule of the line's call refuses it with this answer
+pub record Answered (line : Line) (p : Play) (result : Answer) : Type 0 where
+  pub event : Event
+  pub is_event : event_of line p ≡ Some event
+  pub step : Step p.history event result []
+
+-- why the next line ended the run: it is outside the grammar, and this is its number; the session is
+-- full, and has so many entries; or a byte at this place has no meaning
+abbrev pub IsRefused : Refused → Line → List Line → Play → Type 0
+IsRefused (BadLine number) line lines p = (line ≡ bad) × (number ≡ length lines + 1)
+IsRefused (Worn entries) line lines p = (result : Answer) × Answered line p result × (worn_by result ≡ Some entries)
+IsRefused (Unbuilt place) line lines p = (result : Answer) × Answered line p result × (unbuilt_by result ≡ Some place)
+
+-- the last answer then
+abbrev pub last_line : Refused → List ℕ
+last_line (BadLine number) = bad_line number
+last_line (Worn entries) = worn_line entries
+last_line (Unbuilt place) = unbuilt_line place
+
+-- the next line was refused after these, of which all was written
+pub record Refuses (form : Form) (bytes a f : List ℕ) (left : Option (List ℕ)) (refused : Refused) : Type 0 where
+  pub lines : List Line
   pub next : Line
-  pub first : AreFirst cols rows bytes left (next ∷ ls)
-  pub full : is_full h ≡ true
+  pub play : Play
+  pub first : AreFirst form bytes left (next ∷ lines)
+  pub tells : Tells lines play a f
+  pub is_refused : IsRefused refused next lines play
 
--- a piece was refused for its byte at the place
-pub record IsUnbuilt (cols rows : ℕ) (bytes : List ℕ) (left : Option (List ℕ)) (ls : List Line) (h : History) (place : ℕ) : Type 0 where
-  pub piece : List ℕ
-  pub first : AreFirst cols rows bytes left (server piece ∷ ls)
-  pub not_full : is_full h ≡ false
-  pub unbuilt : first_unbuilt piece ≡ Some place
-
-pub record Worn (cols rows : ℕ) (bytes a f : List ℕ) (left : Option (List ℕ)) : Type 0 where
-  pub lines : List Line
-  pub history : History
+-- the last answer of the run was written after all the others
+pub record Ends (form : Form) (bytes a f : List ℕ) (left : Option (List ℕ)) (refused : Refused) : Type 0 where
   pub written : List ℕ
-  pub tells : Tells lines history written f
-  pub refused : IsWorn cols rows bytes left lines history
-  pub answers_are : a ≡ written ++ worn_line (length history)
-
-pub record Unbuilt (cols rows : ℕ) (bytes a f : List ℕ) (left : Option (List ℕ)) : Type 0 where
-  pub lines : List Line
-  pub history : History
-  pub written : List ℕ
-  pub place : ℕ
-  pub tells : Tells lines history written f
-  pub refused : IsUnbuilt cols rows bytes left lines history place
-  pub answers_are : a ≡ written ++ unbuilt_line place
+  pub refuses : Refuses form bytes written f left refused
+  pub answers_are : a ≡ written ++ last_line refused
 
 -- want of memory, or a fault of a sink: each sink has a front of what some first lines tell
-pub record CutShort (cols rows : ℕ) (bytes a f : List ℕ) (left : Option (List ℕ)) : Type 0 where
+pub record CutShort (form : Form) (bytes a f : List ℕ) (left : Option (List ℕ)) : Type 0 where
   pub lines : List Line
-  pub history : History
-  pub first : AreFirst cols rows bytes left lines
-  pub done : Done lines history
-  pub answers_begin : BeginsWith (answers history) a
-  pub framings_begin : BeginsWith (framings history) f
+  pub play : Play
+  pub answers : List ℕ
+  pub framings : List ℕ
+  pub first : AreFirst form bytes left lines
+  pub tells : Tells lines play answers framings
+  pub answers_begin : BeginsWith answers a
+  pub framings_begin : BeginsWith framings f
 
--- a fault of the answers' sink in the last answer, after all that the lines tell
-pub record LastCutShort (cols rows : ℕ) (bytes a f : List ℕ) (left : Option (List ℕ)) : Type 0 where
-  pub lines : List Line
-  pub history : History
+-- a fault of the answers' sink in the last answer of the run
+pub record LastCutShort (form : Form) (bytes a f : List ℕ) (left : Option (List ℕ)) : Type 0 where
+  pub refused : Refused
   pub written : List ℕ
-  pub last : List ℕ
-  pub tells : Tells lines history written f
-  pub is_last : ((lines ≡ draw_lines cols rows (reverse (all_pieces bytes))) × AtEnd left × (last ≡ done_line history))
-      ⊎ (IsWorn cols rows bytes left lines history × (last ≡ worn_line (length history)))
-      ⊎ ((place : ℕ) × IsUnbuilt cols rows bytes left lines history place × (last ≡ unbuilt_line place))
-  pub answers_begin : BeginsWith (written ++ last) a
+  pub refuses : Refuses form bytes written f left refused
+  pub answers_begin : BeginsWith (written ++ last_line refused) a
 
-abbrev pub WriteFault : ℕ → ℕ → List ℕ → List ℕ → List ℕ → Option (List ℕ) → Type 0
-WriteFault cols rows bytes a f left = CutShort cols rows bytes a f left ⊎ LastCutShort cols rows bytes a f left
+abbrev pub WriteFault : Form → List ℕ → List ℕ → List ℕ → Option (List ℕ) → Type 0
+WriteFault form bytes a f left = CutShort form bytes a f left ⊎ LastCutShort form bytes a f left
 
 -- what a call read and wrote, where the ends tell it
-pub record Ran (left left' wrote wrote' framed framed' : Option (List ℕ)) (Ends : List ℕ → List ℕ → List ℕ → Type 0) : Type 0 where
+pub record Ran (left left' wrote wrote' framed framed' : Option (List ℕ)) (P : List ℕ → List ℕ → List ℕ → Type 0) : Type 0 where
   pub bytes : List ℕ
   pub a : List ℕ
   pub f : List ℕ
   pub read : left ≡ came bytes left'
   pub answered : wrote' ≡ gained wrote a
   pub framed_on : framed' ≡ gained framed f
-  pub ends : Ends bytes a f
+  pub holds : P bytes a f
 
--- the statuses of `draw`
+-- the statuses of a run
 abbrev pub IsStatus : ℕ → Type 0
-IsStatus status = (status ≡ 0) ⊎ (status ≡ 4) ⊎ (status ≡ 5) ⊎ (status ≡ 6) ⊎ (status ≡ 7) ⊎ (status ≡ 9)
+IsStatus status = (status ≡ 0) ⊎ (status ≡ 3) ⊎ (status ≡ 4) ⊎ (status ≡ 5) ⊎ (status ≡ 6) ⊎ (status ≡ 7) ⊎ (status ≡ 9)
 
 -- what each status says of the bytes read, the answers and the frames
-pub record Outcome (status cols rows : ℕ) (left : Option (List ℕ)) (bytes a f : List ℕ) : Type 0 where
-  pub done : status ≡ 0 → AtEnd left × Finished cols rows bytes a f
-  pub read_fault : status ≡ 4 → Interrupted cols rows bytes a f
-  pub write_fault : status ≡ 5 → WriteFault cols rows bytes a f left
-  pub memory : status ≡ 6 → CutShort cols rows bytes a f left
-  pub worn : status ≡ 7 → Worn cols rows bytes a f left
-  pub unbuilt : status ≡ 9 → Unbuilt cols rows bytes a f left
+pub record Outcome (status : ℕ) (form : Form) (left : Option (List ℕ)) (bytes a f : List ℕ) : Type 0 where
+  pub done : status ≡ 0 → AtEnd left × Finished form bytes a f
+  pub bad_script : status ≡ 3 → (number : ℕ) × Ends form bytes a f left (BadLine number)
+  pub read_fault : status ≡ 4 → Interrupted form bytes a f
+  pub write_fault : status ≡ 5 → WriteFault form bytes a f left
+  pub memory : status ≡ 6 → CutShort form bytes a f left
+  pub worn : status ≡ 7 → (entries : ℕ) × Ends form bytes a f left (Worn entries)
+  pub unbuilt : status ≡ 9 → (place : ℕ) × Ends form bytes a f left (Unbuilt place)
   pub only : IsStatus status

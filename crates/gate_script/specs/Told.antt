@@ -1,12 +1,24 @@
--- What a history tells: the answers and the frames that are printed (this project's own).
-use Rattle.std.specs.Prelude.{ℕ, List, [], ◌∷◌, ◌++◌, codes, decimal, flat_map}
+-- What is printed: the answers to calls, and the frames (this project's own).
+use Rattle.std.specs.Prelude.{ℕ, List, [], ◌∷◌, ◌++◌, codes, decimal, flat_map, Option, Some, None, Result, Ok, Err}
+use Rattle.gate_model.specs.declared.answer.Answer.{Answer}
+use Rattle.gate_model.specs.declared.answer.Answer.TheVariants.{Feed as fed, Join as joined_as, Read as was_read, Write as was_written}
 use Rattle.gate_model.specs.declared.entry.Entry.{Entry}
 use Rattle.gate_model.specs.declared.entry.Entry.TheVariants.{Start, Feed, Join, Read}
+use Rattle.gate_model.specs.declared.feed_refusal.FeedRefusal.{FeedRefusal}
+use Rattle.gate_model.specs.declared.feed_refusal.FeedRefusal.TheVariants.{Closed as feed_closed, Worn as feed_worn, Unbuilt as feed_unbuilt}
+use Rattle.gate_model.specs.declared.join_refusal.JoinRefusal.{JoinRefusal}
+use Rattle.gate_model.specs.declared.join_refusal.JoinRefusal.TheVariants.{Closed as join_closed, Worn as join_worn, Forbidden, TooMany}
+use Rattle.gate_model.specs.declared.joined.Joined.{Joined}
+use Rattle.gate_model.specs.declared.read_answer.ReadAnswer.{ReadAnswer}
+use Rattle.gate_model.specs.declared.read_answer.ReadAnswer.TheVariants.{Frames, Fresh, Ended, Empty, Hold}
+use Rattle.gate_model.specs.declared.read_refusal.ReadRefusal.{ReadRefusal}
+use Rattle.gate_model.specs.declared.read_refusal.ReadRefusal.TheVariants.{NoViewer as read_no_viewer, Worn as read_worn}
+use Rattle.gate_model.specs.declared.write_refusal.WriteRefusal.{WriteRefusal}
+use Rattle.gate_model.specs.declared.write_refusal.WriteRefusal.TheVariants.{NoViewer as write_no_viewer, Closed as write_closed, Worn as write_worn}
+use Rattle.gate_model.specs.declared.written.Written.{Written}
 use Rattle.gate_model.specs.Text.{texts}
-use Rattle.gate_model.specs.History.{History, newest}
+use Rattle.gate_model.specs.History.{History}
 use Rattle.gate_model.specs.Delivered.{delivered, given}
-use Rattle.gate_model.specs.Truth.{Faithful}
-use Rattle.gate_model.specs.Steps.{Legal}
 
 abbrev pub blank_and : ℕ → List ℕ
 blank_and n = 32 ∷ decimal n
@@ -19,18 +31,62 @@ answer_line word ns = word ++ flat_map blank_and ns ++ 10 ∷ []
 unfoldable pub frames_line : ℕ → List ℕ → List ℕ
 frames_line viewer text = decimal viewer ++ 32 ∷ text ++ 10 ∷ []
 
--- the answer to the line that added e after g
-abbrev pub answer : History → Entry → List ℕ
-answer g (Start cols rows mode term entries stamp frame) = answer_line (codes "started") (stamp ∷ [])
-answer g (Feed bytes stamp frame) = answer_line (codes "synced") (stamp ∷ [])
-answer g (Join viewer role first) = answer_line (codes "joined") (viewer ∷ newest g ∷ [])
-answer g e = []
+abbrev pub refused_line : ℕ → List ℕ
+refused_line status = answer_line (codes "refused") (status ∷ [])
 
-abbrev pub answers : History → List ℕ
-answers [] = []
-answers (e ∷ g) = answers g ++ answer g e
+-- the answer to a call of the desk; there is none where the run ends with it
+abbrev pub feed_answer : Result ℕ FeedRefusal → Option (List ℕ)
+feed_answer (Ok stamp) = Some (answer_line (codes "synced") (stamp ∷ []))
+feed_answer (Err (feed_closed cause)) = Some (refused_line 523)
+feed_answer (Err refusal) = None
 
--- the frame that e made, or what it gave a viewer
+abbrev pub join_answer : Result Joined JoinRefusal → Option (List ℕ)
+join_answer (Ok joined) = Some (answer_line (codes "joined") (joined.viewer ∷ joined.stamp ∷ []))
+join_answer (Err (join_closed cause)) = Some (refused_line 523)
+join_answer (Err Forbidden) = Some (refused_line 771)
+join_answer (Err (TooMany live joined)) = Some (refused_line 797)
+join_answer (Err refusal) = None
+
+-- in this version no session is closed
+abbrev pub read_told : ReadAnswer → List ℕ
+read_told (Frames count stamp closed) = answer_line (codes "frames") (count ∷ stamp ∷ [])
+read_told (Fresh stamp closed) = answer_line (codes "fresh") (stamp ∷ [])
+read_told Ended = answer_line (codes "ended") []
+read_told Empty = answer_line (codes "empty") []
+read_told (Hold waiting) = answer_line (codes "hold") []
+
+abbrev pub read_answer : Result ReadAnswer ReadRefusal → Option (List ℕ)
+read_answer (Ok answer) = Some (read_told answer)
+read_answer (Err read_no_viewer) = Some (refused_line 516)
+read_answer (Err refusal) = None
+
+abbrev pub write_answer : Result Written WriteRefusal → Option (List ℕ)
+write_answer (Ok counts) = Some (answer_line (codes "written") (counts.keys ∷ counts.denied ∷ []))
+write_answer (Err write_no_viewer) = Some (refused_line 516)
+write_answer (Err (write_closed cause)) = Some (refused_line 523)
+write_answer (Err refusal) = None
+
+abbrev pub answer_to : Answer → Option (List ℕ)
+answer_to (fed result) = feed_answer result
+answer_to (joined_as result) = join_answer result
+answer_to (was_read result) = read_answer result
+answer_to (was_written result) = write_answer result
+answer_to answer = None
+
+-- how many entries a full session has, where the call was refused for that
+abbrev pub worn_by : Answer → Option ℕ
+worn_by (fed (Err (feed_worn entries))) = Some entries
+worn_by (joined_as (Err (join_worn entries))) = Some entries
+worn_by (was_read (Err (read_worn entries))) = Some entries
+worn_by (was_written (Err (write_worn entries))) = Some entries
+worn_by answer = None
+
+-- the place of a byte without a meaning, where the call was refused for it
+abbrev pub unbuilt_by : Answer → Option ℕ
+unbuilt_by (fed (Err (feed_unbuilt place))) = Some place
+unbuilt_by answer = None
+
+-- the frame that an entry after g made, or what it gave a viewer
 abbrev pub framing : History → Entry → List ℕ
 framing g (Start cols rows mode term entries stamp frame) = frames_line 0 (texts frame)
 framing g (Feed bytes stamp frame) = frames_line 0 (texts frame)
@@ -38,21 +94,16 @@ framing g (Join viewer role first) = frames_line viewer (texts first)
 framing g (Read viewer how) = frames_line viewer (texts (given g (delivered g viewer) viewer (Read viewer how)))
 framing g e = []
 
-abbrev pub framings : History → List ℕ
-framings [] = []
-framings (e ∷ g) = framings g ++ framing g e
+-- what the entries that a call added, none or one, tell
+abbrev pub framings : History → List Entry → List ℕ
+framings g added = flat_map (framing g) added
 
--- the last answers: at the end of the input, at a full session, and at a byte without a meaning
-abbrev pub done_line : History → List ℕ
-done_line h = answer_line (codes "done") (newest h ∷ [])
+-- the last answers: a line outside the grammar, a full session, a byte without a meaning
+abbrev pub bad_line : ℕ → List ℕ
+bad_line number = answer_line (codes "bad script line") (number ∷ [])
 
 abbrev pub worn_line : ℕ → List ℕ
 worn_line count = answer_line (codes "worn") (count ∷ [])
 
 abbrev pub unbuilt_line : ℕ → List ℕ
 unbuilt_line place = answer_line (codes "unbuilt") (place ∷ [])
-
--- a history that is legal and true; before the first line it is empty
-abbrev pub IsLawful : History → Type 0
-IsLawful [] = Unit {0}
-IsLawful (e ∷ g) = Legal (e ∷ g) × Faithful (e ∷ g)

@@ -1,25 +1,31 @@
 //! The words, and the status that a run ends with.
 
-ghost use Rattle.std.specs.Prelude.{◌≡◌, ◌≤◌, ◌↔◌, ◌⊎◌, ℕ, map, string_bytes, None, Some};
+ghost use Rattle.std.specs.Prelude.{◌≡◌, ◌≤◌, ◌↔◌, ◌⊎◌, [], Option, List, ℕ, map, string_bytes, IfErr, None, Some};
 ghost use Rattle.gate_outside.specs.Edge.{Rose};
-ghost use Rattle.gate_script.specs.Words.{draw_size};
-ghost use Rattle.gate_script.specs.Outcomes.{Outcome, Ran};
-ghost use Rattle.gate_script.specs.Session.{Ended, status_after};
+ghost use Rattle.gate_script.specs.declared.form.Form.{Form as Forms};
+ghost use Rattle.gate_script.specs.Words.{IsForm, form_of};
+ghost use Rattle.gate_script.specs.Outcomes.{Outcome, Ran, last_line};
+ghost use Rattle.gate_script.specs.Running.{Ended, HasCause, HasRead, Put, RunEnds, refused_status, status_after};
 
-use crate::draw::draw;
+use crate::form::Form;
+use crate::input::Input;
+use crate::refused::Refused;
 use crate::report::say;
+use crate::run::Run;
 use crate::stop::Stop;
-use crate::words::draw_size;
+use crate::words::form_of;
 use gate_outside::{Sink, Source};
 use std::alloc::Global;
 
-/// Does what the words say, and answers the status. The words are those after the program's name, and
-/// the one form is `draw COLS ROWS`: 1 to 512 columns, 1 to 256 rows, at most 8,192 cells, each number
-/// 1 to 20 decimal digits.
+/// Does what the words say, and answers the status. The words are those after the program's name, in
+/// one of these forms, with numbers of 1 to 20 decimal digits (this project's own rule).
 ///
-/// The statuses (this project's own rule): 0, the input was read to its end; 2, the words are of no
-/// form, and nothing is read or written; 4, the source failed; 5, a sink failed; 6, want of memory; 7,
-/// the session may have no more entries; 9, a piece has a byte without a meaning.
+/// - `draw COLS ROWS`: 1 to 512 columns, 1 to 256 rows, at most 8,192 cells.
+/// - `script` or `script ENTRIES`: 1 to 2^40 entries, 2^40 where none is given.
+///
+/// The statuses: 0, the input was read to its end; 2, the words are of no form, and nothing is read or
+/// written; 3, a line of the script is outside the grammar; 4, the source failed; 5, a sink failed; 6,
+/// want of memory; 7, the session may have no more entries; 9, a piece has a byte without a meaning.
 pub fn command<S: Source, A: Sink, F: Sink>(
     alloc: Global,
     words: &[String],
@@ -27,13 +33,13 @@ pub fn command<S: Source, A: Sink, F: Sink>(
     answers: &mut A,
     frames: &mut F,
 ) -> u8
-    ensures usage { (draw_size (map string_bytes words.now) ≡ None) ↔ (result ≡ 2) }
+    ensures usage { (form_of (map string_bytes words.now) ≡ None) ↔ (result ≡ 2) }
     ensures nothing { result ≡ 2 → (S.left source.new ≡ S.left source.old) × (A.written answers.new ≡ A.written answers.old) × (F.written frames.new ≡ F.written frames.old) }
 
     // What each other status says of the bytes read and written.
-    ensures outcome { (cols rows : ℕ) → draw_size (map string_bytes words.now) ≡ Some (cols, rows) →
+    ensures outcome { (form : Forms) → form_of (map string_bytes words.now) ≡ Some form →
         Ran (S.left source.old) (S.left source.new) (A.written answers.old) (A.written answers.new) (F.written frames.old) (F.written frames.new)
-        (Outcome result cols rows (S.left source.new)) }
+        (Outcome result form (S.left source.new)) }
 
     // A fault is answered only where the count of the source, or of a sink, rose in this call.
     ensures read_fault { result ≡ 4 → Rose (S.faults source.old) (S.faults source.new) }
@@ -42,11 +48,34 @@ pub fn command<S: Source, A: Sink, F: Sink>(
     ensures later_answers { A.faults answers.old ≤ A.faults answers.new }
     ensures later_frames { F.faults frames.old ≤ F.faults frames.new }
 {
-    let Some(size) = draw_size(words) else {
+    let Some(form) = form_of(words) else {
         return 2;
     };
-    let ended = draw(alloc, size, source, answers, frames);
+    let ended = run(alloc, form, source, answers, frames);
     status(alloc, ended, answers)
+}
+
+// Opens a run of this form, reads the input to its end and does it.
+fn run<S: Source, A: Sink, F: Sink>(
+    alloc: Global,
+    form: Form,
+    source: &mut S,
+    answers: &mut A,
+    frames: &mut F,
+) -> Result<(), Stop>
+    requires { IsForm form }
+    ensures ran { HasRead (S.left source.old) (S.left source.new) (λ bytes. RunEnds form bytes (S.left source.new) result (A.written answers.old) (F.written frames.old) (A.written answers.new) (F.written frames.new)) }
+    ensures later_source { S.faults source.old ≤ S.faults source.new }
+    ensures later_answers { A.faults answers.old ≤ A.faults answers.new }
+    ensures later_frames { F.faults frames.old ≤ F.faults frames.new }
+    ensures cause { IfErr result (λ stop. HasCause stop (Rose (S.faults source.old) (S.faults source.new)) (Rose (A.faults answers.old) (A.faults answers.new) ⊎ Rose (F.faults frames.old) (F.faults frames.new))) }
+{
+    let mut input = Input {
+        run: Run::new(alloc, form),
+        piece: Vec::new(alloc),
+    };
+    input.run.open(alloc, answers, frames)?;
+    input.read_all(alloc, source, answers, frames)
 }
 
 // The status of a run, after its last answer where it has one.
@@ -54,20 +83,39 @@ fn status<A: Sink>(alloc: Global, ended: Result<(), Stop>, answers: &mut A) -> u
     ensures ended { Ended ended result (Rose (A.faults answers.old) (A.faults answers.new)) (A.written answers.old) (A.written answers.new) }
     ensures later { A.faults answers.old ≤ A.faults answers.new }
 {
-    let mut line = Vec::new(alloc);
     match ended {
         Ok(()) => 0,
         Err(Stop::ReadFault) => 4,
-        Err(Stop::AnswersFault | Stop::FramesFault) => 5,
+        Err(Stop::WriteFault) => 5,
         Err(Stop::NoMemory) => 6,
-        Err(Stop::Worn { entries }) => {
-            let said = say(&mut line, "worn", &[entries], answers);
-            status_after(said, 7)
+        Err(Stop::Refused(refused)) => {
+            status_after(say_last(alloc, refused, answers), refused_status(refused))
         }
-        Err(Stop::Unbuilt { place }) => {
-            let said = say(&mut line, "unbuilt", &[place as u64], answers);
-            status_after(said, 9)
-        }
+    }
+}
+
+// Writes the last answer.
+fn say_last<A: Sink>(alloc: Global, refused: Refused, answers: &mut A) -> Result<(), Stop>
+    ensures put { Put result (last_line refused) (A.written answers.old) (A.written answers.new) }
+    ensures later { A.faults answers.old ≤ A.faults answers.new }
+    ensures cause { IfErr result (λ stop. HasCause stop ⊥ (Rose (A.faults answers.old) (A.faults answers.new))) }
+{
+    let mut line = Vec::new(alloc);
+    match refused {
+        Refused::BadLine(number) => say(&mut line, "bad script line", &[number], answers),
+        Refused::Worn(entries) => say(&mut line, "worn", &[entries], answers),
+        Refused::Unbuilt(place) => say(&mut line, "unbuilt", &[place as u64], answers),
+    }
+}
+
+// The status of a refused line.
+fn refused_status(refused: Refused) -> u8
+    ensures { result ≡ refused_status refused }
+{
+    match refused {
+        Refused::BadLine(_) => 3,
+        Refused::Worn(_) => 7,
+        Refused::Unbuilt(_) => 9,
     }
 }
 
@@ -77,7 +125,7 @@ fn status_after(said: Result<(), Stop>, status: u8) -> u8
 {
     match said {
         Ok(()) => status,
-        Err(Stop::AnswersFault) => 5,
+        Err(Stop::WriteFault) => 5,
         Err(_) => 6,
     }
 }

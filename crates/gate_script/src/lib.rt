@@ -1,16 +1,24 @@
-//! The commands that run over text: `draw`, which draws what a Telnet host would have sent.
+//! The commands that run over text: `draw`, which draws what a Telnet host would have sent, and `script`,
+//! which does the lines of a script.
 //!
 //! `command` is the public call. Its contract says for each status what was read and written: the
-//! answers and the frames are just what a legal and true history tells (`specs/Outcomes.antt`,
-//! `specs/Told.antt`), whose story are the lines that the input makes (`specs/Lines.antt`).
+//! answers and the frames are just what the lines that the input makes (`specs/Grammar.antt`) tell of a
+//! legal and true history (`specs/Plays.antt`, `specs/Outcomes.antt`).
 #![tactic(auto)]
 
 mod commands;
-mod desk;
-mod draw;
+mod form;
+mod grammar;
+mod hexadecimal;
+mod input;
+mod line;
+mod numbers;
 mod pieces;
+mod refused;
 mod report;
+mod run;
 mod session;
+mod size;
 mod stop;
 #[cfg(test)]
 mod tests;

@@ -4,9 +4,6 @@ ghost use Rattle.std.specs.Prelude.{◌≡◌, ◌++◌, ◌∷◌, [], ◌<◌,
 ghost use Rattle.std.specs.List.{position_or_len};
 ghost use Rattle.gate_script.specs.Pieces.{first_piece, is_line_feed};
 
-/// The most bytes of a piece.
-pub(crate) const MOST_PIECE: usize = 65536;
-
 /// How many of the bytes at hand go on with the piece that has begun, and whether it is whole then.
 #[derive(Clone, Copy)]
 pub(crate) struct Part {
@@ -14,17 +11,18 @@ pub(crate) struct Part {
     pub whole: bool,
 }
 
-/// The part of the bytes at hand that belongs to the piece that has begun.
-pub(crate) fn next_part(piece: &[u8], bytes: &[u8]) -> Part
-    requires begun { first_piece piece.now ≡ None }
+/// The part of the bytes at hand that belongs to the piece that has begun. A piece has at most `most`
+/// bytes.
+pub(crate) fn next_part(most: usize, piece: &[u8], bytes: &[u8]) -> Part
+    requires begun { first_piece most piece.now ≡ None }
     requires some { 0 < length bytes.now }
     ensures some { 0 < result.count }
     ensures within { result.count ≤ length bytes.now }
-    ensures few { length piece.now + result.count ≤ 65536 }
-    ensures whole { result.whole ≡ true → first_piece (piece.now ++ take result.count bytes.now) ≡ Some ((piece.now ++ take result.count bytes.now) ∷ [], []) }
-    ensures unfinished { result.whole ≡ false → first_piece (piece.now ++ take result.count bytes.now) ≡ None }
+    ensures few { length piece.now + result.count ≤ most }
+    ensures whole { result.whole ≡ true → first_piece most (piece.now ++ take result.count bytes.now) ≡ Some ((piece.now ++ take result.count bytes.now) ∷ [], []) }
+    ensures unfinished { result.whole ≡ false → first_piece most (piece.now ++ take result.count bytes.now) ≡ None }
 {
-    let room = MOST_PIECE - piece.len();
+    let room = most - piece.len();
     let count = room.min(line_length(bytes) + 1);
     if count <= bytes.len() {
         Part { count, whole: true }

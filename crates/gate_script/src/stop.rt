@@ -1,6 +1,7 @@
 ghost use Rattle.std.specs.Prelude.{◌≡◌};
 ghost use Rattle.gate_script.specs.declared.stop.Stop.TheVariants.{NoMemory as no_memory};
 
+use crate::refused::Refused;
 use gate_model::NoMemory;
 use std::alloc::{AllocError, AllocFailed};
 
@@ -9,16 +10,12 @@ use std::alloc::{AllocError, AllocFailed};
 pub(crate) enum Stop {
     /// The source failed.
     ReadFault,
-    /// The answers' sink failed.
-    AnswersFault,
-    /// The frames' sink failed.
-    FramesFault,
+    /// A sink failed.
+    WriteFault,
     /// Want of memory.
     NoMemory,
-    /// The session has this many entries, and may have no more.
-    Worn { entries: u64 },
-    /// A piece has a byte without a meaning at this place.
-    Unbuilt { place: usize },
+    /// A line was refused.
+    Refused(Refused),
 }
 
 impl From<NoMemory> for Stop {

@@ -108,6 +108,11 @@ fn faulty_words_read_and_write_nothing(rt: HostRuntime) -> Result<(), Fail> {
         "draw  24",
         "draw 000000000000000000001 24",
         "DRAW 80 24",
+        "script 0",
+        "script 1099511627777",
+        "script x",
+        "script 3 4",
+        "SCRIPT",
         "--help",
     ];
     for words in table {
@@ -188,5 +193,183 @@ fn a_piece_ends_after_65536_bytes_without_a_line_feed(rt: HostRuntime) -> Result
         assert_eq!(rt; ran.status, 0);
         assert_eq!(rt; ran.answers.written(), answers.as_bytes());
     }
+    Ok(())
+}
+
+// Runs a script, and compares its status and its answers.
+fn answers_are(
+    alloc: Global,
+    words: &str,
+    script: &[u8],
+    status: u8,
+    answers: &str,
+) -> Result<bool, Fail> {
+    let ran = run(alloc, words, script, NO_FAULT)?;
+    Ok(ran.status == status && ran.answers.written() == answers.as_bytes())
+}
+
+/// A full session ends the run at the next entry, a clock that falls back makes no stamp fall, and a
+/// viewer who isn't there is refused.
+#[test]
+fn the_rows_of_scripts_have_their_answers_and_statuses(rt: HostRuntime) -> Result<(), Fail> {
+    let table = [
+        (
+            "script 3",
+            "start 80 24 none\njoin owner\nserver 41\nserver 42\n",
+            7,
+            "started 1\njoined 1 1\nsynced 2\nworn 3\n",
+        ),
+        (
+            "script",
+            "at 1000\nstart 1 1 none\nat 10\nserver 0d\nat 9007199254740993\nserver 0d\nserver 0d\n",
+            0,
+            "now 1000\nstarted 1000\nnow 10\nsynced 1001\nnow 9007199254740993\nsynced 9007199254740992\nsynced 9007199254740993\n",
+        ),
+        (
+            "script 1099511627776",
+            "start 80 24 none\njoin owner\nserver 41\nserver 42\nread 1\nread 1\nread 9\n",
+            0,
+            "started 1\njoined 1 1\nsynced 2\nsynced 3\nframes 2 3\nempty\nrefused 516\n",
+        ),
+        (
+            "script 3",
+            "start 80 24 none\njoin owner\nserver 41\nread 9\nread 1\n",
+            7,
+            "started 1\njoined 1 1\nsynced 2\nrefused 516\nworn 3\n",
+        ),
+        (
+            "script 1",
+            "start 80 24 view\njoin owner\n",
+            7,
+            "started 1\nworn 1\n",
+        ),
+        (
+            "script",
+            "start 80 24 control\nserver 410a07\n",
+            9,
+            "started 1\nunbuilt 2\n",
+        ),
+        ("script", "", 0, ""),
+    ];
+    for (words, script, status, answers) in table {
+        let same = answers_are(rt.alloc(), words, script.as_bytes(), status, answers)?;
+        assert!(rt; same, "at {script}");
+    }
+    Ok(())
+}
+
+/// Words stand one blank apart, a comment and an empty line count as lines, and `start` comes once,
+/// before all but `at`.
+#[test]
+fn lines_outside_the_grammar_are_named_by_their_numbers(rt: HostRuntime) -> Result<(), Fail> {
+    let table = [
+        ("start 513 1 none\n", 3, "bad script line 1\n"),
+        ("start 1 257 none\n", 3, "bad script line 1\n"),
+        ("start 512 17 none\n", 3, "bad script line 1\n"),
+        ("start 1 1 nobody\n", 3, "bad script line 1\n"),
+        ("start 1 1\n", 3, "bad script line 1\n"),
+        ("start 1 1 none x\n", 3, "bad script line 1\n"),
+        ("start  1 1 none\n", 3, "bad script line 1\n"),
+        (" start 1 1 none\n", 3, "bad script line 1\n"),
+        ("start 1 1 none \n", 3, "bad script line 1\n"),
+        ("START 1 1 none\n", 3, "bad script line 1\n"),
+        ("start\t01 1\tnone\r\n", 0, "started 1\n"),
+        ("start 1 1 none", 0, "started 1\n"),
+        ("start 1 1 none\r", 3, "bad script line 1\n"),
+        ("# a\n\n\r\nread\n", 3, "bad script line 4\n"),
+        ("read 1\n", 3, "bad script line 1\n"),
+        ("at 3\nserver 41\n", 3, "now 3\nbad script line 2\n"),
+        ("at 18446744073709551616\n", 3, "bad script line 1\n"),
+        ("at -1\n", 3, "bad script line 1\n"),
+        (
+            "start 1 1 none\nstart 1 1 none\n",
+            3,
+            "started 1\nbad script line 2\n",
+        ),
+        (
+            "start 1 1 none\nserver 4\n",
+            3,
+            "started 1\nbad script line 2\n",
+        ),
+        (
+            "start 1 1 none\nserver 4g\n",
+            3,
+            "started 1\nbad script line 2\n",
+        ),
+        (
+            "start 1 1 none\nserver \n",
+            3,
+            "started 1\nbad script line 2\n",
+        ),
+        (
+            "start 1 1 none\nserver 7E7e0D\n",
+            0,
+            "started 1\nsynced 2\n",
+        ),
+        (
+            "start 1 1 none\njoin nobody\n",
+            3,
+            "started 1\nbad script line 2\n",
+        ),
+        (
+            "start 1 1 none\nread 4294967296\n",
+            3,
+            "started 1\nbad script line 2\n",
+        ),
+        (
+            "start 1 1 none\nread 4294967295\n",
+            0,
+            "started 1\nrefused 516\n",
+        ),
+    ];
+    for (script, status, answers) in table {
+        let same = answers_are(rt.alloc(), "script", script.as_bytes(), status, answers)?;
+        assert!(rt; same, "at {script}");
+    }
+    Ok(())
+}
+
+/// A line has at most 262,144 bytes, without its end.
+#[test]
+fn a_line_of_262145_bytes_is_outside_the_grammar(rt: HostRuntime) -> Result<(), Fail> {
+    let alloc = rt.alloc();
+    let mut script = vec![in alloc; b'#'; 262144]?;
+    script.extend_from_slice(b"\r\nat 7\n")?;
+    assert!(rt; answers_are(alloc, "script", &script, 0, "now 7\n")?);
+    script.truncate(262144);
+    script.extend_from_slice(b"#\nat 7\n")?;
+    assert!(rt; answers_are(alloc, "script", &script, 3, "bad script line 1\n")?);
+    Ok(())
+}
+
+/// A call that fails ends the run with its status, and nothing is told after it.
+#[test]
+fn a_fault_in_a_script_has_its_status(rt: HostRuntime) -> Result<(), Fail> {
+    let script = b"start 80 24 none\njoin owner\nserver 41\nread 1\n".as_slice();
+    let source = Faults {
+        source: 1,
+        ..NO_FAULT
+    };
+    let ran = run(rt.alloc(), "script", script, source)?;
+    assert_eq!(rt; ran.status, 4);
+    assert_eq!(rt; ran.answers.written(), b"".as_slice());
+    assert_eq!(rt; ran.frames.written(), b"".as_slice());
+    let answers = Faults {
+        answers: 1,
+        ..NO_FAULT
+    };
+    let ran = run(rt.alloc(), "script", script, answers)?;
+    assert_eq!(rt; ran.status, 5);
+    assert_eq!(rt; ran.answers.written(), b"".as_slice());
+    Ok(())
+}
+
+/// The frames of `draw` are those of the script that it stands for.
+#[test]
+fn a_script_writes_the_frames_of_draw(rt: HostRuntime) -> Result<(), Fail> {
+    let script = b"start 1 1 none\njoin owner\nserver 0a\nread 1\n".as_slice();
+    let ran = run(rt.alloc(), "script", script, NO_FAULT)?;
+    assert_eq!(rt; ran.status, 0);
+    assert_eq!(rt; ran.frames.written(), FRAMES);
     Ok(())
 }

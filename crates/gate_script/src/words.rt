@@ -1,34 +1,65 @@
 //! The words of the program, read by hand.
 
-ghost use Rattle.std.specs.Prelude.{◌≡◌, map, true, option_map, string_bytes, IfSome};
-ghost use Rattle.std.specs.List.{list_all};
+ghost use Rattle.std.specs.Prelude.{◌≡◌, map, string_bytes, IfSome};
 ghost use Rattle.gate_model.specs.Steps.{IsScreenSize};
-ghost use Rattle.gate_script.specs.Words.{draw_size, is_digit, is_number, number_of, sized, value_from};
+ghost use Rattle.gate_script.specs.Words.{IsForm, counted, drawing, form_of, size_of, sized};
 
-/// A screen's columns and rows.
-#[derive(Clone, Copy)]
-pub(crate) struct Size {
-    pub cols: u16,
-    pub rows: u16,
+use crate::form::Form;
+use crate::numbers::number;
+use crate::size::Size;
+
+/// The most entries of a session.
+const MOST_ENTRIES: u64 = 1 << 40;
+
+/// The form of the words, if they are of one.
+pub(crate) fn form_of(words: &[String]) -> Option<Form>
+    ensures exact { result ≡ form_of (map string_bytes words.now) }
+    ensures in_range { IfSome result IsForm }
+{
+    match words {
+        [name] if name.as_str() == "script" => Some(Form::Script(MOST_ENTRIES)),
+        [name, entries] if name.as_str() == "script" => script(number(entries.as_bytes())),
+        [name, cols, rows] if name.as_str() == "draw" => {
+            draw(size_of(cols.as_bytes(), rows.as_bytes()))
+        }
+        _ => None,
+    }
 }
 
-/// The size of the words `draw COLS ROWS`, or None where the words aren't of that form.
-pub(crate) fn draw_size(words: &[String]) -> Option<Size>
-    ensures exact { option_map (λ s. (s.cols, s.rows)) result ≡ draw_size (map string_bytes words.now) }
+/// The size that two words give, where it is one of a screen that the commands open: 1 to 512 columns, 1
+/// to 256 rows, and at most 8,192 cells.
+pub(crate) fn size_of(cols: &[u8], rows: &[u8]) -> Option<Size>
+    ensures exact { result ≡ size_of cols.now rows.now }
     ensures in_range { IfSome result (λ s. IsScreenSize s.cols s.rows) }
 {
-    let [name, cols, rows] = words else {
-        return None;
-    };
-    if name.as_str() != "draw" {
-        return None;
+    sized(number(cols), number(rows))
+}
+
+// The form `draw`.
+fn draw(size: Option<Size>) -> Option<Form>
+    requires { IfSome size (λ s. IsScreenSize s.cols s.rows) }
+    ensures exact { result ≡ drawing size }
+    ensures in_range { IfSome result IsForm }
+{
+    Some(Form::Draw(size?))
+}
+
+// The form `script`, where its session may have so many entries.
+fn script(entries: Option<u128>) -> Option<Form>
+    ensures exact { result ≡ counted entries }
+    ensures in_range { IfSome result IsForm }
+{
+    let entries = u64::try_from(entries?).ok()?;
+    if 1 <= entries && entries <= MOST_ENTRIES {
+        Some(Form::Script(entries))
+    } else {
+        None
     }
-    sized(number(cols.as_bytes()), number(rows.as_bytes()))
 }
 
 // The size, where both words were numbers and the screen is one that the commands open.
 fn sized(cols: Option<u128>, rows: Option<u128>) -> Option<Size>
-    ensures exact { option_map (λ s. (s.cols, s.rows)) result ≡ sized cols rows }
+    ensures exact { result ≡ sized cols rows }
     ensures in_range { IfSome result (λ s. IsScreenSize s.cols s.rows) }
 {
     let cols = u16::try_from(cols?).ok()?;
@@ -39,48 +70,4 @@ fn sized(cols: Option<u128>, rows: Option<u128>) -> Option<Size>
     } else {
         None
     }
-}
-
-// The number of 1 to 20 decimal digits.
-fn number(word: &[u8]) -> Option<u128>
-    ensures { result ≡ number_of word.now }
-{
-    if is_number(word) {
-        Some(value(word))
-    } else {
-        None
-    }
-}
-
-// Whether the word is 1 to 20 decimal digits.
-fn is_number(word: &[u8]) -> bool
-    ensures { result ≡ is_number word.now }
-{
-    1 <= word.len() && word.len() <= 20 && all_digits(word)
-}
-
-// Whether every byte is a decimal digit.
-fn all_digits(word: &[u8]) -> bool
-    ensures { result ≡ list_all is_digit word.now }
-{
-    word.iter().all(|byte| is_digit(*byte))
-}
-
-// Whether the byte is a decimal digit.
-fn is_digit(byte: u8) -> bool
-    ensures { result ≡ is_digit byte }
-{
-    byte.is_ascii_digit()
-}
-
-// The number that the digits make.
-fn value(digits: &[u8]) -> u128
-    requires { is_number digits.now ≡ true }
-    ensures { result ≡ value_from 0 digits.now }
-{
-    let mut number: u128 = 0;
-    for digit in digits {
-        number = number * 10 + (*digit - b'0') as u128;
-    }
-    number
 }

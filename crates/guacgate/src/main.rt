@@ -1,11 +1,12 @@
 //! The program `guacgate`: it draws what a Telnet host sent, as the instructions of the Guacamole
-//! protocol that a viewer is given.
+//! protocol that a viewer is given, and does scripts.
 //!
 //! All that it says of its input and its outputs is the contract of `gate_script::command`. What stands
 //! here is only the friendly edge: the words of the command line, `--help` and `--version`.
 #![tactic(auto)]
 
-ghost use Rattle.std.specs.Prelude.{◌≡◌, ◌≢◌, length, None, OnOk, OnErr};
+ghost use Rattle.std.specs.Prelude.{◌≡◌, ◌≢◌, ◌⊎◌, map, option_map, string_bytes, IfErr, OnOk, OnErr};
+ghost use Rattle.guacgate.specs.Words.{text_asked, text_of};
 
 use gate_outside::{Failed, StdSink, StdSource, write_all};
 use gate_script::command;
@@ -18,13 +19,18 @@ const VERSION: &str = "guacgate 0.1.0\n";
 const HELP: &str = "guacgate shows a Telnet session as instructions of the Guacamole protocol.
 
 usage: guacgate draw COLS ROWS < BYTES
+       guacgate script [ENTRIES] < LINES
 
-Draws what a Telnet host sent, read from standard input, on a screen of COLS columns (1 to 512) and
-ROWS rows (1 to 256), at most 8192 cells. The answers go to standard output, the instructions that
-each frame has, and those that the viewer is given, to standard error.
+draw    draws what a Telnet host sent, read from standard input, on a screen of COLS columns (1 to
+        512) and ROWS rows (1 to 256), at most 8192 cells
+script  does the lines of a script, as start 80 24 none, join owner, server 48690d0a, read 1; its
+        session may have ENTRIES entries (1 to 2^40, 2^40 where none is given)
 
-status: 0 done, 2 faulty words, 4 reading failed, 5 writing failed, 6 no memory, 7 the session is
-full, 9 a byte has no meaning
+The answers go to standard output, the instructions that each frame has, and those that a viewer is
+given, to standard error.
+
+status: 0 done, 2 faulty words, 3 a line of the script is outside the grammar, 4 reading failed, 5
+writing failed, 6 no memory, 7 the session is full, 9 a byte has no meaning
 ";
 
 fn main(rt: HostRuntime) -> ExitCode {
@@ -43,13 +49,18 @@ fn main(rt: HostRuntime) -> ExitCode {
 }
 
 // The words after the program's name.
-fn words(rt: &HostRuntime) -> Result<Vec<String>, u8> {
+fn words(rt: &HostRuntime) -> Result<Vec<String>, u8>
+    ensures status { IfErr result (λ status. (status ≡ 2) ⊎ (status ≡ 6)) }
+{
     let words = env::args(rt).map_err(|error| unread(error.kind()))?;
     words.skip(1).collect(rt.alloc()).map_err(|_| 6)
 }
 
 // The status where the words couldn't be had. Words that aren't text are faulty words.
-fn unread(kind: ErrorKind) -> u8 {
+fn unread(kind: ErrorKind) -> u8
+    ensures memory { kind ≡ ErrorKind.OutOfMemory → result ≡ 6 }
+    ensures faulty { kind ≢ ErrorKind.OutOfMemory → result ≡ 2 }
+{
     match kind {
         ErrorKind::OutOfMemory => 6,
         _ => 2,
@@ -58,12 +69,19 @@ fn unread(kind: ErrorKind) -> u8 {
 
 // The text that was asked for, where one of these words is the only one.
 fn asked(words: &[String]) -> Option<&'static str>
-    ensures alone { length words.now ≢ 1 → result ≡ None }
+    ensures text { option_map (λ text. text.now) result ≡ text_asked (map string_bytes words.now) }
 {
     let [word] = words else {
         return None;
     };
-    match word.as_str() {
+    text_of(word.as_str())
+}
+
+// The text that a word asks for.
+fn text_of(word: &str) -> Option<&'static str>
+    ensures text { option_map (λ text. text.now) result ≡ text_of word.now }
+{
+    match word {
         "--help" | "-h" => Some(HELP),
         "--version" => Some(VERSION),
         _ => None,

@@ -1,31 +1,40 @@
-use Rattle.std.proofs.Common.{◌≡◌, ℕ, List, [], ◌∷◌, ◌++◌, ap, sym, ◌∙◌, subst}
-use Rattle.std.proofs.lemmas.Result.{err_from_is_err_and}
-use Rattle.std.specs.Prelude.{codes, Result, Err}
-use Rattle.gate_script.specs.declared.stop.Stop.{Stop}
+use Rattle.std.proofs.Common.{◌∷◌, subst}
+use Rattle.gate_model.specs.declared.feed_refusal.FeedRefusal.{FeedRefusal}
+use Rattle.desk_core.specs.Calls.{IsStillOpen, FeedEnds}
+use Rattle.std.specs.Prelude.{Err}
+use Rattle.gate_script.specs.declared.refused.Refused.TheVariants.{Worn, Unbuilt}
 use Rattle.gate_script.specs.Lines.{server}
-use Rattle.gate_script.specs.Told.{answer_line, frames_line}
-use Rattle.gate_script.specs.Session.{Ends, Reported}
-use Rattle.gate_script.proofs.ReportLaws.{wrote-more, wrote-nothing}
-use Rattle.gate_script.proofs.SessionLaws.{bytes_fed, feed_stopped}
+use Rattle.gate_script.proofs.SessionLaws.{refuses, out_of_memory, bytes_fed, feed_is_worn, feed_is_unbuilt}
 use Rattle.gate_script.proofs.session.Session.server.Goals as goal
 
-pub returns-in_err-feed-clause-step : goal.returns-in_err-feed-clause-step
-returns-in_err-feed-clause-step g c = λ ls a f at.
-    let p = err_from_is_err_and c.from_residual.result c.from_residual.ensures.1 in
-    let e : c.from_residual.result ≡ Err c.in_err-feed.field-0.0 = p.1 ∙ ap (λ (s : Stop). Err s) p.2 in
-    wrote-nothing (g.A.Sink.written c.args.answers.now) (g.F.Sink.written c.args.frames.now)
-    (λ a' f'. Ends (server c.args.bytes.now ∷ ls) c.from_residual.result c.feed.new.self (a ++ a') (f ++ f'))
-    (subst (λ (r : Result (Unit {0}) Stop). Ends (server c.args.bytes.now ∷ ls) r c.feed.new.self (a ++ []) (f ++ [])) (sym e)
-    (feed_stopped ls c.args.self.now.desk c.feed.new.self a f c.args.bytes.now at c.in_err-feed.field-0.0 (c.in_err-feed.ensures.step at.history at.stands)))
+pub returns-in-Ok-clause-step : goal.returns-in-Ok-clause-step
+returns-in-Ok-clause-step g c = λ lines a0 f0 at.
+    let ends = c.in-Ok.ensures.step at.history at.stands in
+    bytes_fed lines c.args.now c.args.self.now.desk a0 f0 (g.A.Sink.written c.args.answers.now) (g.F.Sink.written c.args.frames.now) at
+    c.args.bytes.now c.in-Ok.stamp c.feed.new.self ends c.newest_frame.result.now (c.newest_frame.ensures (ends.entry ∷ at.history) ends.stands)
+    (g.A.Sink.written c.report.new.answers) (g.F.Sink.written c.report.new.frames) c.report.result c.report.ensures.told
 
-pub returns-clause-step : goal.returns-clause-step
-returns-clause-step g c = λ ls a f at.
-    let d = c.args.self.now.desk in
-    let n = c.feed.new.self in
-    wrote-more (g.A.Sink.written c.args.answers.now) (g.A.Sink.written c.report.new.answers) (g.F.Sink.written c.args.frames.now) (g.F.Sink.written c.report.new.frames)
-    (Reported c.report.result (answer_line (codes "synced") (c.stamp.result ∷ [])) (frames_line 0 c.frame.result.now))
-    (λ a' f'. Ends (server c.args.bytes.now ∷ ls) c.report.result n (a ++ a') (f ++ f'))
-    (λ a' f' p. bytes_fed ls d n a f c.args.bytes.now at (c.in_ok-feed.ensures.step at.history at.stands) c.report.result a' f'
-    (subst (λ (x : List ℕ). Reported c.report.result (answer_line (codes "synced") (n.stamp ∷ [])) (frames_line 0 x) a' f') c.frame.ensures
-    (subst (λ (t : ℕ). Reported c.report.result (answer_line (codes "synced") (t ∷ [])) (frames_line 0 c.frame.result.now) a' f') c.stamp.ensures p)))
-    c.report.ensures.told
+pub returns-in-Err-Closed-clause-step : goal.returns-in-Err-Closed-clause-step
+returns-in-Err-Closed-clause-step g c = absurd (subst IsStillOpen c.in-Err-Closed.field-0-is c.in-Err-Closed.ensures.still_open)
+
+pub returns-in-Err-Closed-clause-counts : goal.returns-in-Err-Closed-clause-counts
+returns-in-Err-Closed-clause-counts g c = absurd (subst IsStillOpen c.in-Err-Closed.field-0-is c.in-Err-Closed.ensures.still_open)
+
+pub returns-in-Err-Closed-clause-few : goal.returns-in-Err-Closed-clause-few
+returns-in-Err-Closed-clause-few g c = absurd (subst IsStillOpen c.in-Err-Closed.field-0-is c.in-Err-Closed.ensures.still_open)
+
+pub returns-in-Err-Worn-clause-step : goal.returns-in-Err-Worn-clause-step
+returns-in-Err-Worn-clause-step g c = λ lines a0 f0 at.
+    let step = subst (λ (e : FeedRefusal). FeedEnds at.history c.args.bytes.now c.args.now (Err e) c.feed.new.self) c.in-Err-Worn.field-0-is (c.in-Err-Worn.ensures.step at.history at.stands) in
+    refuses lines c.args.now c.args.self.now.desk a0 f0 (g.A.Sink.written c.args.answers.now) (g.F.Sink.written c.args.frames.now) at (server c.args.bytes.now) (Worn c.in-Err-Worn.entries)
+    (feed_is_worn lines c.args.now c.args.self.now.desk a0 f0 (g.A.Sink.written c.args.answers.now) (g.F.Sink.written c.args.frames.now) at c.args.bytes.now c.in-Err-Worn.entries step)
+
+pub returns-in-Err-Unbuilt-clause-step : goal.returns-in-Err-Unbuilt-clause-step
+returns-in-Err-Unbuilt-clause-step g c = λ lines a0 f0 at.
+    let step = subst (λ (e : FeedRefusal). FeedEnds at.history c.args.bytes.now c.args.now (Err e) c.feed.new.self) c.in-Err-Unbuilt.field-0-is (c.in-Err-Unbuilt.ensures.step at.history at.stands) in
+    refuses lines c.args.now c.args.self.now.desk a0 f0 (g.A.Sink.written c.args.answers.now) (g.F.Sink.written c.args.frames.now) at (server c.args.bytes.now) (Unbuilt c.in-Err-Unbuilt.place)
+    (feed_is_unbuilt lines c.args.now c.args.self.now.desk a0 f0 (g.A.Sink.written c.args.answers.now) (g.F.Sink.written c.args.frames.now) at c.args.bytes.now c.in-Err-Unbuilt.place step)
+
+pub returns-in-Err-NoMemory-clause-step : goal.returns-in-Err-NoMemory-clause-step
+returns-in-Err-NoMemory-clause-step g c = λ lines a0 f0 at.
+    out_of_memory lines c.args.now c.args.self.now.desk a0 f0 (g.A.Sink.written c.args.answers.now) (g.F.Sink.written c.args.frames.now) at (server c.args.bytes.now)

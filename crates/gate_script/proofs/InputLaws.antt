@@ -1,0 +1,258 @@
+-- How more bytes go on with the pieces that were cut, and how a run ends.
+use Rattle.std.proofs.Common.{◌≡◌, ℕ, zero, suc, ◌<◌, ◌≤◌, List, [], ◌∷◌, ◌++◌, inl, inr, length, take, drop, refl, ap, sym, ◌∙◌, subst, append_assoc, append-nil, reverse, ◌+◌, ◌-◌, length-drop, arith}
+use Rattle.std.specs.Prelude.{Some, None, Option, Result, Ok, Err, Bool, false, nat_lt}
+use Rattle.std.specs.List.{list_any}
+use Rattle.std.proofs.lemmas.List.{take-append-drop, reverse-append, reverse-reverse, take_all}
+use Rattle.std.proofs.lemmas.Bool.{lt-ltb}
+use Rattle.std.proofs.Math.Seq.{take-add}
+use Rattle.gate_model.specs.Sequences.{IsLater}
+use Rattle.gate_model.specs.Reading.{read as read_stream, after}
+use Rattle.gate_model.proofs.Cutting.{resumes, read-whole, read-unfinished}
+use Rattle.std.specs.Prelude.{◌⊎◌, ◌^◌}
+use Rattle.gate_outside.specs.Edge.{AtEnd, came, Rose}
+use Rattle.gate_script.specs.declared.session.Session.{Session}
+use Rattle.gate_outside.proofs.Moved.{came-none}
+use Rattle.gate_script.specs.declared.form.Form.{Form}
+use Rattle.gate_script.specs.declared.form.Form.TheVariants.{Draw, Script}
+use Rattle.gate_script.specs.declared.run.Run.{Run}
+use Rattle.gate_script.specs.declared.size.Size.{Size}
+use Rattle.gate_script.specs.declared.stop.Stop.{Stop}
+use Rattle.gate_script.specs.declared.stop.Stop.TheVariants.{ReadFault, WriteFault, NoMemory, Refused}
+use Rattle.gate_script.specs.Pieces.{first_piece, whole_pieces, all_pieces, last_piece}
+use Rattle.gate_script.specs.Lines.{Line, server, read_untold, acknowledge, done, draw_lines}
+use Rattle.gate_script.specs.Grammar.{ending, judged, total, is_start, script_lines, lines_of, most_of, whole_lines, all_lines}
+use Rattle.gate_script.specs.Running.{StoppedIn, HasDone, HasCut, LastEnds, AllDone, RunEnds, AtEndUnless, IsReady, IsReadyFor}
+use Rattle.gate_script.proofs.PieceLaws.{pieces_are_read, begun}
+use Rattle.gate_script.proofs.ReportLaws.{whole}
+use Rattle.gate_script.proofs.RunLaws.{stopped-later, all_done}
+
+reverse-cons : {A : Type 0} (x : A) (xs : List A) → reverse (x ∷ xs) ≡ reverse xs ++ x ∷ []
+reverse-cons x xs = reverse-append (x ∷ []) xs
+
+-- a piece has some bytes
+some_most : (form : Form) → 0 < most_of form
+some_most (Draw size) = omega arith
+some_most (Script entries) = omega arith
+
+nothing-whole : (form : Form) → first_piece (most_of form) [] ≡ None
+nothing-whole (Draw size) = refl
+nothing-whole (Script entries) = refl
+
+-- all that was done so far
+pub done_so_far : (form : Form) (pieces : List (List ℕ)) (r : Run) (a0 f0 a f : Option (List ℕ)) → HasDone form pieces r a0 f0 a f → AllDone (lines_of form pieces) a0 f0 a f
+done_so_far (Draw size) pieces r a0 f0 a f had = all_done (draw_lines size pieces) 0 a0 f0 a f r.session had.stays
+done_so_far (Script entries) pieces r a0 f0 a f had = all_done (script_lines entries pieces) r.moment a0 f0 a f r.session had.does.stays
+
+-- a call stopped for want of memory after these lines
+pub short_after : (lines all : List Line) (a0 f0 a f : Option (List ℕ)) → AllDone lines a0 f0 a f → IsLater lines all → StoppedIn all NoMemory a0 f0 a f
+short_after lines all a0 f0 a f d more = record {
+  lines = lines;
+  play = d.play;
+  answers = d.told.answers;
+  framings = d.told.framings;
+  own_a = d.told.answers;
+  own_f = d.told.framings;
+  first = more;
+  tells = record { plays = d.told.plays; lawful = d.lawful };
+  answers_begin = whole d.told.answers;
+  framings_begin = whole d.told.framings;
+  answered = d.told.answered;
+  framed = d.told.framed;
+}
+
+-- the lines of more pieces go on with those of these
+pub lines-later : (form : Form) (ps qs : List (List ℕ)) → IsLater ps qs → IsLater (lines_of form ps) (lines_of form qs)
+lines-later form ps qs p = subst (λ (l : List (List ℕ)). IsLater (lines_of form ps) (lines_of form l)) (sym p.1) (more form p.0)
+  where
+    draws : (size : Size) (ms : List (List ℕ)) → IsLater (draw_lines size ps) (draw_lines size (ms ++ ps))
+    draws size [] = ([], refl)
+    draws size (m ∷ ms) = let q = draws size ms in (acknowledge 1 ∷ read_untold 1 ∷ server m ∷ q.0, ap (λ (l : List Line). acknowledge 1 ∷ read_untold 1 ∷ server m ∷ l) q.1)
+
+    scripts : (entries : ℕ) (ms : List (List ℕ)) → IsLater (script_lines entries ps) (script_lines entries (ms ++ ps))
+    scripts entries [] = ([], refl)
+    scripts entries (m ∷ ms) =
+        let q = scripts entries ms in
+        let line : Line = judged entries (list_any is_start (script_lines entries (ms ++ ps))) (total (ms ++ ps)) m in
+        (line ∷ q.0, ap (λ (l : List Line). line ∷ l) q.1)
+
+    more : (form : Form) (ms : List (List ℕ)) → IsLater (lines_of form ps) (lines_of form (ms ++ ps))
+    more (Draw size) ms = draws size ms
+    more (Script entries) ms = scripts entries ms
+
+-- the lines at the end of the input go on with the others
+ending-later : (form : Form) (lines : List Line) → IsLater lines (ending form lines)
+ending-later (Draw size) lines = (done ∷ [], refl)
+ending-later (Script entries) lines = ([], refl)
+
+module _ (form : Form) where
+  module _ (before piece : List ℕ) (pieces : List (List ℕ)) (cut : read_stream (first_piece (most_of form)) before ≡ (reverse pieces, piece)) where
+    cut-more : (more : List ℕ) → read_stream (first_piece (most_of form)) (before ++ more) ≡ after (reverse pieces) (read_stream (first_piece (most_of form)) (piece ++ more))
+    cut-more more = resumes (first_piece (most_of form)) (pieces_are_read (most_of form) (some_most form)) before more ∙ ap (λ (r : List (List ℕ) × List ℕ). after r.0 (read_stream (first_piece (most_of form)) (r.1 ++ more))) cut
+
+    -- the bytes make the piece whole
+    cut-whole : (front : List ℕ) → first_piece (most_of form) (piece ++ front) ≡ Some ((piece ++ front) ∷ [], []) → read_stream (first_piece (most_of form)) (before ++ front) ≡ (reverse ((piece ++ front) ∷ pieces), [])
+    cut-whole front is_whole =
+        let one : read_stream (first_piece (most_of form)) (piece ++ front) ≡ ((piece ++ front) ∷ [], []) = read-whole (first_piece (most_of form)) (pieces_are_read (most_of form) (some_most form)) (piece ++ front) [] ((piece ++ front) ∷ []) is_whole
+        ∙ ap (after ((piece ++ front) ∷ [])) (read-unfinished (first_piece (most_of form)) (pieces_are_read (most_of form) (some_most form)) [] (nothing-whole form)) in
+        cut-more front ∙ (ap (after (reverse pieces)) one ∙ ap (λ (ps : List (List ℕ)). (ps, [])) (sym (reverse-cons (piece ++ front) pieces)))
+
+    -- the piece isn't whole yet
+    cut-open : (front : List ℕ) → first_piece (most_of form) (piece ++ front) ≡ None → read_stream (first_piece (most_of form)) (before ++ front) ≡ (reverse pieces, piece ++ front)
+    cut-open front open_ = cut-more front ∙ (ap (after (reverse pieces)) (read-unfinished (first_piece (most_of form)) (pieces_are_read (most_of form) (some_most form)) (piece ++ front) open_) ∙ ap (λ (ps : List (List ℕ)). (ps, piece ++ front)) (append-nil (reverse pieces)))
+
+    -- the pieces so far stay the first ones
+    pieces-later : (more : List ℕ) → IsLater pieces (reverse (whole_pieces (most_of form) (before ++ more)))
+    pieces-later more =
+        let others : List (List ℕ) = (read_stream (first_piece (most_of form)) (piece ++ more)).0 in
+        (reverse others, ap (λ (r : List (List ℕ) × List ℕ). reverse r.0) (cut-more more) ∙ (reverse-append (reverse pieces) others ∙ ap (λ (ps : List (List ℕ)). reverse others ++ ps) (reverse-reverse pieces)))
+
+    -- all the pieces, the newest first
+    all-none : length piece ≡ 0 → reverse (all_pieces (most_of form) before) ≡ pieces
+    all-none empty =
+        ap (λ (r : List (List ℕ) × List ℕ). reverse (r.0 ++ last_piece r.1)) cut ∙ (ap (λ (l : List (List ℕ)). reverse (reverse pieces ++ l)) (none piece empty) ∙ (ap reverse (append-nil (reverse pieces)) ∙ reverse-reverse pieces))
+      where
+        none : (p : List ℕ) → length p ≡ 0 → last_piece p ≡ []
+        none [] e = refl
+        none (b ∷ bs) e = absurd (omega (arith, e))
+
+    all-last : 0 < length piece → reverse (all_pieces (most_of form) before) ≡ piece ∷ pieces
+    all-last some =
+        ap (λ (r : List (List ℕ) × List ℕ). reverse (r.0 ++ last_piece r.1)) cut ∙ (ap (λ (l : List (List ℕ)). reverse (reverse pieces ++ l)) (last piece some) ∙ (reverse-append (reverse pieces) (piece ∷ []) ∙ ap (λ (l : List (List ℕ)). piece ∷ l) (reverse-reverse pieces)))
+      where
+        last : (p : List ℕ) → 0 < length p → last_piece p ≡ p ∷ []
+        last [] lt = absurd (omega (arith, lt))
+        last (b ∷ bs) lt = refl
+
+  module _ (before piece : List ℕ) (r r' : Run) (a0 f0 a a' f f' : Option (List ℕ)) (h : HasCut form before piece r a0 f0 a f) where
+    -- no memory for the bytes of the piece
+    pub not_kept : (bytes : List ℕ) → StoppedIn (whole_lines form (before ++ bytes)) NoMemory a0 f0 a f
+    not_kept bytes = short_after (lines_of form h.pieces) (whole_lines form (before ++ bytes)) a0 f0 a f (done_so_far form h.pieces r a0 f0 a f h.has_done)
+        (lines-later form h.pieces (reverse (whole_pieces (most_of form) (before ++ bytes))) (pieces-later before piece h.pieces h.cut bytes))
+
+    -- the piece became whole, and was done
+    pub piece_done : (front : List ℕ) (own rest : List ℕ) → own ≡ piece ++ front → rest ≡ [] → first_piece (most_of form) (piece ++ front) ≡ Some ((piece ++ front) ∷ [], []) → HasDone form (own ∷ h.pieces) r' a0 f0 a' f' → HasCut form (before ++ front) rest r' a0 f0 a' f'
+    piece_done front own rest own_is rest_is is_whole had = record {
+      pieces = (piece ++ front) ∷ h.pieces;
+      cut = cut-whole before piece h.pieces h.cut front is_whole ∙ ap (λ (l : List ℕ). (reverse ((piece ++ front) ∷ h.pieces), l)) (sym rest_is);
+      begun = ap (first_piece (most_of form)) rest_is ∙ nothing-whole form;
+      has_done = subst (λ (l : List ℕ). HasDone form (l ∷ h.pieces) r' a0 f0 a' f') own_is had;
+    }
+
+    -- it became whole, and a call stopped in it
+    pub piece_stopped : (bytes : List ℕ) (count : ℕ) (own : List ℕ) (stop : Stop) → own ≡ piece ++ take count bytes → first_piece (most_of form) (piece ++ take count bytes) ≡ Some ((piece ++ take count bytes) ∷ [], [])
+        → StoppedIn (lines_of form (own ∷ h.pieces)) stop a0 f0 a' f' → StoppedIn (whole_lines form (before ++ bytes)) stop a0 f0 a' f'
+    piece_stopped bytes count own stop own_is is_whole s =
+        let front : List ℕ = take count bytes in
+        let rest : List ℕ = drop count bytes in
+        let all : (before ++ front) ++ rest ≡ before ++ bytes = append_assoc before front rest ∙ ap (λ (l : List ℕ). before ++ l) (take-append-drop count bytes) in
+        let cut = cut-whole before piece h.pieces h.cut front is_whole in
+        stopped-later (lines_of form ((piece ++ front) ∷ h.pieces)) (whole_lines form (before ++ bytes)) stop a0 f0 a' f'
+        (lines-later form ((piece ++ front) ∷ h.pieces) (reverse (whole_pieces (most_of form) (before ++ bytes)))
+        (subst (λ (l : List ℕ). IsLater ((piece ++ front) ∷ h.pieces) (reverse (whole_pieces (most_of form) l))) all (pieces-later (before ++ front) [] ((piece ++ front) ∷ h.pieces) cut rest)))
+        (subst (λ (l : List ℕ). StoppedIn (lines_of form (l ∷ h.pieces)) stop a0 f0 a' f') own_is s)
+
+    -- it isn't whole yet
+    pub piece_goes_on : (front own : List ℕ) → own ≡ piece ++ front → first_piece (most_of form) (piece ++ front) ≡ None → HasCut form (before ++ front) own r a0 f0 a f
+    piece_goes_on front own own_is open_ = record {
+      pieces = h.pieces;
+      cut = cut-open before piece h.pieces h.cut front open_ ∙ ap (λ (l : List ℕ). (reverse h.pieces, l)) (sym own_is);
+      begun = ap (first_piece (most_of form)) own_is ∙ open_;
+      has_done = h.has_done;
+    }
+
+    -- the input ended with a piece
+    pub ended_whole : (own : List ℕ) (result : Result (Unit {0}) Stop) → own ≡ piece → length own ≡ 0 → LastEnds (ending form (lines_of form h.pieces)) result a0 f0 a' f' → LastEnds (all_lines form before) result a0 f0 a' f'
+    ended_whole own result is empty e = subst (λ (ps : List (List ℕ)). LastEnds (ending form (lines_of form ps)) result a0 f0 a' f') (sym (all-none before piece h.pieces h.cut (omega (arith, ap length is, empty)))) e
+
+    -- it ended in the midst of one
+    pub ended_amidst : (own : List ℕ) (result : Result (Unit {0}) Stop) → own ≡ piece → 0 < length own → LastEnds (ending form (lines_of form (own ∷ h.pieces))) result a0 f0 a' f' → LastEnds (all_lines form before) result a0 f0 a' f'
+    ended_amidst own result is some e = subst (λ (ps : List (List ℕ)). LastEnds (ending form (lines_of form ps)) result a0 f0 a' f') (ap (λ (l : List ℕ). l ∷ h.pieces) is ∙ sym (all-last before piece h.pieces h.cut (omega (arith, ap length is, some)))) e
+
+    pub stopped_amidst : (own : List ℕ) (stop : Stop) → own ≡ piece → 0 < length own → StoppedIn (lines_of form (own ∷ h.pieces)) stop a0 f0 a' f' → StoppedIn (all_lines form before) stop a0 f0 a' f'
+    stopped_amidst own stop is some s = subst (λ (ps : List (List ℕ)). StoppedIn (ending form (lines_of form ps)) stop a0 f0 a' f') (ap (λ (l : List ℕ). l ∷ h.pieces) is ∙ sym (all-last before piece h.pieces h.cut (omega (arith, ap length is, some))))
+        (stopped-later (lines_of form (own ∷ h.pieces)) (ending form (lines_of form (own ∷ h.pieces))) stop a0 f0 a' f' (ending-later form (lines_of form (own ∷ h.pieces))) s)
+
+    -- the source failed
+    pub read_failed : AllDone (whole_lines form before) a0 f0 a f
+    read_failed = subst (λ (ps : List (List ℕ)). AllDone (lines_of form ps) a0 f0 a f) (sym (ap (λ (q : List (List ℕ) × List ℕ). reverse q.0) h.cut ∙ reverse-reverse h.pieces)) (done_so_far form h.pieces r a0 f0 a f h.has_done)
+
+  -- nothing was read yet
+  pub cut_nothing : (r : Run) (a0 f0 a f : Option (List ℕ)) (piece : List ℕ) → piece ≡ [] → HasDone form [] r a0 f0 a f → HasCut form [] piece r a0 f0 a f
+  cut_nothing r a0 f0 a f piece is had = record {
+    pieces = [];
+    cut = read-unfinished (first_piece (most_of form)) (pieces_are_read (most_of form) (some_most form)) [] (nothing-whole form) ∙ ap (λ (l : List ℕ). ([], l)) (sym is);
+    begun = ap (first_piece (most_of form)) is ∙ nothing-whole form;
+    has_done = had;
+  }
+
+  -- a call stopped in the bytes
+  pub run_stopped : (bytes : List ℕ) (left a0 f0 a f : Option (List ℕ)) (stop : Stop) → StoppedIn (whole_lines form bytes) stop a0 f0 a f → RunEnds form bytes left (Err stop) a0 f0 a f
+  run_stopped bytes left a0 f0 a f WriteFault s = inl s
+  run_stopped bytes left a0 f0 a f NoMemory s = inl s
+  run_stopped bytes left a0 f0 a f (Refused refused) s = inl s
+  run_stopped bytes left a0 f0 a f ReadFault s = absurd s
+
+  -- the input ended
+  pub run_finished : (bytes : List ℕ) (left a0 f0 a f : Option (List ℕ)) (result : Result (Unit {0}) Stop) → AtEnd left → LastEnds (all_lines form bytes) result a0 f0 a f → RunEnds form bytes left result a0 f0 a f
+  run_finished bytes left a0 f0 a f (Ok u) at_end e = (at_end, e)
+  run_finished bytes left a0 f0 a f (Err WriteFault) at_end e = inr (at_end, e)
+  run_finished bytes left a0 f0 a f (Err NoMemory) at_end e = inr (at_end, e)
+  run_finished bytes left a0 f0 a f (Err (Refused refused)) at_end e = inr (at_end, e)
+  run_finished bytes left a0 f0 a f (Err ReadFault) at_end e = absurd e
+
+-- nothing was read, for want of memory
+pub no_room : (form : Form) (piece : List ℕ) (r : Run) (left a0 f0 a f : Option (List ℕ)) → HasCut form [] piece r a0 f0 a f → RunEnds form [] left (Err NoMemory) a0 f0 a f
+no_room form piece r left a0 f0 a f h = inl (short_after (whole_lines form []) (whole_lines form []) a0 f0 a f (read_failed form [] piece r r a0 f0 a a f f h) ([], refl))
+
+-- no bytes make no pieces
+pub no_pieces : (form : Form) → reverse (whole_pieces (most_of form) []) ≡ []
+no_pieces form = ap (λ (q : List (List ℕ) × List ℕ). reverse q.0) (read-unfinished (first_piece (most_of form)) (pieces_are_read (most_of form) (some_most form)) [] (nothing-whole form))
+
+pub no_piece : (form : Form) → first_piece (most_of form) [] ≡ None
+no_piece form = nothing-whole form
+
+-- the last read gave nothing, and the input was finished
+pub read_ends : (form form1 form2 : Form) (some : Bool) (bytes piece : List ℕ) (r : Run) (left a0 f0 a a' f f' : Option (List ℕ)) (result : Result (Unit {0}) Stop) → form1 ≡ form → form2 ≡ form1 → some ≡ false
+    → AtEndUnless some left × HasCut form1 bytes piece r a0 f0 a f → (HasCut form2 bytes piece r a0 f0 a f → LastEnds (all_lines form2 bytes) result a0 f0 a' f') → RunEnds form bytes left result a0 f0 a' f'
+read_ends form form1 form2 some bytes piece r left a0 f0 a a' f f' result is1 is2 none h finish =
+    let both : form2 ≡ form = is2 ∙ is1 in
+    run_finished form bytes left a0 f0 a' f' result (subst (λ (b : Bool). AtEndUnless b left) none h.0)
+    (subst (λ (x : Form). LastEnds (all_lines x bytes) result a0 f0 a' f') both (finish (subst (λ (x : Form). HasCut x bytes piece r a0 f0 a f) (sym is2) h.1)))
+
+-- what a run has read is bounded
+pub few_read : (r : Run) → IsReady r → r.read ≤ 2 ^ 56
+few_read r ready = by_form r.form r.session ready
+  where
+    by_form : (form : Form) (session : Option Session) → IsReadyFor form session r.lines r.read → r.read ≤ 2 ^ 56
+    by_form (Draw size) None n = absurd n
+    by_form (Draw size) (Some s) p = omega (arith, p.0, p.1)
+    by_form (Script entries) session p = omega (arith, p.2)
+
+pub short_piece : (form : Form) (piece : List ℕ) → first_piece (most_of form) piece ≡ None → length piece < 262146
+short_piece (Draw size) piece e = omega (arith, (begun 65536 piece e).short)
+short_piece (Script entries) piece e = omega (arith, (begun 262146 piece e).short)
+
+-- a count that rose in a later part of a call rose in the call
+pub rose-later : (a b c : ℕ) → a ≤ b → Rose b c → Rose a c
+rose-later a b c le rose = omega (arith, le, rose)
+
+pub rose_within : (a b c d e f : ℕ) → a ≤ b → d ≤ e → (Rose b c) ⊎ (Rose e f) → (Rose a c) ⊎ (Rose d f)
+rose_within a b c d e f le1 le2 (inl r) = inl (rose-later a b c le1 r)
+rose_within a b c d e f le1 le2 (inr r) = inr (rose-later d e f le2 r)
+
+-- where a read gave no bytes, the source is at its end
+pub at_end_unless : (count : ℕ) (into : List ℕ) (old new : Option (List ℕ)) → old ≡ came (take count into) new → (count ≡ 0 → AtEnd old) → AtEndUnless (nat_lt 0 count) new
+at_end_unless zero into old new is end = subst AtEnd (is ∙ came-none new) (end refl)
+at_end_unless (suc n) into old new is end = rw (lt-ltb 0 (suc n) (omega arith)) tt
+
+-- the rest of some bytes from a place on, as a slice is seen
+rest_of : (at : ℕ) (bytes : List ℕ) → take (length bytes - at) (drop at bytes) ≡ drop at bytes
+rest_of at bytes = take_all (length bytes - at) (drop at bytes) (omega (arith, length-drop at bytes))
+
+-- bytes up to a place, and a part of the rest
+pub taken : (before bytes : List ℕ) (at n : ℕ) → (before ++ take at bytes) ++ take n (take (length bytes - at) (drop at bytes)) ≡ before ++ take (at + n) bytes
+taken before bytes at n = ap (λ (l : List ℕ). (before ++ take at bytes) ++ take n l) (rest_of at bytes) ∙ (append_assoc before (take at bytes) (take n (drop at bytes)) ∙ ap (λ (l : List ℕ). before ++ l) (sym (take-add at n bytes)))
+
+-- bytes up to a place, and all the rest
+pub taken-all : (before bytes : List ℕ) (at : ℕ) → (before ++ take at bytes) ++ take (length bytes - at) (drop at bytes) ≡ before ++ bytes
+taken-all before bytes at = ap (λ (l : List ℕ). (before ++ take at bytes) ++ l) (rest_of at bytes) ∙ (append_assoc before (take at bytes) (drop at bytes) ∙ ap (λ (l : List ℕ). before ++ l) (take-append-drop at bytes))

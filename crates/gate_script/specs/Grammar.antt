@@ -1,0 +1,160 @@
+-- What a script's line says (this project's own). Words are separated by one blank, which is a space or
+-- a tab.
+use Rattle.std.specs.Prelude.{ℕ, ◌+◌, ◌-◌, ◌*◌, ◌^◌, List, [], ◌∷◌, length, take, drop, Bool, true, false, ◌&&◌, ◌||◌, ◌==◌, nat_le, nat_lt, if◌then◌else◌, Option, Some, None, codes, bytes_eq}
+use Rattle.std.specs.List.{position_or_len, list_any, ends_with}
+use Rattle.gate_model.specs.declared.sharing.Asked.TheVariants.{Owner}
+use Rattle.gate_model.specs.declared.sharing.Share.{Share}
+use Rattle.gate_model.specs.declared.sharing.Share.TheVariants.{Nobody, View, Control}
+use Rattle.gate_model.specs.Limits.{most_piece}
+use Rattle.gate_script.specs.declared.form.Form.{Form}
+use Rattle.gate_script.specs.declared.form.Form.TheVariants.{Draw, Script}
+use Rattle.gate_script.specs.declared.size.Size.{Size}
+use Rattle.gate_script.specs.Numbers.{number_up_to}
+use Rattle.gate_script.specs.Words.{size_of}
+use Rattle.gate_script.specs.Pieces.{whole_pieces, all_pieces}
+use Rattle.gate_script.specs.Lines.{Line, blank, bad, moment, start, server, join, read, done, draw_lines}
+use Rattle.std.specs.Prelude.{reverse}
+
+-- the most bytes of a line without its end, and of a script
+abbrev pub most_line : ℕ
+most_line = 262144
+
+abbrev pub most_script : ℕ
+most_script = 67108864
+
+abbrev pub is_blank : ℕ → Bool
+is_blank b = b == 32 || b == 9
+
+-- the first word, and what stands behind the blank after it
+abbrev pub first_word : List ℕ → List ℕ
+first_word text = take (position_or_len is_blank text) text
+
+abbrev pub behind_word : List ℕ → Option (List ℕ)
+behind_word text = if nat_lt (position_or_len is_blank text) (length text) then Some (drop (position_or_len is_blank text + 1) text) else None
+
+-- a hexadecimal digit of either case
+abbrev pub digit_of : ℕ → Option ℕ
+digit_of b =
+    if nat_le 48 b && nat_le b 57 then Some (b - 48) else (
+    if nat_le 65 b && nat_le b 70 then Some (b - 55) else (
+    if nat_le 97 b && nat_le b 102 then Some (b - 87) else None))
+
+abbrev pub byte_of : Option ℕ → Option ℕ → Option ℕ
+byte_of (Some high) (Some low) = Some (16 * high + low)
+byte_of high low = None
+
+abbrev pub before_bytes : Option ℕ → Option (List ℕ) → Option (List ℕ)
+before_bytes (Some b) (Some bs) = Some (b ∷ bs)
+before_bytes b bs = None
+
+-- the bytes that pairs of hexadecimal digits write
+abbrev pub bytes_of : List ℕ → Option (List ℕ)
+bytes_of [] = Some []
+bytes_of (high ∷ []) = None
+bytes_of (high ∷ low ∷ digits) = before_bytes (byte_of (digit_of high) (digit_of low)) (bytes_of digits)
+
+-- 1 to 65,536 bytes
+abbrev pub served : Option (List ℕ) → Line
+served None = bad
+served (Some bytes) = if nat_le 1 (length bytes) && nat_le (length bytes) most_piece then server bytes else bad
+
+abbrev pub moved : Option ℕ → Line
+moved None = bad
+moved (Some now) = moment now
+
+abbrev pub reading : Option ℕ → Line
+reading None = bad
+reading (Some viewer) = read viewer
+
+abbrev pub joining : List ℕ → Line
+joining word = if bytes_eq word (codes "owner") then join Owner else bad
+
+abbrev pub mode_of : List ℕ → Option Share
+mode_of word =
+    if bytes_eq word (codes "none") then Some Nobody else (
+    if bytes_eq word (codes "view") then Some View else (
+    if bytes_eq word (codes "control") then Some Control else None))
+
+abbrev pub starting : ℕ → Option Size → Option Share → Line
+starting entries (Some size) (Some mode) = start size mode entries
+starting entries size mode = bad
+
+-- `start COLS ROWS MODE`: the words behind `start`, then those behind the columns
+abbrev pub start_mode : ℕ → List ℕ → List ℕ → Option (List ℕ) → Line
+start_mode entries cols rows None = bad
+start_mode entries cols rows (Some mode) = starting entries (size_of cols rows) (mode_of mode)
+
+abbrev pub start_rows : ℕ → List ℕ → Option (List ℕ) → Line
+start_rows entries cols None = bad
+start_rows entries cols (Some text) = start_mode entries cols (first_word text) (behind_word text)
+
+-- a line by its first word, and what stands behind it
+abbrev pub meant : ℕ → List ℕ → List ℕ → Line
+meant entries name text =
+    if bytes_eq name (codes "at") then moved (number_up_to (2 ^ 64 - 1) text) else (
+    if bytes_eq name (codes "start") then start_rows entries (first_word text) (behind_word text) else (
+    if bytes_eq name (codes "server") then served (bytes_of text) else (
+    if bytes_eq name (codes "join") then joining text else (
+    if bytes_eq name (codes "read") then reading (number_up_to (2 ^ 32 - 1) text) else bad))))
+
+abbrev pub by_word : ℕ → List ℕ → Option (List ℕ) → Line
+by_word entries name None = bad
+by_word entries name (Some text) = meant entries name text
+
+-- an empty line and one that begins with `#` have no effect
+abbrev pub line_of : ℕ → List ℕ → Line
+line_of entries [] = blank
+line_of entries (b ∷ bs) = if b == 35 then blank else by_word entries (first_word (b ∷ bs)) (behind_word (b ∷ bs))
+
+-- a line without its end: a line feed, or a carriage return and a line feed
+abbrev pub end_length : List ℕ → ℕ
+end_length piece = if ends_with (λ a b. a == b) piece (13 ∷ 10 ∷ []) then 2 else (if ends_with (λ a b. a == b) piece (10 ∷ []) then 1 else 0)
+
+abbrev pub content : List ℕ → List ℕ
+content piece = take (length piece - end_length piece) piece
+
+-- `start` comes once, and before it nothing but `at`
+abbrev pub is_start : Line → Bool
+is_start (start size mode entries) = true
+is_start line = false
+
+abbrev pub in_place : Bool → Line → Line
+in_place true (start size mode entries) = bad
+in_place false (server bytes) = bad
+in_place false (join asked) = bad
+in_place false (read viewer) = bad
+in_place opened line = line
+
+-- a line after `before` bytes of the script
+abbrev pub judged : ℕ → Bool → ℕ → List ℕ → Line
+judged entries opened before piece = if nat_le (before + length piece) most_script && nat_le (length (content piece)) most_line then in_place opened (line_of entries (content piece)) else bad
+
+-- a script's lines; lines and pieces have the newest first
+abbrev pub total : List (List ℕ) → ℕ
+total [] = 0
+total (piece ∷ pieces) = total pieces + length piece
+
+abbrev pub script_lines : ℕ → List (List ℕ) → List Line
+script_lines entries [] = []
+script_lines entries (piece ∷ pieces) = judged entries (list_any is_start (script_lines entries pieces)) (total pieces) piece ∷ script_lines entries pieces
+
+-- the lines of a form for its pieces
+abbrev pub lines_of : Form → List (List ℕ) → List Line
+lines_of (Draw size) pieces = draw_lines size pieces
+lines_of (Script entries) pieces = script_lines entries pieces
+
+-- the most bytes of a piece; a longer line of a script is judged by its front
+abbrev pub most_of : Form → ℕ
+most_of (Draw size) = most_piece
+most_of (Script entries) = most_line + 2
+
+-- the lines of the whole pieces, and at the end of the input of all pieces
+abbrev pub whole_lines : Form → List ℕ → List Line
+whole_lines form bytes = lines_of form (reverse (whole_pieces (most_of form) bytes))
+
+abbrev pub ending : Form → List Line → List Line
+ending (Draw size) lines = done ∷ lines
+ending (Script entries) lines = lines
+
+abbrev pub all_lines : Form → List ℕ → List Line
+all_lines form bytes = ending form (lines_of form (reverse (all_pieces (most_of form) bytes)))

@@ -1,0 +1,2 @@
+-- The words that ask for a text.
+pub mod Words
