@@ -24,6 +24,7 @@ use Rattle.gate_model.specs.Calls.{IsPiece, IsWrite, is_key_act, FeedStep, JoinS
 use Rattle.gate_model.proofs.Truth.{facts_of}
 use Rattle.gate_model.proofs.ScreenLaws.{after_bytes-keeps, after_bytes-append, columns-screen, rows-screen, coloured-screen}
 use Rattle.gate_model.proofs.Histories.{legal-open, legal-size, plain-join, plain-read, plain-write}
+use Rattle.frame_draw.specs.Readable.{AreReadable}
 use Rattle.desk_core.specs.declared.progress.Progress.{Progress}
 use Rattle.desk_core.specs.Desk.{DeskState, HasCome, Stands}
 use Rattle.desk_core.specs.Calls.{Adds, Gives}
@@ -51,10 +52,10 @@ colours_after d h bs s =
 
 -- a Feed
 pub added_feed : (d : DeskState) (h : History) (bs : List ℕ) (now t size : ℕ) (frame : List Instr) (stored : List Entry) (screen : Terminal) (text : List ℕ) → Stands d h → IsPiece bs → first_unbuilt bs ≡ None → d.entries < d.capacity
-    → t ≡ next_stamp d.latest.stamp now → Shape (shown (after_bytes d.screen bs)).cols (shown (after_bytes d.screen bs)).rows frame t → Redraws frame (shown (after_bytes d.screen bs))
+    → t ≡ next_stamp d.latest.stamp now → Shape (shown (after_bytes d.screen bs)).cols (shown (after_bytes d.screen bs)).rows frame t → Redraws frame (shown (after_bytes d.screen bs)) → AreReadable frame
     → stored ≡ d.stored ++ Feed bs t frame ∷ [] → screen ≡ after_bytes d.screen bs → text ≡ d.text ++ texts frame → size ≡ length text
     → Adds h (FeedStep h bs now (Ok t)) record { capacity = d.capacity; stored = stored; entries = d.entries + 1; screen = screen; text = text; last = d.latest.bytes; latest = record { stamp = t; frames = d.latest.frames + 1; bytes = size }; viewers = d.viewers }
-added_feed d h bs now t size frame stored screen text s piece built room is_next shape redraws kept shows gains sized =
+added_feed d h bs now t size frame stored screen text s piece built room is_next shape redraws readable kept shows gains sized =
     let stamp : d.latest.stamp ≡ newest h = (all-come h d.latest (facts_of h s.legal) s.latest).stamp in
     let next : t ≡ next_stamp (newest h) now = is_next ∙ ap (λ (n : ℕ). next_stamp n now) stamp in
     let shaped : Shape (columns h) (lines h) frame t = subst (λ (k : ℕ). Shape (columns h) k frame t) (rows_after d h bs s) (subst (λ (k : ℕ). Shape k (shown (after_bytes d.screen bs)).rows frame t) (cols_after d h bs s) shape) in
@@ -62,7 +63,7 @@ added_feed d h bs now t size frame stored screen text s piece built room is_next
     record {
       entry = Feed bs t frame;
       step = (piece, record { allowed = feed_is_allowed d h bs s room built; frame = frame; adds = refl; is_next = next; feeds = feeds });
-      stands = fed_desk d h bs t size frame stored screen text s feeds redraws kept shows gains sized;
+      stands = fed_desk d h bs t size frame stored screen text s feeds redraws readable kept shows gains sized;
     }
 
 -- a Join

@@ -4,3 +4,4 @@ pub mod Coming
 pub mod Standing
 pub mod Calling
 pub mod Refusing
+pub mod Readables

@@ -16,6 +16,8 @@ use Rattle.gate_model.specs.Calls.{IsSetup}
 use Rattle.gate_model.proofs.Truth.{facts_of}
 use Rattle.gate_model.proofs.Histories.{IsPlain, at-feed, at-plain, all_frames-plain, all_frames-feed, legal-next, drawn-plain, drawn-feed}
 use Rattle.std.proofs.Math.Seq.{drop-append_seam}
+use Rattle.frame_draw.specs.Readable.{AreReadable}
+use Rattle.frame_draw.proofs.Readables.{readable_both}
 use Rattle.desk_core.specs.declared.progress.Progress.{Progress}
 use Rattle.desk_core.specs.Desk.{DeskState, Stands}
 use Rattle.desk_core.specs.Calls.{Opened}
@@ -38,6 +40,7 @@ plain_desk d h e stored viewers s g kept count come =
     record {
       legal = legal-next h e s.legal g.next;
       drawn = drawn-plain h e g.plain s.legal s.drawn;
+      readable = subst AreReadable (sym every) s.readable;
       capacity = s.capacity ∙ sym g.room;
       stored = kept ∙ (ap (λ (es : List Entry). es ++ e ∷ []) s.stored ∙ sym (reverse_more e h));
       entries = omega (arith, s.entries);
@@ -52,9 +55,9 @@ plain_desk d h e stored viewers s g kept count come =
 
 -- a Feed
 pub fed_desk : (d : DeskState) (h : History) (bs : List ℕ) (t size : ℕ) (frame : List Instr) (stored : List Entry) (screen : Terminal) (text : List ℕ) → Stands d h → Feeds h bs t frame
-    → Redraws frame (shown (after_bytes d.screen bs)) → stored ≡ d.stored ++ Feed bs t frame ∷ [] → screen ≡ after_bytes d.screen bs → text ≡ d.text ++ texts frame → size ≡ length text
+    → Redraws frame (shown (after_bytes d.screen bs)) → AreReadable frame → stored ≡ d.stored ++ Feed bs t frame ∷ [] → screen ≡ after_bytes d.screen bs → text ≡ d.text ++ texts frame → size ≡ length text
     → Stands record { capacity = d.capacity; stored = stored; entries = d.entries + 1; screen = screen; text = text; last = d.latest.bytes; latest = record { stamp = t; frames = d.latest.frames + 1; bytes = size }; viewers = d.viewers } (Feed bs t frame ∷ h)
-fed_desk d h bs t size frame stored screen text s feeds redraws kept shows gains sized =
+fed_desk d h bs t size frame stored screen text s feeds redraws readable kept shows gains sized =
     let f = facts_of h s.legal in
     let legal : Legal (Feed bs t frame ∷ h) = legal-next h (Feed bs t frame) s.legal feeds in
     let all = all-come h d.latest f s.latest in
@@ -65,6 +68,7 @@ fed_desk d h bs t size frame stored screen text s feeds redraws kept shows gains
     record {
       legal = legal;
       drawn = drawn-feed h bs t frame s.legal s.drawn (subst (λ (m : Terminal). Redraws frame (shown (after_bytes m bs))) s.screen redraws);
+      readable = subst AreReadable (sym more) (readable_both (all_frames h) frame s.readable readable);
       capacity = s.capacity;
       stored = kept ∙ (ap (λ (es : List Entry). es ++ Feed bs t frame ∷ []) s.stored ∙ sym (reverse_more (Feed bs t frame) h));
       entries = omega (arith, s.entries);
@@ -80,10 +84,10 @@ fed_desk d h bs t size frame stored screen text s feeds redraws kept shows gains
 
 -- a Start
 pub opened_desk : (setup : Setup) (now stamp size : ℕ) (frame : List Instr) (stored : List Entry) (screen : Terminal) (text : List ℕ) (viewers : List Progress) → IsSetup setup → stamp ≡ next_stamp 0 now
-    → Shape setup.cols setup.rows frame stamp → OpensScreen frame → Opens frame (shown (opening_screen setup.cols setup.rows))
+    → Shape setup.cols setup.rows frame stamp → OpensScreen frame → Opens frame (shown (opening_screen setup.cols setup.rows)) → AreReadable frame
     → stored ≡ Start setup.cols setup.rows setup.mode setup.term setup.entries stamp frame ∷ [] → screen ≡ opening_screen setup.cols setup.rows → text ≡ texts frame → size ≡ length text → viewers ≡ []
     → Opened setup now record { capacity = setup.entries; stored = stored; entries = 1; screen = screen; text = text; last = 0; latest = record { stamp = stamp; frames = 1; bytes = size }; viewers = viewers }
-opened_desk setup now stamp size frame stored screen text viewers is is_next shape opens drawn kept shows gains sized nobody =
+opened_desk setup now stamp size frame stored screen text viewers is is_next shape opens drawn readable kept shows gains sized nobody =
     let starts : Starts setup.cols setup.rows setup.entries stamp frame = record { now = now; size = is.size; room = (is.some_entries, is.few_entries); is_next = is_next; shape = shape; opens = opens } in
     let every : all_frames (Start setup.cols setup.rows setup.mode setup.term setup.entries stamp frame ∷ []) ≡ frame = append-nil frame in
     let legal : Legal (Start setup.cols setup.rows setup.mode setup.term setup.entries stamp frame ∷ []) = starts in
@@ -94,6 +98,7 @@ opened_desk setup now stamp size frame stored screen text viewers is is_next sha
       stands = record {
         legal = legal;
         drawn = (tt, let q : draw nothing (all_frames (Start setup.cols setup.rows setup.mode setup.term setup.entries stamp frame ∷ [])) visible ≡ draw nothing frame visible = ap (λ (xs : List Instr). draw nothing xs visible) every in rw q drawn);
+        readable = subst AreReadable (sym every) readable;
         capacity = refl;
         stored = kept;
         entries = refl;

@@ -9,6 +9,7 @@ use Rattle.gate_model.specs.History.{History, at, capacity, frames, frames_after
 use Rattle.gate_model.specs.Delivered.{last_sync, delivered}
 use Rattle.gate_model.specs.Steps.{Legal}
 use Rattle.gate_model.specs.Truth.{AllDrawn}
+use Rattle.frame_draw.specs.Readable.{AreReadable}
 use Rattle.desk_core.specs.declared.progress.Progress.{Progress}
 
 -- `capacity` is the most entries; `stored` has every entry, the oldest first, and `entries` counts
@@ -35,6 +36,7 @@ pub record HasCome (h : History) (given : List Instr) (p : Progress) : Type 0 wh
 pub record Stands (d : DeskState) (h : History) : Type 0 where
   pub legal : Legal h
   pub drawn : AllDrawn h
+  pub readable : AreReadable (all_frames h)
   pub capacity : d.capacity ≡ capacity h
   pub stored : d.stored ≡ reverse h
   pub entries : d.entries ≡ length h

@@ -1,6 +1,7 @@
 //! From bytes of the Telnet host to the next screen and its frame.
 
 ghost use Rattle.std.specs.Prelude.{◌≡◌, ◌<◌, ◌^◌, ◌-◌, IfOk};
+ghost use Rattle.frame_draw.specs.Readable.{AreReadable};
 ghost use Rattle.gate_model.specs.Frames.{Redraws};
 ghost use Rattle.gate_model.specs.History.{next_stamp};
 ghost use Rattle.gate_model.specs.Screens.{AreColoured, after_bytes, control_of, first_unbuilt, is_built, shown};
@@ -49,6 +50,7 @@ pub(crate) fn redraw(
     ensures screen { IfOk result (λ d. d.screen ≡ after_bytes screen.now bytes.now) }
     ensures shape { IfOk result (λ d. Shape (shown (after_bytes screen.now bytes.now)).cols (shown (after_bytes screen.now bytes.now)).rows d.frame stamp) }
     ensures redraws { IfOk result (λ d. Redraws d.frame (shown (after_bytes screen.now bytes.now))) }
+    ensures readable { IfOk result (λ d. AreReadable d.frame) }
 {
     let mut next = screen.copy(alloc)?;
     show(&mut next, bytes);

@@ -4,3 +4,4 @@ pub mod Papers
 pub mod Inks
 pub mod Picture
 pub mod Shapes
+pub mod Readables

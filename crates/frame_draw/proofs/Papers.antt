@@ -24,7 +24,7 @@ unfoldable pub papered : KeyGrid → ℕ → (ℕ → ℕ → Option Colour) →
 papered s n pixel px py = if nat_lt (py / 16) n then Some (paper_at s px py) else pixel px py
 
 -- ---- the runs of a row
-start_below : (s : KeyGrid) (y n : ℕ) → run_start s y n ≤ n
+pub start_below : (s : KeyGrid) (y n : ℕ) → run_start s y n ≤ n
 unfolding run_start
 start_below s y zero = omega arith
 start_below s y (suc n) = either ((key_in s y n).paper == (key_in s y (n - 1)).paper) (start_below s y n)

@@ -1,4 +1,6 @@
+use Rattle.std.proofs.Common.{arith}
 use Rattle.frame_draw.proofs.Shapes.{frame_list, frame_shape, frame_redraws}
+use Rattle.frame_draw.proofs.Readables.{frame_readable}
 use Rattle.frame_draw.proofs.drawer.frame.Goals as goal
 
 pub returns : goal.returns
@@ -8,4 +10,5 @@ returns c =
     record {
       shape = frame_shape c.args.now.now c.args.stamp c.of.result e;
       redraws = frame_redraws c.args.now.now c.args.stamp c.of.result e;
+      readable = frame_readable c.args.now.now c.args.stamp c.of.result c.requires.size (omega (arith, c.ranges.stamp)) e;
     }

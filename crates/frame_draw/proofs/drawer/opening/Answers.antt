@@ -1,4 +1,6 @@
+use Rattle.std.proofs.Common.{arith}
 use Rattle.frame_draw.proofs.Shapes.{opening_list, opening_shape, opening_opens, opening_first}
+use Rattle.frame_draw.proofs.Readables.{opening_readable}
 use Rattle.frame_draw.proofs.drawer.opening.Goals as goal
 
 pub returns : goal.returns
@@ -9,4 +11,5 @@ returns c =
       shape = opening_shape c.args.now.now c.args.stamp c.of.result e;
       opens = opening_first c.args.now.now c.args.stamp c.of.result e;
       drawn = opening_opens c.args.now.now c.args.stamp c.of.result e;
+      readable = opening_readable c.args.now.now c.args.stamp c.of.result c.requires.size (omega (arith, c.ranges.stamp)) e;
     }

@@ -63,7 +63,7 @@ invariant_of-self-2 c =
     let kept : c.store_feed.new.stored.items ≡ i.stored.items ++ Feed c.args.bytes.now c.next_stamp-stamp.result c.in_ok-drawn.drawn.frame ∷ [] =
     c.in_ok-store_feed.ensures.kept ∙ ap (λ (bs : List ℕ). i.stored.items ++ Feed bs c.next_stamp-stamp.result c.in_ok-drawn.drawn.frame ∷ []) (c.of-piece.ensures ∙ c.in_ok-from_slice.ensures.items) in
     let a = added_feed d h c.args.bytes.now c.args.now c.next_stamp-stamp.result c.len.result c.in_ok-drawn.drawn.frame c.store_feed.new.stored.items c.in_ok-drawn.drawn.screen c.store_feed.new.text.items s c.requires built (omega (arith, c.if-self.false))
-    c.next_stamp-stamp.ensures c.in_ok-drawn.ensures.shape c.in_ok-drawn.ensures.redraws kept c.in_ok-drawn.ensures.screen c.in_ok-store_feed.ensures.appended (omega (arith, c.len.ensures, c.store_feed.new.text.ok.0)) in
+    c.next_stamp-stamp.ensures c.in_ok-drawn.ensures.shape c.in_ok-drawn.ensures.redraws c.in_ok-drawn.ensures.readable kept c.in_ok-drawn.ensures.screen c.in_ok-store_feed.ensures.appended (omega (arith, c.len.ensures, c.store_feed.new.text.ok.0)) in
     (a.entry ∷ h, a.stands)
 
 pub returns-clause-step : goal.returns-clause-step
@@ -75,7 +75,7 @@ returns-clause-step c = λ h stood.
     let kept : c.store_feed.new.stored.items ≡ i.stored.items ++ Feed c.args.bytes.now c.next_stamp-stamp.result c.in_ok-drawn.drawn.frame ∷ [] =
     c.in_ok-store_feed.ensures.kept ∙ ap (λ (bs : List ℕ). i.stored.items ++ Feed bs c.next_stamp-stamp.result c.in_ok-drawn.drawn.frame ∷ []) (c.of-piece.ensures ∙ c.in_ok-from_slice.ensures.items) in
     added_feed d h c.args.bytes.now c.args.now c.next_stamp-stamp.result c.len.result c.in_ok-drawn.drawn.frame c.store_feed.new.stored.items c.in_ok-drawn.drawn.screen c.store_feed.new.text.items s c.requires built (omega (arith, c.if-self.false))
-    c.next_stamp-stamp.ensures c.in_ok-drawn.ensures.shape c.in_ok-drawn.ensures.redraws kept c.in_ok-drawn.ensures.screen c.in_ok-store_feed.ensures.appended (omega (arith, c.len.ensures, c.store_feed.new.text.ok.0))
+    c.next_stamp-stamp.ensures c.in_ok-drawn.ensures.shape c.in_ok-drawn.ensures.redraws c.in_ok-drawn.ensures.readable kept c.in_ok-drawn.ensures.screen c.in_ok-store_feed.ensures.appended (omega (arith, c.len.ensures, c.store_feed.new.text.ok.0))
 
 pub returns-clause-few : goal.returns-clause-few
 returns-clause-few c =

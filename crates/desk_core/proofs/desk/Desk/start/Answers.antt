@@ -24,7 +24,7 @@ invariant_of-result c =
     c.in_ok-store.ensures.kept ∙ ap (λ (es : List Entry). es ++ Start c.args.setup.cols c.args.setup.rows c.args.setup.mode c.args.setup.term c.args.setup.entries c.next_stamp-stamp.result c.in_ok-frame.frame ∷ []) c.new-stored.ensures.items in
     let o = opened_desk c.args.setup c.args.now c.next_stamp-stamp.result c.len-bytes.result c.in_ok-frame.frame c.store.new.stored.items c.in_ok-screen.screen c.texts_of.new.into.items c.new-2.result.items c.requires c.next_stamp-stamp.ensures
     (subst (λ (s : KeyGrid). Shape s.cols s.rows c.in_ok-frame.frame c.next_stamp-stamp.result) is c.in_ok-frame.ensures.shape) c.in_ok-frame.ensures.opens
-    (subst (λ (s : KeyGrid). Opens c.in_ok-frame.frame s) is c.in_ok-frame.ensures.drawn) kept c.in_ok-screen.ensures text (omega (arith, c.len-bytes.ensures, c.texts_of.new.into.ok.0)) c.new-2.ensures.items in
+    (subst (λ (s : KeyGrid). Opens c.in_ok-frame.frame s) is c.in_ok-frame.ensures.drawn) c.in_ok-frame.ensures.readable kept c.in_ok-screen.ensures text (omega (arith, c.len-bytes.ensures, c.texts_of.new.into.ok.0)) c.new-2.ensures.items in
     (o.entry ∷ [], o.stands)
 
 pub returns-clause-opened : goal.returns-clause-opened
@@ -35,4 +35,4 @@ returns-clause-opened c =
     c.in_ok-store.ensures.kept ∙ ap (λ (es : List Entry). es ++ Start c.args.setup.cols c.args.setup.rows c.args.setup.mode c.args.setup.term c.args.setup.entries c.next_stamp-stamp.result c.in_ok-frame.frame ∷ []) c.new-stored.ensures.items in
     opened_desk c.args.setup c.args.now c.next_stamp-stamp.result c.len-bytes.result c.in_ok-frame.frame c.store.new.stored.items c.in_ok-screen.screen c.texts_of.new.into.items c.new-2.result.items c.requires c.next_stamp-stamp.ensures
     (subst (λ (s : KeyGrid). Shape s.cols s.rows c.in_ok-frame.frame c.next_stamp-stamp.result) is c.in_ok-frame.ensures.shape) c.in_ok-frame.ensures.opens
-    (subst (λ (s : KeyGrid). Opens c.in_ok-frame.frame s) is c.in_ok-frame.ensures.drawn) kept c.in_ok-screen.ensures text (omega (arith, c.len-bytes.ensures, c.texts_of.new.into.ok.0)) c.new-2.ensures.items
+    (subst (λ (s : KeyGrid). Opens c.in_ok-frame.frame s) is c.in_ok-frame.ensures.drawn) c.in_ok-frame.ensures.readable kept c.in_ok-screen.ensures text (omega (arith, c.len-bytes.ensures, c.texts_of.new.into.ok.0)) c.new-2.ensures.items
