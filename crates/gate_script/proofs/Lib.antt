@@ -1,7 +1,10 @@
 pub mod PieceLaws
 pub mod NumberLaws
 pub mod ReportLaws
+pub mod ShownLaws
 pub mod SessionLaws
+pub mod PlayingLaws
+pub mod ActsLaws
 pub mod RunLaws
 pub mod HexLaws
 pub mod GrammarLaws

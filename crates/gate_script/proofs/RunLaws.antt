@@ -14,6 +14,9 @@ use Rattle.gate_script.specs.declared.stop.Stop.TheVariants.{ReadFault, WriteFau
 use Rattle.gate_script.specs.declared.refused.Refused.TheVariants.{BadLine}
 use Rattle.gate_script.specs.Lines.{Line, bad, moment, server, read_untold, acknowledge, done, draw_lines}
 use Rattle.gate_script.specs.Grammar.{ending, lines_of, script_lines, in_place, judged, line_of, content, most_script, most_line}
+use Rattle.gate_script.specs.Meanings.{call_meant}
+use Rattle.gate_script.specs.declared.line.Call.{Call}
+use Rattle.gate_script.specs.declared.line.Call.TheVariants.{Server, JoinOwner, Read, Write, Pixel, Same}
 use Rattle.gate_script.specs.Told.{answer_line}
 use Rattle.gate_script.specs.Running.{Told, At, StoppedIn, Ends, Stays, DoesLines, HasDone, IsDrawing, PieceEnds, LineEnds, LastEnds, AllDone, Put, stopped_at}
 use Rattle.gate_script.proofs.ReportLaws.{said_alone}
@@ -37,8 +40,8 @@ nothing_done a0 f0 = record { answers = []; framings = []; plays = (refl, refl, 
 module _ (lines : List Line) (now : ℕ) (a0 f0 a f : Option (List ℕ)) where
   -- a line is outside the grammar
   pub stopped_at_bad : (o : Option Session) → Stays lines now o a0 f0 a f → (n : ℕ) → length lines ≡ n → (stop : Stop) → stop ≡ stopped_at (n + 1) → StoppedIn (bad ∷ lines) stop a0 f0 a f
-  stopped_at_bad None t n is stop stop_is = rw stop_is (refused_line_ends bad lines (play now []) a0 f0 a f t (BadLine (n + 1)) tt (refl, omega (arith, is)))
-  stopped_at_bad (Some s) at n is stop stop_is = rw stop_is (refused_line_ends bad lines (play now at.history) a0 f0 a f at.told (BadLine (n + 1)) (lawful s.desk at.history at.stands) (refl, omega (arith, is)))
+  stopped_at_bad None t n is stop stop_is = rw stop_is (refused_line_ends bad lines (play now []) a0 f0 a f t (BadLine (n + 1)) tt (inl refl, omega (arith, is)))
+  stopped_at_bad (Some s) at n is stop stop_is = rw stop_is (refused_line_ends bad lines (play now at.history) a0 f0 a f at.told (BadLine (n + 1)) (lawful s.desk at.history at.stands) (inl refl, omega (arith, is)))
 
   -- before `start` there is no session
   pub told_before : (o : Option Session) → is_some o ≡ false → Stays lines now o a0 f0 a f → Told lines (play now []) a0 f0 a f
@@ -58,20 +61,20 @@ module _ (lines : List Line) (now : ℕ) (a0 f0 a f : Option (List ℕ)) where
 module _ (pieces : List (List ℕ)) (r r' : Run) (s s' : Session) (a0 f0 a a' f f' : Option (List ℕ)) (is : r.session ≡ Some s) where
   -- `draw` did a piece, by what its session did
   pub draw_ends : (form : Form) (piece : List ℕ) → IsDrawing form → HasDone form pieces r a0 f0 a f → r'.session ≡ Some s' → r'.moment ≡ r.moment → (result : Result (Unit {0}) Stop)
-      → ((lines : List Line) → At lines 0 s.desk a0 f0 a f → Ends (acknowledge 1 ∷ read_untold 1 ∷ server piece ∷ lines) 0 result s'.desk a0 f0 a' f') → PieceEnds form (piece ∷ pieces) result r' a0 f0 a' f'
+      → ((lines : List Line) → At lines 0 s a0 f0 a f → Ends (acknowledge 1 ∷ read_untold 1 ∷ server piece ∷ lines) 0 result s' a0 f0 a' f') → PieceEnds form (piece ∷ pieces) result r' a0 f0 a' f'
   draw_ends (Draw size) piece d had is' same result ends = cases result (ends (draw_lines size pieces) (subst (λ (o : Option Session). Stays (draw_lines size pieces) 0 o a0 f0 a f) is had.stays))
     where
-      cases : (result : Result (Unit {0}) Stop) → Ends (acknowledge 1 ∷ read_untold 1 ∷ server piece ∷ draw_lines size pieces) 0 result s'.desk a0 f0 a' f' → PieceEnds (Draw size) (piece ∷ pieces) result r' a0 f0 a' f'
+      cases : (result : Result (Unit {0}) Stop) → Ends (acknowledge 1 ∷ read_untold 1 ∷ server piece ∷ draw_lines size pieces) 0 result s' a0 f0 a' f' → PieceEnds (Draw size) (piece ∷ pieces) result r' a0 f0 a' f'
       cases (Ok u) at = record { moment = same ∙ had.moment; stays = subst (λ (o : Option Session). Stays (draw_lines size (piece ∷ pieces)) 0 o a0 f0 a' f') (sym is') at }
       cases (Err stop) e = e
   draw_ends (Script entries) piece d had is' same result ends = absurd d
 
   -- `draw` told the newest stamp
   pub done_ends : (form : Form) → IsDrawing form → HasDone form pieces r a0 f0 a f → (result : Result (Unit {0}) Stop)
-      → ((lines : List Line) → At lines 0 s.desk a0 f0 a f → Ends (done ∷ lines) 0 result s'.desk a0 f0 a' f') → LastEnds (ending form (lines_of form pieces)) result a0 f0 a' f'
+      → ((lines : List Line) → At lines 0 s a0 f0 a f → Ends (done ∷ lines) 0 result s' a0 f0 a' f') → LastEnds (ending form (lines_of form pieces)) result a0 f0 a' f'
   done_ends (Draw size) d had result ends = cases result (ends (draw_lines size pieces) (subst (λ (o : Option Session). Stays (draw_lines size pieces) 0 o a0 f0 a f) is had.stays))
     where
-      cases : (result : Result (Unit {0}) Stop) → Ends (done ∷ draw_lines size pieces) 0 result s'.desk a0 f0 a' f' → LastEnds (done ∷ draw_lines size pieces) result a0 f0 a' f'
+      cases : (result : Result (Unit {0}) Stop) → Ends (done ∷ draw_lines size pieces) 0 result s' a0 f0 a' f' → LastEnds (done ∷ draw_lines size pieces) result a0 f0 a' f'
       cases (Ok u) at = all_done (done ∷ draw_lines size pieces) 0 a0 f0 a' f' (Some s') at
       cases (Err stop) e = e
   done_ends (Script entries) d had result ends = absurd d
@@ -90,6 +93,15 @@ pub in_place-bad : (opened : Bool) → in_place opened bad ≡ bad
 in_place-bad true = refl
 in_place-bad false = refl
 
+-- a call of the session before `start`
+pub call-unopened : (call : Call) → in_place false (call_meant call) ≡ bad
+call-unopened (Server bytes) = refl
+call-unopened JoinOwner = refl
+call-unopened (Read viewer) = refl
+call-unopened (Write viewer text) = refl
+call-unopened (Pixel viewer x y) = refl
+call-unopened (Same one other) = refl
+
 -- the moment was set
 pub moment_ends : (lines : List Line) (r r' : Run) (a0 f0 a a' f : Option (List ℕ)) (now : ℕ) → DoesLines lines r a0 f0 a f → r'.moment ≡ now → r'.session ≡ r.session → (result : Result (Unit {0}) Stop) → Put result (answer_line (codes "now") (now ∷ [])) a a'
     → LineEnds (moment now ∷ lines) result r' a0 f0 a' f
@@ -107,14 +119,14 @@ moment_ends lines r r' a0 f0 a a' f now does moment_is same result put = by_sess
         let t : Told lines (play r.moment []) a0 f0 a f = subst (λ (o : Option Session). Stays lines r.moment o a0 f0 a f) is does.stays in
         stopped-more (moment now) lines (play r.moment []) a0 f0 a f t (play now []) (answer_line (codes "now") (now ∷ [])) [] a' f stop (record { same = refl; answered = refl; framed = refl }) tt (said_alone (answer_line (codes "now") (now ∷ [])) a a' f (Err stop) put)
     by_session (Some s) is (Ok u) put =
-        let at : At lines r.moment s.desk a0 f0 a f = subst (λ (o : Option Session). Stays lines r.moment o a0 f0 a f) is does.stays in
+        let at : At lines r.moment s a0 f0 a f = subst (λ (o : Option Session). Stays lines r.moment o a0 f0 a f) is does.stays in
         let w = said_alone (answer_line (codes "now") (now ∷ [])) a a' f (Ok tt) put in
         record {
-          stays = rw (moment_is, same ∙ is) (record { history = at.history; told = told-more (moment now) lines (play r.moment at.history) a0 f0 a f at.told (play now at.history) (answer_line (codes "now") (now ∷ [])) [] a' f (record { same = refl; answered = refl; framed = refl }) w.0 w.1; stands = at.stands });
+          stays = rw (moment_is, same ∙ is) (record { history = at.history; told = told-more (moment now) lines (play r.moment at.history) a0 f0 a f at.told (play now at.history) (answer_line (codes "now") (now ∷ [])) [] a' f (record { same = refl; answered = refl; framed = refl }) w.0 w.1; stands = at.stands; shown = at.shown });
           opened = does.opened ∙ ap (λ (o : Option Session). is_some o) (sym same);
         }
     by_session (Some s) is (Err stop) put =
-        let at : At lines r.moment s.desk a0 f0 a f = subst (λ (o : Option Session). Stays lines r.moment o a0 f0 a f) is does.stays in
+        let at : At lines r.moment s a0 f0 a f = subst (λ (o : Option Session). Stays lines r.moment o a0 f0 a f) is does.stays in
         stopped-more (moment now) lines (play r.moment at.history) a0 f0 a f at.told (play now at.history) (answer_line (codes "now") (now ∷ [])) [] a' f stop (record { same = refl; answered = refl; framed = refl }) (lawful s.desk at.history at.stands) (said_alone (answer_line (codes "now") (now ∷ [])) a a' f (Err stop) put)
 
 -- as many lines as pieces

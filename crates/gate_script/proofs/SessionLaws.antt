@@ -1,6 +1,6 @@
 -- One line more: what it tells, and how a call ends that stopped in it.
-use Rattle.std.proofs.Common.{◌≡◌, ℕ, List, [], ◌∷◌, ◌++◌, length, Bool, true, false, refl, ap, sym, ◌∙◌, subst, append_assoc, append-nil}
-use Rattle.std.specs.Prelude.{Result, Ok, Err, Option, Some, codes, not, ◌&&◌, ◌==◌, if◌then◌else◌}
+use Rattle.std.proofs.Common.{◌≡◌, ℕ, List, [], ◌∷◌, ◌++◌, length, ◌≤◌, ◌-◌, ◌+◌, Bool, true, false, inl, inr, slice_index_or, refl, ap, sym, ◌∙◌, subst, append_assoc, append-nil}
+use Rattle.std.specs.Prelude.{Result, Ok, Err, Option, Some, codes, not, ◌&&◌, ◌==◌, if◌then◌else◌, IsTrue, ◌↔◌}
 use Rattle.std.proofs.lemmas.Bool.{eq-eqb}
 use Rattle.gate_model.specs.declared.act.Act.{Act}
 use Rattle.gate_model.specs.declared.act.Act.TheVariants.{Sync as act_sync}
@@ -14,7 +14,7 @@ use Rattle.gate_model.specs.declared.sharing.Share.{Share}
 use Rattle.gate_model.specs.declared.entry.Entry.{Entry}
 use Rattle.gate_model.specs.declared.entry.Entry.TheVariants.{Start, Feed, Join, Read, Write}
 use Rattle.gate_model.specs.declared.event.Event.{Event}
-use Rattle.gate_model.specs.declared.event.Event.TheVariants.{Feed as feed, Join as join_in, Read as read_as, Write as write}
+use Rattle.gate_model.specs.declared.event.Event.TheVariants.{Feed as feed, Join as join_in, Read as read_as, Write as write_acts}
 use Rattle.gate_model.specs.declared.joined.Joined.{Joined}
 use Rattle.gate_model.specs.declared.written.Written.{Written}
 use Rattle.gate_model.specs.declared.feed_refusal.FeedRefusal.TheVariants.{Worn as feed_worn, Unbuilt as feed_unbuilt}
@@ -27,7 +27,7 @@ use Rattle.gate_model.specs.declared.write_refusal.WriteRefusal.{WriteRefusal}
 use Rattle.gate_model.specs.declared.write_refusal.WriteRefusal.TheVariants.{Worn as write_worn}
 use Rattle.gate_model.specs.Sequences.{BeginsWith}
 use Rattle.gate_model.specs.Text.{texts}
-use Rattle.gate_model.specs.History.{History, newest, newest_frame, next_stamp, is_closed, is_full}
+use Rattle.gate_model.specs.History.{History, joined, newest, newest_frame, next_stamp, is_closed, is_full}
 use Rattle.gate_model.specs.Delivered.{delivered, given, position}
 use Rattle.gate_model.specs.Rights.{is_live}
 use Rattle.gate_model.specs.Refusals.{first_of, only_if, read_stop}
@@ -38,16 +38,26 @@ use Rattle.gate_outside.proofs.Moved.{gained-none, gained-gained}
 use Rattle.desk_core.specs.Desk.{DeskState, Stands}
 use Rattle.desk_core.specs.Calls.{Opened, FeedEnds, JoinEnds, ReadEnds, WriteEnds, OnNothing}
 use Rattle.gate_script.specs.declared.refused.Refused.{Refused as Refusal}
-use Rattle.gate_script.specs.declared.refused.Refused.TheVariants.{Worn, Unbuilt}
+use Rattle.gate_script.specs.declared.refused.Refused.TheVariants.{BadLine, Worn, Unbuilt}
 use Rattle.gate_script.specs.declared.size.Size.{Size}
 use Rattle.gate_script.specs.declared.stop.Stop.{Stop}
 use Rattle.gate_script.specs.declared.stop.Stop.TheVariants.{ReadFault, WriteFault, NoMemory, Refused}
-use Rattle.gate_script.specs.Lines.{Line, start, server, join, read, read_untold, acknowledge, done}
-use Rattle.gate_script.specs.Told.{answer_line, answer_to, frames_line, framings, read_told}
-use Rattle.gate_script.specs.Plays.{Play, Plays, Does, Calls, Untold, IsLawful, setup_of}
+use Rattle.gate_script.specs.Lines.{Line, start, server, join, read, write, read_untold, acknowledge, done}
+use Rattle.gate_script.specs.Told.{answer_line, answer_to, frames_line, framings, joined_line, read_told, refused_line, written_line, write_answer, pixel_line, same_line, differ_line}
+use Rattle.gate_script.specs.Plays.{Play, Plays, Does, Calls, Answers, Untold, IsLawful, setup_of, seen, pixel_answer, Compares}
 use Rattle.gate_script.specs.Outcomes.{IsRefused}
-use Rattle.gate_script.specs.Running.{Told, At, ShortOf, StoppedIn, Ends, Fronts, Reported, Put, read_shown}
+use Rattle.gate_script.specs.Running.{Told, At, AreShown, PlaysOn, ShortOf, StoppedIn, Ends, Fronts, Reported, Put, read_shown, stopped_at}
 use Rattle.gate_script.proofs.ReportLaws.{said_alone, shown_alone, whole}
+use Rattle.gate_script.proofs.ShownLaws.{shown_none, shown_plain, shown_join, shown_read, shown_still, given_by_join, there, both, numbered, canvas_shows}
+use Rattle.canvas.specs.Kept.{KeptLayer}
+use Rattle.canvas.specs.Standing.{Stands as stands_for, dot_at}
+use Rattle.canvas.specs.declared.dot.Dot.{Dot}
+use Rattle.desk_core.specs.Places.{is_there}
+use Rattle.gate_script.specs.declared.reading.Reading.TheVariants.{Whole, TooMany}
+use Rattle.gate_script.specs.Acts.{IsReading}
+use Rattle.frame_draw.specs.Readable.{AreReadable}
+use Rattle.gate_model.specs.Layers.{Layers, Same, draw, nothing, visible}
+use Rattle.gate_script.specs.declared.session.Session.{Session}
 
 abbrev pub play : ℕ → History → Play
 play now h = record { now = now; history = h }
@@ -121,14 +131,20 @@ module _ (line : Line) (lines : List Line) (p : Play) (a0 f0 a f : Option (List 
   pub refused_line_ends : (refused : Refusal) → IsLawful p.history → IsRefused refused line lines p → StoppedIn (line ∷ lines) (Refused refused) a0 f0 a f
   refused_line_ends refused is_lawful is = record { lines = lines; next = line; play = p; first = ([], refl); told = t; lawful = is_lawful; is_refused = is }
 
--- the line was done by a desk that stands for the history then
-pub line_ends : (line : Line) (lines : List Line) (p : Play) (now : ℕ) (h : History) (n : DeskState) (a0 f0 a a' f f' : Option (List ℕ)) (answer shown : List ℕ)
-    → Told lines p a0 f0 a f → Does line p (play now h) answer shown → Stands n h → (r : Result (Unit {0}) Stop) → Reported r answer shown a a' f f' → Ends (line ∷ lines) now r n a0 f0 a' f'
-line_ends line lines p now h n a0 f0 a a' f f' answer shown t does stands (Ok u) w = record { history = h; told = told-more line lines p a0 f0 a f t (play now h) answer shown a' f' does w.0 w.1; stands = stands }
-line_ends line lines p now h n a0 f0 a a' f f' answer shown t does stands (Err stop) w = stopped-more line lines p a0 f0 a f t (play now h) answer shown a' f' stop does (lawful n h stands) w
+-- the line was done by a session that stands for the history then
+pub line_ends : (line : Line) (lines : List Line) (p : Play) (now : ℕ) (h : History) (n : Session) (a0 f0 a a' f f' : Option (List ℕ)) (answer shown : List ℕ)
+    → Told lines p a0 f0 a f → Does line p (play now h) answer shown → Stands n.desk h → AreShown n.canvases.items h → (r : Result (Unit {0}) Stop) → Reported r answer shown a a' f f' → Ends (line ∷ lines) now r n a0 f0 a' f'
+line_ends line lines p now h n a0 f0 a a' f f' answer shown t does stands canvases (Ok u) w = record { history = h; told = told-more line lines p a0 f0 a f t (play now h) answer shown a' f' does w.0 w.1; stands = stands; shown = canvases }
+line_ends line lines p now h n a0 f0 a a' f f' answer shown t does stands canvases (Err stop) w = stopped-more line lines p a0 f0 a f t (play now h) answer shown a' f' stop does (lawful n.desk h stands) w
 
 only : {A : Type 0} (x y : A) → x ∷ [] ≡ y ∷ [] → x ≡ y
 only x y e = cc
+
+same_items : (n m : Session) → n.canvases ≡ m.canvases → n.canvases.items ≡ m.canvases.items
+same_items n m e = rw e refl
+
+same_given : (n m : Session) → n.given ≡ m.given → n.given.items ≡ m.given.items
+same_given n m e = rw e refl
 
 -- what an entry shows, by what it is
 framed-feed : (h : History) (e : Entry) (bytes : List ℕ) (stamp : ℕ) (frame : List Instr) → e ≡ Feed bytes stamp frame → frames_line 0 (texts (newest_frame (e ∷ h))) ≡ framings h (e ∷ [])
@@ -147,13 +163,13 @@ framed-write : (h : History) (e : Entry) (v : ℕ) (acts : List Act) → e ≡ W
 framed-write h e v acts is = rw is refl
 
 -- the session has started
-pub started : (lines : List Line) (size : Size) (mode : Share) (entries now : ℕ) (d : DeskState) (a0 f0 a a' f f' : Option (List ℕ)) → Told lines (play now []) a0 f0 a f → (o : Opened (setup_of size mode entries) now d)
+pub started : (lines : List Line) (size : Size) (mode : Share) (entries now : ℕ) (s : Session) (a0 f0 a a' f f' : Option (List ℕ)) → Told lines (play now []) a0 f0 a f → (o : Opened (setup_of size mode entries) now s.desk) → s.canvases.items ≡ []
     → (stamp : ℕ) (text : List ℕ) → stamp ≡ newest (o.entry ∷ []) → text ≡ texts (newest_frame (o.entry ∷ []))
-    → (r : Result (Unit {0}) Stop) → Reported r (answer_line (codes "started") (stamp ∷ [])) (frames_line 0 text) a a' f f' → Ends (start size mode entries ∷ lines) now r d a0 f0 a' f'
-started lines size mode entries now d a0 f0 a a' f f' t o stamp text stamp_is text_is r w =
+    → (r : Result (Unit {0}) Stop) → Reported r (answer_line (codes "started") (stamp ∷ [])) (frames_line 0 text) a a' f f' → Ends (start size mode entries ∷ lines) now r s a0 f0 a' f'
+started lines size mode entries now s a0 f0 a a' f f' t o none stamp text stamp_is text_is r w =
     let is = o.step.1 in
     let newest_is : newest (o.entry ∷ []) ≡ next_stamp 0 now = ap (λ (e : Entry). newest (e ∷ [])) is in
-    line_ends (start size mode entries) lines (play now []) now (o.entry ∷ []) d a0 f0 a a' f f' (answer_line (codes "started") (stamp ∷ [])) (frames_line 0 text) t
+    line_ends (start size mode entries) lines (play now []) now (o.entry ∷ []) s a0 f0 a a' f f' (answer_line (codes "started") (stamp ∷ [])) (frames_line 0 text) t
     (record {
       fresh = refl;
       entry = o.entry;
@@ -161,117 +177,255 @@ started lines size mode entries now d a0 f0 a a' f f' t o stamp text stamp_is te
       after_it = refl;
       answered = ap (λ (s : ℕ). answer_line (codes "started") (s ∷ [])) (stamp_is ∙ newest_is);
       framed = ap (frames_line 0) text_is ∙ framed-start o.entry size.cols size.rows mode (codes "linux") entries (next_stamp 0 now) o.step.0 is;
-    }) o.stands r w
+    }) o.stands (shown_none s.canvases.items (o.entry ∷ []) none (ap (λ (e : Entry). joined (e ∷ [])) is)) r w
 
-module _ (lines : List Line) (now : ℕ) (d : DeskState) (a0 f0 a f : Option (List ℕ)) (at : At lines now d a0 f0 a f) where
+module _ (lines : List Line) (now : ℕ) (s : Session) (a0 f0 a f : Option (List ℕ)) (at : At lines now s a0 f0 a f) where
   abbrev pub p : Play
   p = play now at.history
 
   -- the call was refused, or gave nothing, and that was told
-  pub nothing_added : (line : Line) (event : Event) (result : Answer) (answer : List ℕ) (n : DeskState) (a' : Option (List ℕ)) → Step at.history event result [] → answer_to result ≡ Some answer
-      → (Calls event p p answer [] → Does line p p answer []) → n ≡ d → (r : Result (Unit {0}) Stop) → Put r answer a a' → Ends (line ∷ lines) now r n a0 f0 a' f
-  nothing_added line event result answer n a' step told does same r put =
-      line_ends line lines p now at.history n a0 f0 a a' f f answer [] at.told (does (record { result = result; added = []; step = step; told = told; after_it = refl; framed = refl })) (subst (λ (k : DeskState). Stands k at.history) (sym same) at.stands) r (said_alone answer a a' f r put)
+  pub nothing_added : (line : Line) (event : Event) (result : Answer) (answer : List ℕ) (n : Session) (a' : Option (List ℕ)) → Step at.history event result [] → answer_to result ≡ Some answer
+      → (Calls event p p answer [] → Does line p p answer []) → n.desk ≡ s.desk → n.canvases.items ≡ s.canvases.items → (r : Result (Unit {0}) Stop) → Put r answer a a' → Ends (line ∷ lines) now r n a0 f0 a' f
+  nothing_added line event result answer n a' step told does same seen_same r put =
+      line_ends line lines p now at.history n a0 f0 a a' f f answer [] at.told (does (record { result = result; added = []; step = step; told = told; after_it = refl; framed = refl })) (subst (λ (k : DeskState). Stands k at.history) (sym same) at.stands) (subst (λ (cs : List (List KeptLayer)). AreShown cs at.history) (sym seen_same) at.shown) r (said_alone answer a a' f r put)
 
   -- the line ends the run
   pub refuses : (line : Line) (refused : Refusal) → IsRefused refused line lines p → StoppedIn (line ∷ lines) (Refused refused) a0 f0 a f
-  refuses line refused is = refused_line_ends line lines p a0 f0 a f at.told refused (lawful d at.history at.stands) is
+  refuses line refused is = refused_line_ends line lines p a0 f0 a f at.told refused (lawful s.desk at.history at.stands) is
 
   pub out_of_memory : (line : Line) → StoppedIn (line ∷ lines) NoMemory a0 f0 a f
-  out_of_memory line = no_memory line lines p a0 f0 a f at.told (lawful d at.history at.stands)
+  out_of_memory line = no_memory line lines p a0 f0 a f at.told (lawful s.desk at.history at.stands)
 
   -- the host's bytes were fed
-  pub bytes_fed : (bytes : List ℕ) (stamp : ℕ) (n : DeskState) (ends : FeedEnds at.history bytes now (Ok stamp) n) (text : List ℕ) → text ≡ texts (newest_frame (ends.entry ∷ at.history)) → (a' f' : Option (List ℕ)) (r : Result (Unit {0}) Stop)
+  pub bytes_fed : (bytes : List ℕ) (stamp : ℕ) (n : Session) (ends : FeedEnds at.history bytes now (Ok stamp) n.desk) → n.canvases.items ≡ s.canvases.items → (text : List ℕ) → text ≡ texts (newest_frame (ends.entry ∷ at.history)) → (a' f' : Option (List ℕ)) (r : Result (Unit {0}) Stop)
       → Reported r (answer_line (codes "synced") (stamp ∷ [])) (frames_line 0 text) a a' f f' → Ends (server bytes ∷ lines) now r n a0 f0 a' f'
-  bytes_fed bytes stamp n ends text text_is a' f' r w =
+  bytes_fed bytes stamp n ends same text text_is a' f' r w =
       let adds = ends.step.1 in
       let is = only ends.entry (Feed bytes stamp adds.frame) adds.adds in
       line_ends (server bytes) lines p now (ends.entry ∷ at.history) n a0 f0 a a' f f' (answer_line (codes "synced") (stamp ∷ [])) (frames_line 0 text) at.told
-      (record { result = fed (Ok stamp); added = ends.entry ∷ []; step = ends.step; told = refl; after_it = refl; framed = ap (frames_line 0) text_is ∙ framed-feed at.history ends.entry bytes stamp adds.frame is }) ends.stands r w
+      (record { result = fed (Ok stamp); added = ends.entry ∷ []; step = ends.step; told = refl; after_it = refl; framed = ap (frames_line 0) text_is ∙ framed-feed at.history ends.entry bytes stamp adds.frame is }) ends.stands
+      (subst (λ (cs : List (List KeptLayer)). AreShown cs (ends.entry ∷ at.history)) (sym same) (subst (λ (e : Entry). AreShown s.canvases.items (e ∷ at.history)) (sym is) (shown_plain s.canvases.items at.history (Feed bytes stamp adds.frame) at.shown refl (λ v. refl)))) r w
 
   pub feed_is_worn : (bytes : List ℕ) (entries : ℕ) → FeedStep at.history bytes now (Err (feed_worn entries)) [] → IsRefused (Worn entries) (server bytes) lines p
-  feed_is_worn bytes entries step = (fed (Err (feed_worn entries)), record { event = feed bytes now; is_event = refl; step = step }, refl)
+  feed_is_worn bytes entries step = (fed (Err (feed_worn entries)), record { event = feed bytes now; makes = refl; step = step }, refl)
 
   pub feed_is_unbuilt : (bytes : List ℕ) (place : ℕ) → FeedStep at.history bytes now (Err (feed_unbuilt place)) [] → IsRefused (Unbuilt place) (server bytes) lines p
-  feed_is_unbuilt bytes place step = (fed (Err (feed_unbuilt place)), record { event = feed bytes now; is_event = refl; step = step }, refl)
+  feed_is_unbuilt bytes place step = (fed (Err (feed_unbuilt place)), record { event = feed bytes now; makes = refl; step = step }, refl)
 
   -- the owner joined
-  pub owner_joined : (given_ : Joined) (n : DeskState) (before text : List ℕ) → before ≡ [] → JoinEnds at.history Owner (Ok given_) n before text → (a' f' : Option (List ℕ)) (r : Result (Unit {0}) Stop)
-      → Reported r (answer_line (codes "joined") (given_.viewer ∷ given_.stamp ∷ [])) (frames_line given_.viewer text) a a' f f' → Ends (join Owner ∷ lines) now r n a0 f0 a' f'
-  owner_joined given_ n before text none ends a' f' r w =
+  pub owner_joined : (given_ : Joined) (n : Session) (before text : List ℕ) (canvas : List KeptLayer) → before ≡ [] → JoinEnds at.history Owner (Ok given_) n.desk before text → ((is : List Instr) → AreReadable is → text ≡ texts is → stands_for canvas (draw nothing is)) → n.canvases.items ≡ s.canvases.items ++ canvas ∷ [] → (a' f' : Option (List ℕ)) (r : Result (Unit {0}) Stop)
+      → Reported r (joined_line given_) (frames_line given_.viewer text) a a' f f' → Ends (join Owner ∷ lines) now r n a0 f0 a' f'
+  owner_joined given_ n before text canvas none ends plays grown a' f' r w =
       let adds = ends.step.1 in
       let is = only ends.entry (Join given_.viewer given_.role adds.first) adds.adds in
       let text_is : text ≡ texts (given at.history (delivered at.history given_.viewer) given_.viewer ends.entry) = ends.appended ∙ ap (λ (l : List ℕ). l ++ texts (given at.history (delivered at.history given_.viewer) given_.viewer ends.entry)) none in
-      line_ends (join Owner) lines p now (ends.entry ∷ at.history) n a0 f0 a a' f f' (answer_line (codes "joined") (given_.viewer ∷ given_.stamp ∷ [])) (frames_line given_.viewer text) at.told
-      (record { result = joined_as (Ok given_); added = ends.entry ∷ []; step = ends.step; told = refl; after_it = refl; framed = ap (frames_line given_.viewer) text_is ∙ framed-join at.history ends.entry given_.viewer given_.role adds.first is }) ends.stands r w
+      line_ends (join Owner) lines p now (ends.entry ∷ at.history) n a0 f0 a a' f f' (joined_line given_) (frames_line given_.viewer text) at.told
+      (record { result = joined_as (Ok given_); added = ends.entry ∷ []; step = ends.step; told = refl; after_it = refl; framed = ap (frames_line given_.viewer) text_is ∙ framed-join at.history ends.entry given_.viewer given_.role adds.first is }) ends.stands
+      (subst (λ (cs : List (List KeptLayer)). AreShown cs (ends.entry ∷ at.history)) (sym grown) (shown_join s.canvases.items at.history ends.entry given_.viewer given_.role adds.first canvas n.desk s.desk is adds.joins.is_next at.stands ends.stands at.shown
+      (λ readable. plays adds.first readable (text_is ∙ ap texts (given_by_join at.history ends.entry given_.viewer given_.role adds.first is))))) r w
 
   pub join_is_worn : (entries : ℕ) → JoinStep at.history Owner (Err (join_worn entries)) [] → IsRefused (Worn entries) (join Owner) lines p
-  join_is_worn entries step = (joined_as (Err (join_worn entries)), record { event = join_in Owner; is_event = refl; step = step }, refl)
+  join_is_worn entries step = (joined_as (Err (join_worn entries)), record { event = join_in Owner; makes = refl; step = step }, refl)
 
-  -- what a read did that was answered
+  -- what a read did that was answered: its call, and that the canvases go on to show what was given
   pub record HasReadLine (viewer : ℕ) (answer : ReadAnswer) (n : DeskState) (text : List ℕ) : Type 0 where
     pub history : History
     pub calls : Calls (read_as viewer) p (play now history) (read_told answer) (read_shown viewer text answer)
     pub stands : Stands n history
+    pub number : (1 ≤ viewer) × (viewer ≤ length s.canvases.items)
+    pub shown : (cs : List (List KeptLayer)) → PlaysOn s.canvases.items cs (viewer - 1) text → AreShown cs history
 
-  not_fresh : (viewer stamp : ℕ) (closed : Bool) → read_stop at.history viewer ≡ Some (Ok (Fresh stamp closed)) → ⊥
-  not_fresh viewer stamp closed e = cases (not (is_live at.history viewer)) (not (is_closed at.history) && position at.history viewer == newest at.history) (not (is_closed at.history) && is_full at.history) (read_worn (length at.history)) e
+  -- of an open session a read that gives nothing answers Empty, and its viewer is there
+  only_empty : (viewer : ℕ) (answer : ReadAnswer) → read_stop at.history viewer ≡ Some (Ok answer) → (answer ≡ Empty) × (is_live at.history viewer ≡ true)
+  only_empty viewer answer e = cases (is_live at.history viewer) (not (is_closed at.history) && position at.history viewer == newest at.history) (not (is_closed at.history) && is_full at.history) (read_worn (length at.history)) e
     where
-      cases : (one two three : Bool) (worn : ReadRefusal) → first_of (only_if one (Err read_no_viewer) ∷ only_if two (Ok Empty) ∷ only_if three (Err worn) ∷ []) ≡ Some (Ok (Fresh stamp closed)) → ⊥
-      cases true two three worn q = cc
-      cases false true three worn q = cc
-      cases false false true worn q = cc
-      cases false false false worn q = cc
+      cases : (there one two : Bool) (worn : ReadRefusal) → first_of (only_if (not there) (Err read_no_viewer) ∷ only_if one (Ok Empty) ∷ only_if two (Err worn) ∷ []) ≡ Some (Ok answer) → (answer ≡ Empty) × (there ≡ true)
+      cases false one two worn q = cc
+      cases true true two worn q = (cc, refl)
+      cases true false true worn q = cc
+      cases true false false worn q = cc
 
-  pub was_answered : (viewer : ℕ) (answer : ReadAnswer) (n : DeskState) (before text : List ℕ) → before ≡ [] → ReadEnds at.history viewer (Ok answer) n before text → OnNothing (Ok answer) (n ≡ d) → HasReadLine viewer answer n text
-  was_answered viewer (Frames count stamp closed) n before text none ends same =
+  gave_nothing : (viewer : ℕ) (answer : ReadAnswer) (n : DeskState) (text : List ℕ) → ReadStep at.history viewer (Ok answer) [] → answer ≡ Empty → is_live at.history viewer ≡ true → n ≡ s.desk → text ≡ [] → HasReadLine viewer answer n text
+  gave_nothing viewer answer n text step is_empty is_there_ same none =
+      let number_ = numbered s.canvases.items at.history s.desk viewer at.stands at.shown is_there_ in
+      rw is_empty (record {
+        history = at.history;
+        calls = record { result = was_read (Ok Empty); added = []; step = subst (λ (a : ReadAnswer). ReadStep at.history viewer (Ok a) []) is_empty step; told = refl; after_it = refl; framed = refl };
+        stands = subst (λ (k : DeskState). Stands k at.history) (sym same) at.stands;
+        number = number_;
+        shown = λ cs plays. shown_still s.canvases.items cs at.history viewer text none number_.0 number_.1 at.shown plays;
+      })
+
+  pub was_answered : (viewer : ℕ) (answer : ReadAnswer) (n : DeskState) (before text : List ℕ) → before ≡ [] → ReadEnds at.history viewer (Ok answer) n before text → OnNothing (Ok answer) (n ≡ s.desk) → OnNothing (Ok answer) (text ≡ before) → HasReadLine viewer answer n text
+  was_answered viewer (Frames count stamp closed) n before text none ends same kept =
       let is = only ends.entry (Read viewer Suffix) ends.step.adds in
       let text_is : text ≡ texts (given at.history (delivered at.history viewer) viewer ends.entry) = ends.appended ∙ ap (λ (l : List ℕ). l ++ texts (given at.history (delivered at.history viewer) viewer ends.entry)) none in
-      record { history = ends.entry ∷ at.history; calls = record { result = was_read (Ok (Frames count stamp closed)); added = ends.entry ∷ []; step = ends.step; told = refl; after_it = refl; framed = ap (frames_line viewer) text_is ∙ framed-read at.history ends.entry viewer is }; stands = ends.stands }
-  was_answered viewer (Fresh stamp closed) n before text none ends same = absurd (not_fresh viewer stamp closed ends.0)
-  was_answered viewer Ended n before text none ends same = record { history = at.history; calls = record { result = was_read (Ok Ended); added = []; step = ends; told = refl; after_it = refl; framed = refl }; stands = subst (λ (k : DeskState). Stands k at.history) (sym same) at.stands }
-  was_answered viewer Empty n before text none ends same = record { history = at.history; calls = record { result = was_read (Ok Empty); added = []; step = ends; told = refl; after_it = refl; framed = refl }; stands = subst (λ (k : DeskState). Stands k at.history) (sym same) at.stands }
-  was_answered viewer (Hold waiting) n before text none ends same = record { history = at.history; calls = record { result = was_read (Ok (Hold waiting)); added = []; step = ends; told = refl; after_it = refl; framed = refl }; stands = subst (λ (k : DeskState). Stands k at.history) (sym same) at.stands }
+      let number_ = numbered s.canvases.items at.history s.desk viewer at.stands at.shown ends.step.reads.live in
+      record {
+        history = ends.entry ∷ at.history;
+        calls = record { result = was_read (Ok (Frames count stamp closed)); added = ends.entry ∷ []; step = ends.step; told = refl; after_it = refl; framed = ap (frames_line viewer) text_is ∙ framed-read at.history ends.entry viewer is };
+        stands = ends.stands;
+        number = number_;
+        shown = λ cs plays. shown_read s.canvases.items cs at.history ends.entry viewer Suffix text n is number_.0 number_.1 ends.stands at.shown text_is plays;
+      }
+  was_answered viewer (Fresh stamp closed) n before text none ends same kept = let o = only_empty viewer (Fresh stamp closed) ends.0 in absurd (let w : Fresh stamp closed ≡ Empty = o.0 in cc)
+  was_answered viewer Ended n before text none ends same kept = let o = only_empty viewer Ended ends.0 in gave_nothing viewer Ended n text ends o.0 o.1 same (kept ∙ none)
+  was_answered viewer Empty n before text none ends same kept = let o = only_empty viewer Empty ends.0 in gave_nothing viewer Empty n text ends o.0 o.1 same (kept ∙ none)
+  was_answered viewer (Hold waiting) n before text none ends same kept = let o = only_empty viewer (Hold waiting) ends.0 in gave_nothing viewer (Hold waiting) n text ends o.0 o.1 same (kept ∙ none)
 
-  pub read_line : (viewer : ℕ) (answer : ReadAnswer) (n : DeskState) (text : List ℕ) → HasReadLine viewer answer n text → (a' f' : Option (List ℕ)) (r : Result (Unit {0}) Stop) → Reported r (read_told answer) (read_shown viewer text answer) a a' f f' → Ends (read viewer ∷ lines) now r n a0 f0 a' f'
-  read_line viewer answer n text did a' f' r w = line_ends (read viewer) lines p now did.history n a0 f0 a a' f f' (read_told answer) (read_shown viewer text answer) at.told did.calls did.stands r w
+  pub read_line : (viewer : ℕ) (answer : ReadAnswer) (n : Session) (text : List ℕ) → (did : HasReadLine viewer answer n.desk text) → PlaysOn s.canvases.items n.canvases.items (viewer - 1) text → (a' f' : Option (List ℕ)) (r : Result (Unit {0}) Stop)
+      → Reported r (read_told answer) (read_shown viewer text answer) a a' f f' → Ends (read viewer ∷ lines) now r n a0 f0 a' f'
+  read_line viewer answer n text did plays a' f' r w = line_ends (read viewer) lines p now did.history n a0 f0 a a' f f' (read_told answer) (read_shown viewer text answer) at.told did.calls did.stands (did.shown n.canvases.items plays) r w
 
-  pub untold_line : (viewer : ℕ) (answer : ReadAnswer) (n : DeskState) (text : List ℕ) → HasReadLine viewer answer n text → (f' : Option (List ℕ)) (r : Result (Unit {0}) Stop) → Put r (read_shown viewer text answer) f f' → Ends (read_untold viewer ∷ lines) now r n a0 f0 a f'
-  untold_line viewer answer n text did f' r put = line_ends (read_untold viewer) lines p now did.history n a0 f0 a a f f' [] (read_shown viewer text answer) at.told (record { answer = read_told answer; calls = did.calls; nothing_told = refl }) did.stands r (shown_alone (read_shown viewer text answer) a f f' r put)
+  pub untold_line : (viewer : ℕ) (answer : ReadAnswer) (n : Session) (text : List ℕ) → (did : HasReadLine viewer answer n.desk text) → PlaysOn s.canvases.items n.canvases.items (viewer - 1) text → (f' : Option (List ℕ)) (r : Result (Unit {0}) Stop)
+      → Put r (read_shown viewer text answer) f f' → Ends (read_untold viewer ∷ lines) now r n a0 f0 a f'
+  untold_line viewer answer n text did plays f' r put = line_ends (read_untold viewer) lines p now did.history n a0 f0 a a f f' [] (read_shown viewer text answer) at.told (record { answer = read_told answer; calls = did.calls; nothing_told = refl }) did.stands (did.shown n.canvases.items plays) r (shown_alone (read_shown viewer text answer) a f f' r put)
 
   pub read_is_worn : (viewer entries : ℕ) → ReadStep at.history viewer (Err (read_worn entries)) [] → IsRefused (Worn entries) (read viewer) lines p
-  read_is_worn viewer entries step = (was_read (Err (read_worn entries)), record { event = read_as viewer; is_event = refl; step = step }, refl)
+  read_is_worn viewer entries step = (was_read (Err (read_worn entries)), record { event = read_as viewer; makes = refl; step = step }, refl)
 
   pub untold_is_worn : (viewer entries : ℕ) → ReadStep at.history viewer (Err (read_worn entries)) [] → IsRefused (Worn entries) (read_untold viewer) lines p
-  untold_is_worn viewer entries step = (was_read (Err (read_worn entries)), record { event = read_as viewer; is_event = refl; step = step }, refl)
+  untold_is_worn viewer entries step = (was_read (Err (read_worn entries)), record { event = read_as viewer; makes = refl; step = step }, refl)
 
   -- nothing was added by a call whose answer isn't told
-  pub untold_nothing : (line : Line) (event : Event) (result : Answer) (answer : List ℕ) (n : DeskState) → Step at.history event result [] → answer_to result ≡ Some answer
-      → (Untold event p p [] [] → Does line p p [] []) → n ≡ d → Ends (line ∷ lines) now (Ok tt) n a0 f0 a f
-  untold_nothing line event result answer n step told does same =
-      line_ends line lines p now at.history n a0 f0 a a f f [] [] at.told (does (record { answer = answer; calls = record { result = result; added = []; step = step; told = told; after_it = refl; framed = refl }; nothing_told = refl })) (subst (λ (k : DeskState). Stands k at.history) (sym same) at.stands) (Ok tt) (sym (gained-none a), sym (gained-none f))
+  pub untold_nothing : (line : Line) (event : Event) (result : Answer) (answer : List ℕ) (n : Session) → Step at.history event result [] → answer_to result ≡ Some answer
+      → (Untold event p p [] [] → Does line p p [] []) → n.desk ≡ s.desk → n.canvases.items ≡ s.canvases.items → Ends (line ∷ lines) now (Ok tt) n a0 f0 a f
+  untold_nothing line event result answer n step told does same seen_same =
+      line_ends line lines p now at.history n a0 f0 a a f f [] [] at.told (does (record { answer = answer; calls = record { result = result; added = []; step = step; told = told; after_it = refl; framed = refl }; nothing_told = refl })) (subst (λ (k : DeskState). Stands k at.history) (sym same) at.stands) (subst (λ (cs : List (List KeptLayer)). AreShown cs at.history) (sym seen_same) at.shown) (Ok tt) (sym (gained-none a), sym (gained-none f))
 
   -- viewer 1 acknowledged
-  pub acknowledged : (stamp : ℕ) → stamp ≡ newest at.history → (counts : Written) (n : DeskState) → WriteEnds at.history 1 (act_sync stamp ∷ []) (Ok counts) n → Ends (acknowledge 1 ∷ lines) now (Ok tt) n a0 f0 a f
-  acknowledged stamp is counts n ends = acknowledges (subst (λ (s : ℕ). WriteEnds at.history 1 (act_sync s ∷ []) (Ok counts) n) is ends)
+  pub acknowledged : (stamp : ℕ) → stamp ≡ newest at.history → (counts : Written) (n : Session) → WriteEnds at.history 1 (act_sync stamp ∷ []) (Ok counts) n.desk → n.canvases.items ≡ s.canvases.items → Ends (acknowledge 1 ∷ lines) now (Ok tt) n a0 f0 a f
+  acknowledged stamp is counts n ends same = acknowledges (subst (λ (t : ℕ). WriteEnds at.history 1 (act_sync t ∷ []) (Ok counts) n.desk) is ends)
     where
-      acknowledges : WriteEnds at.history 1 (act_sync (newest at.history) ∷ []) (Ok counts) n → Ends (acknowledge 1 ∷ lines) now (Ok tt) n a0 f0 a f
+      acknowledges : WriteEnds at.history 1 (act_sync (newest at.history) ∷ []) (Ok counts) n.desk → Ends (acknowledge 1 ∷ lines) now (Ok tt) n a0 f0 a f
       acknowledges e =
           let entry_is = only e.entry (Write 1 (act_sync (newest at.history) ∷ [])) e.step.1.adds in
           line_ends (acknowledge 1) lines p now (e.entry ∷ at.history) n a0 f0 a a f f [] [] at.told
           (record { answer = answer_line (codes "written") (counts.keys ∷ counts.denied ∷ []); calls = record { result = was_written (Ok counts); added = e.entry ∷ []; step = e.step; told = refl; after_it = refl; framed = framed-write at.history e.entry 1 (act_sync (newest at.history) ∷ []) entry_is }; nothing_told = refl })
-          e.stands (Ok tt) (sym (gained-none a), sym (gained-none f))
+          e.stands (subst (λ (cs : List (List KeptLayer)). AreShown cs (e.entry ∷ at.history)) (sym same) (subst (λ (x : Entry). AreShown s.canvases.items (x ∷ at.history)) (sym entry_is) (shown_plain s.canvases.items at.history (Write 1 (act_sync (newest at.history) ∷ [])) at.shown refl (λ v. refl)))) (Ok tt) (sym (gained-none a), sym (gained-none f))
 
   -- the write was refused, which isn't told
-  pub write_refused : (stamp : ℕ) → stamp ≡ newest at.history → (refusal : WriteRefusal) (answer : List ℕ) (n : DeskState) → WriteStep at.history 1 (act_sync stamp ∷ []) (Err refusal) [] → answer_to (was_written (Err refusal)) ≡ Some answer → n ≡ d
+  pub write_refused : (stamp : ℕ) → stamp ≡ newest at.history → (refusal : WriteRefusal) (answer : List ℕ) (n : Session) → WriteStep at.history 1 (act_sync stamp ∷ []) (Err refusal) [] → answer_to (was_written (Err refusal)) ≡ Some answer → n.desk ≡ s.desk → n.canvases.items ≡ s.canvases.items
       → Ends (acknowledge 1 ∷ lines) now (Ok tt) n a0 f0 a f
-  write_refused stamp is refusal answer n step told same =
-      untold_nothing (acknowledge 1) (write 1 (act_sync (newest at.history) ∷ [])) (was_written (Err refusal)) answer n (subst (λ (s : ℕ). WriteStep at.history 1 (act_sync s ∷ []) (Err refusal) []) is step) told (λ untold. untold) same
+  write_refused stamp is refusal answer n step told same seen_same =
+      untold_nothing (acknowledge 1) (write_acts 1 (act_sync (newest at.history) ∷ [])) (was_written (Err refusal)) answer n (subst (λ (t : ℕ). WriteStep at.history 1 (act_sync t ∷ []) (Err refusal) []) is step) told (λ untold. untold) same seen_same
 
   pub write_is_worn : (stamp : ℕ) → stamp ≡ newest at.history → (entries : ℕ) → WriteStep at.history 1 (act_sync stamp ∷ []) (Err (write_worn entries)) [] → IsRefused (Worn entries) (acknowledge 1) lines p
-  write_is_worn stamp is entries step = (was_written (Err (write_worn entries)), record { event = write 1 (act_sync (newest at.history) ∷ []); is_event = refl; step = subst (λ (s : ℕ). WriteStep at.history 1 (act_sync s ∷ []) (Err (write_worn entries)) []) is step }, refl)
+  write_is_worn stamp is entries step = (was_written (Err (write_worn entries)), record { event = write_acts 1 (act_sync (newest at.history) ∷ []); makes = refl; step = subst (λ (t : ℕ). WriteStep at.history 1 (act_sync t ∷ []) (Err (write_worn entries)) []) is step }, refl)
 
   -- the newest stamp was told
-  pub all_told : (stamp : ℕ) → stamp ≡ newest at.history → (a' : Option (List ℕ)) (n : DeskState) → n ≡ d → (r : Result (Unit {0}) Stop) → Put r (answer_line (codes "done") (stamp ∷ [])) a a' → Ends (done ∷ lines) now r n a0 f0 a' f
-  all_told stamp is a' n same r put =
-      line_ends done lines p now at.history n a0 f0 a a' f f (answer_line (codes "done") (stamp ∷ [])) [] at.told (record { same = refl; answered = ap (λ (s : ℕ). answer_line (codes "done") (s ∷ [])) is; framed = refl }) (subst (λ (k : DeskState). Stands k at.history) (sym same) at.stands) r (said_alone (answer_line (codes "done") (stamp ∷ [])) a a' f r put)
+  pub all_told : (stamp : ℕ) → stamp ≡ newest at.history → (a' : Option (List ℕ)) (n : Session) → n.desk ≡ s.desk → n.canvases.items ≡ s.canvases.items → (r : Result (Unit {0}) Stop) → Put r (answer_line (codes "done") (stamp ∷ [])) a a' → Ends (done ∷ lines) now r n a0 f0 a' f
+  all_told stamp is a' n same seen_same r put =
+      line_ends done lines p now at.history n a0 f0 a a' f f (answer_line (codes "done") (stamp ∷ [])) [] at.told (record { same = refl; answered = ap (λ (t : ℕ). answer_line (codes "done") (t ∷ [])) is; framed = refl }) (subst (λ (k : DeskState). Stands k at.history) (sym same) at.stands) (subst (λ (cs : List (List KeptLayer)). AreShown cs at.history) (sym seen_same) at.shown) r (said_alone (answer_line (codes "done") (stamp ∷ [])) a a' f r put)
+
+  -- the owner joined, and its canvas was pushed
+  pub join_done : (given_ : Joined) (m n : Session) (before : List ℕ) (canvas : List KeptLayer) → before ≡ [] → JoinEnds at.history Owner (Ok given_) m.desk before m.given.items → ((is : List Instr) → AreReadable is → m.given.items ≡ texts is → stands_for canvas (draw nothing is)) → m.canvases.items ≡ s.canvases.items ++ canvas ∷ []
+      → n.desk ≡ m.desk → n.canvases ≡ m.canvases → (a' f' : Option (List ℕ)) (r : Result (Unit {0}) Stop) → Reported r (joined_line given_) (frames_line given_.viewer m.given.items) a a' f f' → Ends (join Owner ∷ lines) now r n a0 f0 a' f'
+  join_done given_ m n before canvas none ends plays grown desk_is canvases_are a' f' r w =
+      owner_joined given_ n before m.given.items canvas none (subst (λ (d : DeskState). JoinEnds at.history Owner (Ok given_) d before m.given.items) (sym desk_is) ends) plays (same_items n m canvases_are ∙ grown) a' f' r w
+
+  -- the session b after a viewer's read, m after what was given was played
+  pub record ReadThenPlayed (viewer : ℕ) (answer : ReadAnswer) (b m n : Session) (before : List ℕ) : Type 0 where
+    pub none : before ≡ []
+    pub ends : ReadEnds at.history viewer (Ok answer) b.desk before b.given.items
+    pub unchanged : OnNothing (Ok answer) (b.desk ≡ s.desk)
+    pub buffer : OnNothing (Ok answer) (b.given.items ≡ before)
+    pub played : 1 ≤ viewer → viewer ≤ length s.canvases.items → PlaysOn s.canvases.items m.canvases.items (viewer - 1) b.given.items
+    pub same_desk : m.desk ≡ b.desk
+    pub same_text : m.given ≡ b.given
+    pub desk_is : n.desk ≡ m.desk
+    pub canvases_are : n.canvases ≡ m.canvases
+
+  did_read : (viewer : ℕ) (answer : ReadAnswer) (b m n : Session) (before : List ℕ) → ReadThenPlayed viewer answer b m n before → HasReadLine viewer answer n.desk b.given.items
+  did_read viewer answer b m n before t = subst (λ (d : DeskState). HasReadLine viewer answer d b.given.items) (sym (t.desk_is ∙ t.same_desk)) (was_answered viewer answer b.desk before b.given.items t.none t.ends t.unchanged t.buffer)
+
+  did_play : (viewer : ℕ) (answer : ReadAnswer) (b m n : Session) (before : List ℕ) → ReadThenPlayed viewer answer b m n before → PlaysOn s.canvases.items n.canvases.items (viewer - 1) b.given.items
+  did_play viewer answer b m n before t =
+      let did = did_read viewer answer b m n before t in
+      subst (λ (cs : List (List KeptLayer)). PlaysOn s.canvases.items cs (viewer - 1) b.given.items) (sym (same_items n m t.canvases_are)) (t.played did.number.0 did.number.1)
+
+  pub read_done : (viewer : ℕ) (answer : ReadAnswer) (b m n : Session) (before : List ℕ) → ReadThenPlayed viewer answer b m n before → (a' f' : Option (List ℕ)) (r : Result (Unit {0}) Stop)
+      → Reported r (read_told answer) (read_shown viewer m.given.items answer) a a' f f' → Ends (read viewer ∷ lines) now r n a0 f0 a' f'
+  read_done viewer answer b m n before t a' f' r w =
+      read_line viewer answer n b.given.items (did_read viewer answer b m n before t) (did_play viewer answer b m n before t) a' f' r
+      (subst (λ (text : List ℕ). Reported r (read_told answer) (read_shown viewer text answer) a a' f f') (same_given m b t.same_text) w)
+
+  pub untold_done : (viewer : ℕ) (answer : ReadAnswer) (b m n : Session) (before : List ℕ) → ReadThenPlayed viewer answer b m n before → (f' : Option (List ℕ)) (r : Result (Unit {0}) Stop)
+      → Put r (read_shown viewer m.given.items answer) f f' → Ends (read_untold viewer ∷ lines) now r n a0 f0 a f'
+  untold_done viewer answer b m n before t f' r w =
+      untold_line viewer answer n b.given.items (did_read viewer answer b m n before t) (did_play viewer answer b m n before t) f' r
+      (subst (λ (text : List ℕ). Put r (read_shown viewer text answer) f f') (same_given m b t.same_text) w)
+
+  -- something was told, and nothing changed
+  pub told_alone : (line : Line) (answer : List ℕ) (n : Session) (a' : Option (List ℕ)) → (Answers p p answer answer [] → Does line p p answer []) → n.desk ≡ s.desk → n.canvases.items ≡ s.canvases.items → (r : Result (Unit {0}) Stop) → Put r answer a a' → Ends (line ∷ lines) now r n a0 f0 a' f
+  told_alone line answer n a' does same seen_same r put =
+      line_ends line lines p now at.history n a0 f0 a a' f f answer [] at.told (does (record { same = refl; answered = refl; framed = refl })) (subst (λ (k : DeskState). Stands k at.history) (sym same) at.stands) (subst (λ (cs : List (List KeptLayer)). AreShown cs at.history) (sym seen_same) at.shown) r (said_alone answer a a' f r put)
+
+  -- the acts of a text were written
+  pub acts_written : (viewer : ℕ) (text : List ℕ) (acts : List Act) (passed : ℕ) → IsReading text (Whole acts passed) → (counts : Written) (n : Session) → WriteEnds at.history viewer acts (Ok counts) n.desk → n.canvases.items ≡ s.canvases.items
+      → (keys denied others : ℕ) → keys ≡ counts.keys → denied ≡ counts.denied → others ≡ passed → (a' : Option (List ℕ)) (r : Result (Unit {0}) Stop) → Put r (answer_line (codes "written") (keys ∷ denied ∷ others ∷ [])) a a' → Ends (write viewer text ∷ lines) now r n a0 f0 a' f
+  acts_written viewer text acts passed is_reading counts n e same keys denied others keys_is denied_is others_is a' r put =
+      let entry_is = only e.entry (Write viewer acts) e.step.1.adds in
+      let line_is : answer_line (codes "written") (keys ∷ denied ∷ others ∷ []) ≡ written_line counts passed = rw (keys_is, denied_is, others_is) refl in
+      line_ends (write viewer text) lines p now (e.entry ∷ at.history) n a0 f0 a a' f f (written_line counts passed) [] at.told
+      (Whole acts passed, is_reading, record { result = Ok counts; added = e.entry ∷ []; step = e.step; told = refl; after_it = refl; framed = framed-write at.history e.entry viewer acts entry_is })
+      e.stands (subst (λ (cs : List (List KeptLayer)). AreShown cs (e.entry ∷ at.history)) (sym same) (subst (λ (x : Entry). AreShown s.canvases.items (x ∷ at.history)) (sym entry_is) (shown_plain s.canvases.items at.history (Write viewer acts) at.shown refl (λ v. refl)))) r
+      (said_alone (written_line counts passed) a a' f r (subst (λ (text_ : List ℕ). Put r text_ a a') line_is put))
+
+  -- they were refused
+  pub acts_refused : (viewer : ℕ) (text : List ℕ) (acts : List Act) (passed : ℕ) → IsReading text (Whole acts passed) → (refusal : WriteRefusal) (answer : List ℕ) (n : Session) → WriteStep at.history viewer acts (Err refusal) [] → write_answer (Err refusal) ≡ Some answer → n.desk ≡ s.desk → n.canvases.items ≡ s.canvases.items
+      → (a' : Option (List ℕ)) (r : Result (Unit {0}) Stop) → Put r answer a a' → Ends (write viewer text ∷ lines) now r n a0 f0 a' f
+  acts_refused viewer text acts passed is_reading refusal answer n step told same seen_same a' r put =
+      line_ends (write viewer text) lines p now at.history n a0 f0 a a' f f answer [] at.told
+      (Whole acts passed, is_reading, record { result = Err refusal; added = []; step = step; told = told; after_it = refl; framed = refl })
+      (subst (λ (k : DeskState). Stands k at.history) (sym same) at.stands) (subst (λ (cs : List (List KeptLayer)). AreShown cs at.history) (sym seen_same) at.shown) r (said_alone answer a a' f r put)
+
+  pub acts_are_worn : (viewer : ℕ) (text : List ℕ) (acts : List Act) (passed : ℕ) → IsReading text (Whole acts passed) → (entries : ℕ) → WriteStep at.history viewer acts (Err (write_worn entries)) [] → IsRefused (Worn entries) (write viewer text) lines p
+  acts_are_worn viewer text acts passed is_reading entries step = (was_written (Err (write_worn entries)), record { event = write_acts viewer acts; makes = (acts, passed, is_reading, refl); step = step }, refl)
+
+  -- a text with too many instructions ends the run
+  pub too_long : (viewer : ℕ) (text : List ℕ) (stop : Stop) → IsReading text TooMany → stop ≡ stopped_at (length lines + 1) → StoppedIn (write viewer text ∷ lines) stop a0 f0 a f
+  too_long viewer text stop is_reading is = subst (λ (x : Stop). StoppedIn (write viewer text ∷ lines) x a0 f0 a f) (sym is) (refuses (write viewer text) (BadLine (length lines + 1)) (inr is_reading, refl))
+
+  -- what a viewer who is there sees at a place
+  pub pixel_told : (viewer x y : ℕ) (dot : Dot) (cs : List (List KeptLayer)) → cs ≡ s.canvases.items → true ≡ is_there viewer (length cs) → ((m : Layers) → stands_for (slice_index_or cs (viewer - 1) []) m → dot ≡ dot_at (m visible) x y) → pixel_line dot ≡ pixel_answer at.history viewer x y
+  pixel_told viewer x y dot cs cs_are is dots =
+      let live_ : is_live at.history viewer ≡ true = there s.canvases.items at.history s.desk viewer at.stands at.shown ∙ (ap (λ (l : List (List KeptLayer)). is_there viewer (length l)) (sym cs_are) ∙ sym is) in
+      let number_ = numbered s.canvases.items at.history s.desk viewer at.stands at.shown live_ in
+      let shows_ : stands_for (slice_index_or cs (viewer - 1) []) (seen at.history viewer) = rw cs_are (canvas_shows s.canvases.items at.history viewer number_.0 number_.1 at.shown) in
+      ap pixel_line (dots (seen at.history viewer) shows_) ∙ sym (ap (λ (b : Bool). if b then pixel_line (dot_at (seen at.history viewer visible) x y) else refused_line 516) live_)
+
+  pub no_pixel : (viewer x y : ℕ) (cs : List (List KeptLayer)) → cs ≡ s.canvases.items → false ≡ is_there viewer (length cs) → refused_line 516 ≡ pixel_answer at.history viewer x y
+  no_pixel viewer x y cs cs_are is =
+      let live_ : is_live at.history viewer ≡ false = there s.canvases.items at.history s.desk viewer at.stands at.shown ∙ (ap (λ (l : List (List KeptLayer)). is_there viewer (length l)) (sym cs_are) ∙ sym is) in
+      sym (ap (λ (b : Bool). if b then pixel_line (dot_at (seen at.history viewer visible) x y) else refused_line 516) live_)
+
+  both_live : (one other : ℕ) (cs : List (List KeptLayer)) (b : Bool) → cs ≡ s.canvases.items → b ≡ (is_there one (length cs) && is_there other (length cs)) → (is_live at.history one && is_live at.history other) ≡ b
+  both_live one other cs b cs_are is =
+      let first : is_live at.history one ≡ is_there one (length cs) = there s.canvases.items at.history s.desk one at.stands at.shown ∙ ap (λ (l : List (List KeptLayer)). is_there one (length l)) (sym cs_are) in
+      let second : is_live at.history other ≡ is_there other (length cs) = there s.canvases.items at.history s.desk other at.stands at.shown ∙ ap (λ (l : List (List KeptLayer)). is_there other (length l)) (sym cs_are) in
+      rw (first, second) (sym is)
+
+  -- whether two viewers who are there see the same
+  pub compared : (one other : ℕ) (same_ : Bool) (cs : List (List KeptLayer)) → cs ≡ s.canvases.items → true ≡ (is_there one (length cs) && is_there other (length cs)) → ((m n : Layers) → stands_for (slice_index_or cs (one - 1) []) m → stands_for (slice_index_or cs (other - 1) []) n → IsTrue same_ ↔ Same m n)
+      → Compares at.history one other (if same_ then same_line else differ_line)
+  compared one other same_ cs cs_are is tells = told_of same_ (tells (seen at.history one) (seen at.history other) (shows_ one one_live) (shows_ other other_live))
+    where
+      is_both : (is_live at.history one && is_live at.history other) ≡ true
+      is_both = both_live one other cs true cs_are is
+
+      one_live : is_live at.history one ≡ true
+      one_live = (both (is_live at.history one) (is_live at.history other) is_both).0
+
+      other_live : is_live at.history other ≡ true
+      other_live = (both (is_live at.history one) (is_live at.history other) is_both).1
+
+      shows_ : (v : ℕ) → is_live at.history v ≡ true → stands_for (slice_index_or cs (v - 1) []) (seen at.history v)
+      shows_ v live_ = let number_ = numbered s.canvases.items at.history s.desk v at.stands at.shown live_ in rw cs_are (canvas_shows s.canvases.items at.history v number_.0 number_.1 at.shown)
+
+      told_of : (b : Bool) → IsTrue b ↔ Same (seen at.history one) (seen at.history other) → Compares at.history one other (if b then same_line else differ_line)
+      told_of true t = inr (is_both, inl (t.0 refl, refl))
+      told_of false t = inr (is_both, inr (λ alike. let w : false ≡ true = t.1 alike in cc, refl))
+
+  pub not_compared : (one other : ℕ) (cs : List (List KeptLayer)) → cs ≡ s.canvases.items → false ≡ (is_there one (length cs) && is_there other (length cs)) → Compares at.history one other (refused_line 516)
+  not_compared one other cs cs_are is = inl (both_live one other cs false cs_are is, refl)

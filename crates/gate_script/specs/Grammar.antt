@@ -1,6 +1,6 @@
 -- What a script's line says (this project's own). Words are separated by one blank, which is a space or
 -- a tab.
-use Rattle.std.specs.Prelude.{ℕ, ◌+◌, ◌-◌, ◌*◌, ◌^◌, List, [], ◌∷◌, length, take, drop, Bool, true, false, ◌&&◌, ◌||◌, ◌==◌, nat_le, nat_lt, if◌then◌else◌, Option, Some, None, codes, bytes_eq}
+use Rattle.std.specs.Prelude.{ℕ, ◌+◌, ◌-◌, ◌*◌, ◌^◌, List, [], ◌∷◌, length, take, drop, Bool, true, false, ◌&&◌, ◌||◌, ◌==◌, nat_le, nat_lt, if◌then◌else◌, Option, Some, None, option_and_then, codes, bytes_eq}
 use Rattle.std.specs.List.{position_or_len, list_any, ends_with}
 use Rattle.gate_model.specs.declared.sharing.Asked.TheVariants.{Owner}
 use Rattle.gate_model.specs.declared.sharing.Share.{Share}
@@ -12,7 +12,7 @@ use Rattle.gate_script.specs.declared.size.Size.{Size}
 use Rattle.gate_script.specs.Numbers.{number_up_to}
 use Rattle.gate_script.specs.Words.{size_of}
 use Rattle.gate_script.specs.Pieces.{whole_pieces, all_pieces}
-use Rattle.gate_script.specs.Lines.{Line, blank, bad, moment, start, server, join, read, done, draw_lines}
+use Rattle.gate_script.specs.Lines.{Line, blank, bad, moment, start, server, join, read, write, pixel, same, done, draw_lines}
 use Rattle.std.specs.Prelude.{reverse}
 
 -- the most bytes of a line without its end, and of a script
@@ -66,6 +66,25 @@ abbrev pub reading : Option ℕ → Line
 reading None = bad
 reading (Some viewer) = read viewer
 
+-- `write N TEXT`
+abbrev pub writing : Option ℕ → Option (List ℕ) → Line
+writing (Some viewer) (Some text) = write viewer text
+writing viewer text = bad
+
+-- `pixel N X Y`
+abbrev pub looking : Option ℕ → Option ℕ → Option ℕ → Line
+looking (Some viewer) (Some x) (Some y) = pixel viewer x y
+looking viewer x y = bad
+
+abbrev pub pixel_place : List ℕ → Option (List ℕ) → Line
+pixel_place viewer None = bad
+pixel_place viewer (Some text) = looking (number_up_to (2 ^ 32 - 1) viewer) (number_up_to (2 ^ 64 - 1) (first_word text)) (option_and_then (number_up_to (2 ^ 64 - 1)) (behind_word text))
+
+-- `same N M`
+abbrev pub comparing : Option ℕ → Option ℕ → Line
+comparing (Some one) (Some other) = same one other
+comparing one other = bad
+
 abbrev pub joining : List ℕ → Line
 joining word = if bytes_eq word (codes "owner") then join Owner else bad
 
@@ -95,7 +114,10 @@ meant entries name text =
     if bytes_eq name (codes "start") then start_rows entries (first_word text) (behind_word text) else (
     if bytes_eq name (codes "server") then served (bytes_of text) else (
     if bytes_eq name (codes "join") then joining text else (
-    if bytes_eq name (codes "read") then reading (number_up_to (2 ^ 32 - 1) text) else bad))))
+    if bytes_eq name (codes "read") then reading (number_up_to (2 ^ 32 - 1) text) else (
+    if bytes_eq name (codes "write") then writing (number_up_to (2 ^ 32 - 1) (first_word text)) (behind_word text) else (
+    if bytes_eq name (codes "pixel") then pixel_place (first_word text) (behind_word text) else (
+    if bytes_eq name (codes "same") then comparing (number_up_to (2 ^ 32 - 1) (first_word text)) (option_and_then (number_up_to (2 ^ 32 - 1)) (behind_word text)) else bad)))))))
 
 abbrev pub by_word : ℕ → List ℕ → Option (List ℕ) → Line
 by_word entries name None = bad
@@ -123,6 +145,9 @@ in_place true (start size mode entries) = bad
 in_place false (server bytes) = bad
 in_place false (join asked) = bad
 in_place false (read viewer) = bad
+in_place false (write viewer text) = bad
+in_place false (pixel viewer x y) = bad
+in_place false (same one other) = bad
 in_place opened line = line
 
 -- a line after `before` bytes of the script

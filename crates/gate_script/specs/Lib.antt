@@ -5,8 +5,10 @@ pub mod Words
 pub mod Pieces
 pub mod Lines
 pub mod Grammar
+pub mod Acts
 pub mod Told
 pub mod Meanings
 pub mod Plays
 pub mod Outcomes
+pub mod Playing
 pub mod Running

@@ -8,7 +8,11 @@ use Rattle.gate_outside.specs.Edge.{AtEnd, came, gained}
 use Rattle.gate_script.specs.declared.form.Form.{Form}
 use Rattle.gate_script.specs.declared.refused.Refused.{Refused}
 use Rattle.gate_script.specs.declared.refused.Refused.TheVariants.{BadLine, Worn, Unbuilt}
-use Rattle.gate_script.specs.Lines.{Line, bad}
+use Rattle.gate_model.specs.declared.act.Act.{Act}
+use Rattle.gate_model.specs.declared.event.Event.TheVariants.{Write as write_acts}
+use Rattle.gate_script.specs.declared.reading.Reading.TheVariants.{Whole, TooMany}
+use Rattle.gate_script.specs.Acts.{IsReading}
+use Rattle.gate_script.specs.Lines.{Line, bad, write}
 use Rattle.gate_script.specs.Grammar.{whole_lines, all_lines}
 use Rattle.gate_script.specs.Told.{bad_line, worn_line, unbuilt_line, worn_by, unbuilt_by}
 use Rattle.gate_script.specs.Plays.{Play, event_of, Tells}
@@ -28,16 +32,26 @@ pub record Interrupted (form : Form) (bytes a f : List ℕ) : Type 0 where
   pub play : Play
   pub tells : Tells (whole_lines form bytes) play a f
 
+-- the text of a write line has too many instructions
+abbrev pub IsTooLong : Line → Type 0
+IsTooLong (write viewer text) = IsReading text TooMany
+IsTooLong line = ⊥
+
+-- the call that a line makes
+abbrev pub Makes : Line → Play → Event → Type 0
+Makes (write viewer text) p event = (acts : List Act) × (passed : ℕ) × IsReading text (Whole acts passed) × (event ≡ write_acts viewer acts)
+Makes line p event = event_of line p ≡ Some event
+
 -- the rule of the line's call refuses it with this answer
 pub record Answered (line : Line) (p : Play) (result : Answer) : Type 0 where
   pub event : Event
-  pub is_event : event_of line p ≡ Some event
+  pub makes : Makes line p event
   pub step : Step p.history event result []
 
 -- why the next line ended the run: it is outside the grammar, and this is its number; the session is
 -- full, and has so many entries; or a byte at this place has no meaning
 abbrev pub IsRefused : Refused → Line → List Line → Play → Type 0
-IsRefused (BadLine number) line lines p = (line ≡ bad) × (number ≡ length lines + 1)
+IsRefused (BadLine number) line lines p = ((line ≡ bad) ⊎ IsTooLong line) × (number ≡ length lines + 1)
 IsRefused (Worn entries) line lines p = (result : Answer) × Answered line p result × (worn_by result ≡ Some entries)
 IsRefused (Unbuilt place) line lines p = (result : Answer) × Answered line p result × (unbuilt_by result ≡ Some place)
 

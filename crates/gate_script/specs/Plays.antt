@@ -1,20 +1,30 @@
 -- What lines do: from the moment and the history before to those after, with what they tell (this
 -- project's own). The history has the newest entry first, and is empty before `start`.
-use Rattle.std.specs.Prelude.{◌≡◌, ℕ, List, [], ◌∷◌, ◌++◌, codes, Option, Some, None}
+use Rattle.std.specs.Prelude.{◌≡◌, ℕ, List, [], ◌∷◌, ◌++◌, true, false, ◌&&◌, if◌then◌else◌, ◌⊎◌, codes, Option, Some, None, Result}
 use Rattle.gate_model.specs.declared.act.Act.TheVariants.{Sync as act_sync}
 use Rattle.gate_model.specs.declared.answer.Answer.{Answer}
 use Rattle.gate_model.specs.declared.entry.Entry.{Entry}
 use Rattle.gate_model.specs.declared.event.Event.{Event}
-use Rattle.gate_model.specs.declared.event.Event.TheVariants.{Feed as feed, Join as join_in, Read as read_as, Write as write}
+use Rattle.gate_model.specs.declared.event.Event.TheVariants.{Feed as feed, Join as join_in, Read as read_as, Write as write_acts}
 use Rattle.gate_model.specs.declared.setup.Setup.{Setup}
 use Rattle.gate_model.specs.declared.sharing.Share.{Share}
+use Rattle.gate_model.specs.declared.act.Act.{Act}
+use Rattle.gate_model.specs.declared.written.Written.{Written}
+use Rattle.gate_model.specs.declared.write_refusal.WriteRefusal.{WriteRefusal}
+use Rattle.gate_model.specs.Layers.{Layers, Same, draw, nothing, visible}
 use Rattle.gate_model.specs.History.{History, newest, next_stamp}
+use Rattle.gate_model.specs.Delivered.{delivered}
+use Rattle.gate_model.specs.Rights.{is_live}
+use Rattle.canvas.specs.Standing.{dot_at}
+use Rattle.gate_script.specs.declared.reading.Reading.{Reading}
+use Rattle.gate_script.specs.declared.reading.Reading.TheVariants.{Whole, Cut, Bad, TooMany}
+use Rattle.gate_script.specs.Acts.{IsReading}
 use Rattle.gate_model.specs.Steps.{Legal}
-use Rattle.gate_model.specs.Calls.{StartStep, Step}
+use Rattle.gate_model.specs.Calls.{StartStep, Step, WriteStep}
 use Rattle.gate_model.specs.Truth.{Faithful}
 use Rattle.gate_script.specs.declared.size.Size.{Size}
-use Rattle.gate_script.specs.Lines.{Line, blank, bad, moment, start, server, join, read, read_untold, acknowledge, done}
-use Rattle.gate_script.specs.Told.{answer_line, answer_to, framings}
+use Rattle.gate_script.specs.Lines.{Line, blank, bad, moment, start, server, join, read, write, pixel, same, read_untold, acknowledge, done}
+use Rattle.gate_script.specs.Told.{answer_line, answer_to, framings, refused_line, text_answer, cut_line, bad_text_line, pixel_line, same_line, differ_line}
 
 pub record Play : Type 0 where
   pub now : ℕ
@@ -52,13 +62,43 @@ pub record Answers (p q : Play) (answer a f : List ℕ) : Type 0 where
   pub answered : a ≡ answer
   pub framed : f ≡ []
 
+-- what a viewer sees: all that it was given, drawn from nothing
+abbrev pub seen : History → ℕ → Layers
+seen h viewer = draw nothing (delivered h viewer)
+
+-- a pixel of the visible layer of a viewer who is there
+abbrev pub pixel_answer : History → ℕ → ℕ → ℕ → List ℕ
+pixel_answer h viewer x y = if is_live h viewer then pixel_line (dot_at (seen h viewer visible) x y) else refused_line 516
+
+-- whether two viewers who are there see the same in every layer
+abbrev pub Compares : History → ℕ → ℕ → List ℕ → Type 0
+Compares h one other a =
+    (((is_live h one && is_live h other) ≡ false) × (a ≡ refused_line 516))
+    ⊎ (((is_live h one && is_live h other) ≡ true) × ((Same (seen h one) (seen h other) × (a ≡ same_line)) ⊎ ((Same (seen h one) (seen h other) → ⊥) × (a ≡ differ_line))))
+
+-- the acts of a text were written, or refused
+pub record Writes (viewer : ℕ) (acts : List Act) (passed : ℕ) (p q : Play) (a f : List ℕ) : Type 0 where
+  pub result : Result Written WriteRefusal
+  pub added : List Entry
+  pub step : WriteStep p.history viewer acts result added
+  pub told : text_answer result passed ≡ Some a
+  pub after_it : q ≡ record { now = p.now; history = added ++ p.history }
+  pub framed : f ≡ framings p.history added
+
+-- what a text does that says this
+abbrev pub DoesReading : Reading → ℕ → Play → Play → List ℕ → List ℕ → Type 0
+DoesReading (Whole acts passed) viewer p q a f = Writes viewer acts passed p q a f
+DoesReading (Cut place) viewer p q a f = Answers p q (cut_line place) a f
+DoesReading (Bad at) viewer p q a f = Answers p q (bad_text_line at) a f
+DoesReading TooMany viewer p q a f = ⊥
+
 -- the call that a line makes
 abbrev pub event_of : Line → Play → Option Event
 event_of (server bytes) p = Some (feed bytes p.now)
 event_of (join asked) p = Some (join_in asked)
 event_of (read viewer) p = Some (read_as viewer)
 event_of (read_untold viewer) p = Some (read_as viewer)
-event_of (acknowledge viewer) p = Some (write viewer (act_sync (newest p.history) ∷ []))
+event_of (acknowledge viewer) p = Some (write_acts viewer (act_sync (newest p.history) ∷ []))
 event_of line p = None
 
 -- the answer to a call that isn't told
@@ -76,8 +116,11 @@ Does (start size mode entries) p q a f = Begins (setup_of size mode entries) p q
 Does (server bytes) p q a f = Calls (feed bytes p.now) p q a f
 Does (join asked) p q a f = Calls (join_in asked) p q a f
 Does (read viewer) p q a f = Calls (read_as viewer) p q a f
+Does (write viewer text) p q a f = (reading : Reading) × IsReading text reading × DoesReading reading viewer p q a f
+Does (pixel viewer x y) p q a f = Answers p q (pixel_answer p.history viewer x y) a f
+Does (same one other) p q a f = (answer : List ℕ) × Compares p.history one other answer × Answers p q answer a f
 Does (read_untold viewer) p q a f = Untold (read_as viewer) p q a f
-Does (acknowledge viewer) p q a f = Untold (write viewer (act_sync (newest p.history) ∷ [])) p q a f
+Does (acknowledge viewer) p q a f = Untold (write_acts viewer (act_sync (newest p.history) ∷ [])) p q a f
 Does done p q a f = Answers p q (answer_line (codes "done") (newest p.history ∷ [])) a f
 
 -- a line after some lines, which led to p and told a and f

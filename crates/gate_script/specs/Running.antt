@@ -1,16 +1,22 @@
 -- Where a run stands, and how each of its calls ends. Four optional texts say what the answers' sink and
 -- the frames' sink held when the run began, and what they hold.
-use Rattle.std.specs.Prelude.{◌≡◌, ℕ, ◌*◌, ◌≤◌, Bool, List, [], ◌∷◌, ◌++◌, length, take, reverse, true, false, Result, Ok, Err, Option, Some, None, ◌⊎◌}
+use Rattle.std.specs.Prelude.{◌+◌, ◌<◌, slice_index_or, slice_set, ◌≡◌, ℕ, ◌*◌, ◌≤◌, Bool, List, [], ◌∷◌, ◌++◌, length, take, reverse, true, false, Result, Ok, Err, Option, Some, None, ◌⊎◌}
 use Rattle.std.specs.List.{list_any}
 use Rattle.std.specs.Option.{is_some}
 use Rattle.gate_model.specs.Sequences.{IsLater, BeginsWith}
 use Rattle.gate_model.specs.Reading.{read as read_stream}
 use Rattle.gate_model.specs.declared.read_answer.ReadAnswer.{ReadAnswer}
 use Rattle.gate_model.specs.declared.read_answer.ReadAnswer.TheVariants.{Frames, Fresh}
-use Rattle.gate_model.specs.History.{History}
+use Rattle.gate_model.specs.History.{History, joined}
 use Rattle.gate_model.specs.Limits.{most_entries}
 use Rattle.gate_outside.specs.Edge.{AtEnd, came, gained, GainedFront}
-use Rattle.desk_core.specs.Desk.{DeskState, Stands}
+use Rattle.desk_core.specs.Desk.{Stands}
+use Rattle.gate_model.specs.declared.instr.Instr.{Instr}
+use Rattle.gate_model.specs.Text.{texts}
+use Rattle.gate_model.specs.Layers.{Layers, draw}
+use Rattle.frame_draw.specs.Readable.{AreReadable}
+use Rattle.canvas.specs.Kept.{KeptLayer}
+use Rattle.canvas.specs.Standing.{Stands as stands_for}
 use Rattle.gate_script.specs.declared.form.Form.{Form}
 use Rattle.gate_script.specs.declared.form.Form.TheVariants.{Draw, Script}
 use Rattle.gate_script.specs.declared.refused.Refused.{Refused as Refusal}
@@ -25,7 +31,7 @@ use Rattle.gate_script.specs.Pieces.{first_piece}
 use Rattle.gate_script.specs.Lines.{Line, draw_lines}
 use Rattle.gate_script.specs.Grammar.{most_script, total, is_start, script_lines, lines_of, most_of, whole_lines, all_lines}
 use Rattle.gate_script.specs.Told.{frames_line}
-use Rattle.gate_script.specs.Plays.{Play, Plays, IsLawful, Tells}
+use Rattle.gate_script.specs.Plays.{Play, Plays, IsLawful, Tells, seen}
 use Rattle.gate_script.specs.Outcomes.{IsRefused, last_line}
 
 -- the lines were done, and the sinks gained all that they tell
@@ -36,11 +42,23 @@ pub record Told (lines : List Line) (p : Play) (a0 f0 a f : Option (List ℕ)) :
   pub answered : a ≡ gained a0 answers
   pub framed : f ≡ gained f0 framings
 
--- besides, the desk stands for the history
-pub record At (lines : List Line) (now : ℕ) (d : DeskState) (a0 f0 a f : Option (List ℕ)) : Type 0 where
+-- each viewer's canvas shows what the viewer was given
+pub record AreShown (canvases : List (List KeptLayer)) (h : History) : Type 0 where
+  pub count : length canvases ≡ joined h
+  pub shows : (i : ℕ) → i < length canvases → stands_for (slice_index_or canvases i []) (seen h (i + 1))
+
+-- the text was played on one canvas, and the others are as before
+pub record PlaysOn (old new : List (List KeptLayer)) (place : ℕ) (text : List ℕ) : Type 0 where
+  pub canvas : List KeptLayer
+  pub set : new ≡ slice_set old place canvas
+  pub plays : (is : List Instr) (m : Layers) → AreReadable is → text ≡ texts is → stands_for (slice_index_or old place []) m → stands_for canvas (draw m is)
+
+-- besides, the session's desk stands for the history, and its canvases show it
+pub record At (lines : List Line) (now : ℕ) (s : Session) (a0 f0 a f : Option (List ℕ)) : Type 0 where
   pub history : History
   pub told : Told lines record { now = now; history = history } a0 f0 a f
-  pub stands : Stands d history
+  pub stands : Stands s.desk history
+  pub shown : AreShown s.canvases.items history
 
 -- the sinks gained a front of what some first lines tell
 pub record ShortOf (all : List Line) (a0 f0 a f : Option (List ℕ)) : Type 0 where
@@ -75,9 +93,9 @@ StoppedIn all NoMemory a0 f0 a f = ShortOf all a0 f0 a f
 StoppedIn all (Refused refused) a0 f0 a f = RefusedOf all refused a0 f0 a f
 
 -- all the lines were done, or the call stopped in them
-abbrev pub Ends : List Line → ℕ → Result (Unit {0}) Stop → DeskState → Option (List ℕ) → Option (List ℕ) → Option (List ℕ) → Option (List ℕ) → Type 0
-Ends all now (Ok done) d a0 f0 a f = At all now d a0 f0 a f
-Ends all now (Err stop) d a0 f0 a f = StoppedIn all stop a0 f0 a f
+abbrev pub Ends : List Line → ℕ → Result (Unit {0}) Stop → Session → Option (List ℕ) → Option (List ℕ) → Option (List ℕ) → Option (List ℕ) → Type 0
+Ends all now (Ok done) s a0 f0 a f = At all now s a0 f0 a f
+Ends all now (Err stop) s a0 f0 a f = StoppedIn all stop a0 f0 a f
 
 -- one line was written to a sink, or a front of it, or for want of memory nothing
 abbrev pub Put : Result (Unit {0}) Stop → List ℕ → Option (List ℕ) → Option (List ℕ) → Type 0
@@ -117,7 +135,7 @@ HasCause stop source sinks = Unit {0}
 -- the lines were done, with a session or before it
 abbrev pub Stays : List Line → ℕ → Option Session → Option (List ℕ) → Option (List ℕ) → Option (List ℕ) → Option (List ℕ) → Type 0
 Stays lines now None a0 f0 a f = Told lines record { now = now; history = [] } a0 f0 a f
-Stays lines now (Some session) a0 f0 a f = At lines now session.desk a0 f0 a f
+Stays lines now (Some session) a0 f0 a f = At lines now session a0 f0 a f
 
 -- the lines of a script were done
 pub record DoesLines (lines : List Line) (r : Run) (a0 f0 a f : Option (List ℕ)) : Type 0 where

@@ -7,7 +7,7 @@ use Rattle.gate_model.specs.declared.entry.Entry.TheVariants.{Start, Feed, Join,
 use Rattle.gate_model.specs.declared.feed_refusal.FeedRefusal.{FeedRefusal}
 use Rattle.gate_model.specs.declared.feed_refusal.FeedRefusal.TheVariants.{Closed as feed_closed, Worn as feed_worn, Unbuilt as feed_unbuilt}
 use Rattle.gate_model.specs.declared.join_refusal.JoinRefusal.{JoinRefusal}
-use Rattle.gate_model.specs.declared.join_refusal.JoinRefusal.TheVariants.{Closed as join_closed, Worn as join_worn, Forbidden, TooMany}
+use Rattle.gate_model.specs.declared.join_refusal.JoinRefusal.TheVariants.{Closed as join_closed, Worn as join_worn, Forbidden, TooMany as too_many_viewers}
 use Rattle.gate_model.specs.declared.joined.Joined.{Joined}
 use Rattle.gate_model.specs.declared.read_answer.ReadAnswer.{ReadAnswer}
 use Rattle.gate_model.specs.declared.read_answer.ReadAnswer.TheVariants.{Frames, Fresh, Ended, Empty, Hold}
@@ -17,6 +17,11 @@ use Rattle.gate_model.specs.declared.write_refusal.WriteRefusal.{WriteRefusal}
 use Rattle.gate_model.specs.declared.write_refusal.WriteRefusal.TheVariants.{NoViewer as write_no_viewer, Closed as write_closed, Worn as write_worn}
 use Rattle.gate_model.specs.declared.written.Written.{Written}
 use Rattle.gate_model.specs.Text.{texts}
+use Rattle.guac_framing.specs.declared.next.BadAt.{BadAt}
+use Rattle.guac_framing.specs.declared.next.BadKind.{BadKind}
+use Rattle.guac_framing.specs.declared.next.BadKind.TheVariants.{Digit, Length, Separator, Utf8, TooMany, TooLong}
+use Rattle.canvas.specs.declared.dot.Dot.{Dot}
+use Rattle.canvas.specs.declared.dot.Dot.TheVariants.{Outside, Clear, Painted}
 use Rattle.gate_model.specs.History.{History}
 use Rattle.gate_model.specs.Delivered.{delivered, given}
 
@@ -40,11 +45,14 @@ feed_answer (Ok stamp) = Some (answer_line (codes "synced") (stamp ∷ []))
 feed_answer (Err (feed_closed cause)) = Some (refused_line 523)
 feed_answer (Err refusal) = None
 
+abbrev pub joined_line : Joined → List ℕ
+joined_line joined = answer_line (codes "joined") (joined.viewer ∷ joined.stamp ∷ [])
+
 abbrev pub join_answer : Result Joined JoinRefusal → Option (List ℕ)
-join_answer (Ok joined) = Some (answer_line (codes "joined") (joined.viewer ∷ joined.stamp ∷ []))
+join_answer (Ok joined) = Some (joined_line joined)
 join_answer (Err (join_closed cause)) = Some (refused_line 523)
 join_answer (Err Forbidden) = Some (refused_line 771)
-join_answer (Err (TooMany live joined)) = Some (refused_line 797)
+join_answer (Err (too_many_viewers live joined)) = Some (refused_line 797)
 join_answer (Err refusal) = None
 
 -- in this version no session is closed
@@ -97,6 +105,42 @@ framing g e = []
 -- what the entries that a call added, none or one, tell
 abbrev pub framings : History → List Entry → List ℕ
 framings g added = flat_map (framing g) added
+
+-- what a text of instructions is told as: how many keys were written, were denied, and how many
+-- instructions have no meaning; where the text is cut, or is bad and why
+abbrev pub written_line : Written → ℕ → List ℕ
+written_line counts passed = answer_line (codes "written") (counts.keys ∷ counts.denied ∷ passed ∷ [])
+
+abbrev pub kind_word : BadKind → List ℕ
+kind_word Digit = codes "digit"
+kind_word Length = codes "length"
+kind_word Separator = codes "separator"
+kind_word Utf8 = codes "utf8"
+kind_word TooMany = codes "many"
+kind_word TooLong = codes "long"
+
+abbrev pub cut_line : ℕ → List ℕ
+cut_line place = answer_line (codes "cut") (place ∷ [])
+
+abbrev pub bad_text_line : BadAt → List ℕ
+bad_text_line at = codes "bad" ++ 32 ∷ decimal at.place ++ 32 ∷ kind_word at.kind ++ 10 ∷ []
+
+-- the answer to a write of a script; there is none where the run ends with it
+abbrev pub text_answer : Result Written WriteRefusal → ℕ → Option (List ℕ)
+text_answer (Ok counts) passed = Some (written_line counts passed)
+text_answer (Err refusal) passed = write_answer (Err refusal)
+
+-- what a place shows
+abbrev pub pixel_line : Dot → List ℕ
+pixel_line Outside = answer_line (codes "pixel outside") []
+pixel_line Clear = answer_line (codes "pixel clear") []
+pixel_line (Painted colour) = answer_line (codes "pixel") (colour.red ∷ colour.green ∷ colour.blue ∷ [])
+
+abbrev pub same_line : List ℕ
+same_line = answer_line (codes "same") []
+
+abbrev pub differ_line : List ℕ
+differ_line = answer_line (codes "differ") []
 
 -- the last answers: a line outside the grammar, a full session, a byte without a meaning
 abbrev pub bad_line : ℕ → List ℕ

@@ -1,8 +1,8 @@
 //! The lines of a script.
 
-ghost use Rattle.std.specs.Prelude.{◌≡◌, ◌≤◌, ◌-◌, ◌^◌, ℕ, length, position, IfOk, bytes_eq};
+ghost use Rattle.std.specs.Prelude.{◌≡◌, ◌≤◌, ◌-◌, ◌^◌, ℕ, length, position, option_and_then, IfOk, bytes_eq};
 ghost use Rattle.std.specs.Option.{option_map};
-ghost use Rattle.gate_script.specs.Grammar.{behind_word, bytes_of, content, end_length, first_word, is_blank, joining, line_of, meant, mode_of, moved, reading, served, start_mode, start_rows};
+ghost use Rattle.gate_script.specs.Grammar.{behind_word, bytes_of, comparing, content, end_length, first_word, is_blank, joining, line_of, looking, meant, mode_of, moved, pixel_place, reading, served, start_mode, start_rows, writing};
 ghost use Rattle.gate_script.specs.Numbers.{number_up_to};
 ghost use Rattle.gate_script.specs.Meanings.{IsInRange, line_meant};
 
@@ -99,8 +99,17 @@ fn meant(alloc: Global, name: &[u8], text: &[u8]) -> Result<Line, NoMemory>
     if is(name, "join") {
         return Ok(join(text));
     }
-    Ok(if is(name, "read") {
-        read(text)
+    if is(name, "read") {
+        return Ok(read(text));
+    }
+    if is(name, "write") {
+        return write(alloc, text);
+    }
+    if is(name, "pixel") {
+        return Ok(pixel(text));
+    }
+    Ok(if is(name, "same") {
+        same(text)
     } else {
         Line::Bad
     })
@@ -192,6 +201,64 @@ fn read(text: &[u8]) -> Line
     match number_of_32_bits(text) {
         Some(viewer) => Line::Call(Call::Read(viewer)),
         None => Line::Bad,
+    }
+}
+
+// `write VIEWER TEXT`
+fn write(alloc: Global, text: &[u8]) -> Result<Line, NoMemory>
+    ensures says { (entries : ℕ) → IfOk result (λ l. line_meant entries l ≡ writing (number_up_to (2 ^ 32 - 1) (first_word text.now)) (behind_word text.now)) }
+    ensures in_range { IfOk result IsInRange }
+{
+    let words = split(text);
+    match (number_of_32_bits(words.first), words.behind) {
+        (Some(viewer), Some(behind)) => {
+            let text = Bytes::of(Vec::from_slice(alloc, behind)?);
+            Ok(Line::Call(Call::Write(viewer, text)))
+        }
+        _ => Ok(Line::Bad),
+    }
+}
+
+// `pixel VIEWER X Y`
+fn pixel(text: &[u8]) -> Line
+    ensures says { (entries : ℕ) → line_meant entries result ≡ pixel_place (first_word text.now) (behind_word text.now) }
+    ensures in_range { IsInRange result }
+{
+    let words = split(text);
+    match words.behind {
+        Some(place) => pixel_at(words.first, place),
+        None => Line::Bad,
+    }
+}
+
+// `pixel` with this word for the viewer, and then `X Y`
+fn pixel_at(viewer: &[u8], text: &[u8]) -> Line
+    ensures says { (entries : ℕ) → line_meant entries result ≡ looking (number_up_to (2 ^ 32 - 1) viewer.now) (number_up_to (2 ^ 64 - 1) (first_word text.now)) (option_and_then (number_up_to (2 ^ 64 - 1)) (behind_word text.now)) }
+    ensures in_range { IsInRange result }
+{
+    let words = split(text);
+    let Some(y) = words.behind else {
+        return Line::Bad;
+    };
+    let viewer = number_of_32_bits(viewer);
+    match (viewer, number_of_64_bits(words.first), number_of_64_bits(y)) {
+        (Some(viewer), Some(x), Some(y)) => Line::Call(Call::Pixel(viewer, x, y)),
+        _ => Line::Bad,
+    }
+}
+
+// `same VIEWER VIEWER`
+fn same(text: &[u8]) -> Line
+    ensures says { (entries : ℕ) → line_meant entries result ≡ comparing (number_up_to (2 ^ 32 - 1) (first_word text.now)) (option_and_then (number_up_to (2 ^ 32 - 1)) (behind_word text.now)) }
+    ensures in_range { IsInRange result }
+{
+    let words = split(text);
+    let Some(other) = words.behind else {
+        return Line::Bad;
+    };
+    match (number_of_32_bits(words.first), number_of_32_bits(other)) {
+        (Some(one), Some(other)) => Line::Call(Call::Same(one, other)),
+        _ => Line::Bad,
     }
 }
 

@@ -6,6 +6,9 @@
 //! legal and true history (`specs/Plays.antt`, `specs/Outcomes.antt`).
 #![tactic(auto)]
 
+mod acts;
+#[cfg(test)]
+mod acts_tests;
 mod commands;
 mod form;
 mod grammar;
@@ -14,9 +17,12 @@ mod input;
 mod line;
 mod numbers;
 mod pieces;
+mod playing;
+mod reading;
 mod refused;
 mod report;
 mod run;
+mod seeing;
 mod session;
 mod size;
 mod stop;

@@ -25,4 +25,10 @@ pub(crate) enum Call {
     JoinOwner,
     /// The viewer reads.
     Read(u32),
+    /// The viewer writes a text of instructions.
+    Write(u32, Bytes),
+    /// The pixel at x and y of what the viewer sees.
+    Pixel(u32, u64, u64),
+    /// Whether two viewers see the same.
+    Same(u32, u32),
 }

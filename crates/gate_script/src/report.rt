@@ -1,13 +1,15 @@
 //! The lines that are written to the two sinks.
 
-ghost use Rattle.std.specs.Prelude.{◌≡◌, ◌≤◌, ◌⊎◌, [], OnOk, IfErr};
+ghost use Rattle.std.specs.Prelude.{◌≡◌, ◌≤◌, ◌⊎◌, [], ◌∷◌, ◌++◌, codes, decimal, OnOk, IfErr};
 ghost use Rattle.gate_outside.specs.Edge.{Rose};
-ghost use Rattle.gate_script.specs.Told.{answer_line, frames_line, refused_line};
+ghost use Rattle.gate_script.specs.Told.{answer_line, bad_text_line, frames_line, kind_word, pixel_line, refused_line};
 ghost use Rattle.gate_script.specs.Running.{HasCause, Put, Reported};
 
 use crate::stop::Stop;
-use gate_model::NoMemory;
+use canvas::Dot;
+use gate_model::{Colour, NoMemory};
 use gate_outside::{Sink, write_all};
+use guac_framing::{BadAt, BadKind};
 use itoa::Buffer;
 
 /// Writes a line of the frames, a viewer's number, or 0 for a frame, a blank and the text, and then an
@@ -75,6 +77,63 @@ pub(crate) fn refuse<A: Sink>(line: &mut Vec<u8>, status: u64, answers: &mut A) 
     ensures cause { IfErr result (λ stop. HasCause stop ⊥ (Rose (A.faults answers.old) (A.faults answers.new))) }
 {
     say(line, "refused", &[status], answers)
+}
+
+/// Writes what a place shows.
+pub(crate) fn say_dot<A: Sink>(line: &mut Vec<u8>, dot: Dot, answers: &mut A) -> Result<(), Stop>
+    ensures put { Put result (pixel_line dot) (A.written answers.old) (A.written answers.new) }
+    ensures later { A.faults answers.old ≤ A.faults answers.new }
+    ensures cause { IfErr result (λ stop. HasCause stop ⊥ (Rose (A.faults answers.old) (A.faults answers.new))) }
+{
+    match dot {
+        Dot::Outside => say(line, "pixel outside", &[], answers),
+        Dot::Clear => say(line, "pixel clear", &[], answers),
+        Dot::Painted(Colour { red, green, blue }) => {
+            let numbers = [u64::from(red), u64::from(green), u64::from(blue)];
+            say(line, "pixel", &numbers, answers)
+        }
+    }
+}
+
+/// Writes where a text is bad, and why.
+pub(crate) fn say_bad<A: Sink>(line: &mut Vec<u8>, at: BadAt, answers: &mut A) -> Result<(), Stop>
+    ensures put { Put result (bad_text_line at) (A.written answers.old) (A.written answers.new) }
+    ensures later { A.faults answers.old ≤ A.faults answers.new }
+    ensures cause { IfErr result (λ stop. HasCause stop ⊥ (Rose (A.faults answers.old) (A.faults answers.new))) }
+{
+    make_bad_line(line, at.place, kind_word(at.kind))?;
+    match write_all(answers, line) {
+        Ok(()) => Ok(()),
+        Err(_) => Err(Stop::WriteFault),
+    }
+}
+
+// The word for why a text is bad.
+fn kind_word(kind: BadKind) -> &'static str
+    ensures { result.now ≡ kind_word kind }
+{
+    match kind {
+        BadKind::Digit => "digit",
+        BadKind::Length => "length",
+        BadKind::Separator => "separator",
+        BadKind::Utf8 => "utf8",
+        BadKind::TooMany => "many",
+        BadKind::TooLong => "long",
+    }
+}
+
+// Makes the line that says where a text is bad, and why.
+fn make_bad_line(line: &mut Vec<u8>, place: usize, kind: &str) -> Result<(), NoMemory>
+    ensures { OnOk result (line.new.items ≡ codes "bad" ++ 32 ∷ decimal place ++ 32 ∷ kind.now ++ 10 ∷ []) }
+{
+    let mut buffer = Buffer::new();
+    line.clear();
+    line.extend_from_slice(b"bad ")?;
+    line.extend_from_slice(buffer.format(place).as_bytes())?;
+    line.push(b' ')?;
+    line.extend_from_slice(kind.as_bytes())?;
+    line.push(b'\n')?;
+    Ok(())
 }
 
 // Makes a line of the frames.

@@ -315,6 +315,11 @@ impl Run {
             Call::Server(bytes) => session.server(alloc, bytes.as_slice(), now, answers, frames),
             Call::JoinOwner => session.join(alloc, answers, frames),
             Call::Read(viewer) => session.read(viewer, answers, frames),
+            Call::Write(viewer, text) => {
+                session.write(alloc, viewer, text.as_slice(), bad, answers)
+            }
+            Call::Pixel(viewer, x, y) => session.pixel(viewer, x, y, answers),
+            Call::Same(one, other) => session.same(one, other, answers),
         }
     }
 

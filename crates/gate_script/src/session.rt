@@ -1,25 +1,32 @@
 //! A session: its desk, and what each of its lines tells.
 
-ghost use Rattle.std.specs.Prelude.{◌≡◌, ◌+◌, ◌-◌, ◌<◌, ◌^◌, ◌≤◌, ◌⊎◌, [], ◌∷◌, ℕ, List, Option, length, IfOk, IfErr, OnOk};
+ghost use Rattle.std.specs.Prelude.{◌≡◌, ◌≢◌, ◌+◌, ◌-◌, ◌<◌, ◌^◌, ◌≤◌, ◌⊎◌, [], ◌∷◌, ℕ, List, Option, length, IfOk, IfErr, OnOk};
 ghost use Rattle.gate_model.specs.Limits.{most_entries};
 ghost use Rattle.gate_model.specs.Steps.{IsScreenSize};
 ghost use Rattle.gate_outside.specs.Edge.{Rose};
 
+use crate::acts::read_acts;
+use crate::playing::{play_text, played};
+use crate::reading::Reading;
 use crate::refused::Refused;
-use crate::report::{refuse, report, say, show};
+use crate::report::{refuse, report, say, say_bad, say_dot, show};
+use crate::seeing::{are_same, dot_of};
 use crate::size::Size;
 use crate::stop::Stop;
+use canvas::Canvas;
 use desk_core::{
-    Desk, FeedRefusal, JoinRefusal, NoMemory, ReadAnswer, ReadRefusal, Setup, WriteRefusal,
+    Desk, FeedRefusal, JoinRefusal, Joined, NoMemory, ReadAnswer, ReadRefusal, Setup, WriteRefusal,
+    Written,
 };
 use gate_model::{Act, Asked, Share, Text};
 use gate_outside::Sink;
 use std::alloc::Global;
 
-/// A desk, what a viewer is given, and the line that is written next.
+/// A desk, a canvas for each viewer, what a viewer is given, and the line that is written next.
 #[derive(Drop)]
 pub(crate) struct Session {
     pub desk: Desk,
+    pub canvases: Vec<Canvas>,
     given: Vec<u8>,
     line: Vec<u8>,
 }
@@ -29,10 +36,14 @@ impl Session {
     ghost use Rattle.gate_model.specs.declared.sharing.Asked.TheVariants.{Owner};
     ghost use Rattle.desk_core.specs.Calls.{Opened};
     ghost use Rattle.gate_script.specs.declared.size.Size.{Size as Sized};
-    ghost use Rattle.gate_script.specs.Lines.{Line, start, server, join, read, read_untold, acknowledge, done};
+    ghost use Rattle.gate_model.specs.Calls.{IsWrite};
+    ghost use Rattle.gate_script.specs.declared.reading.Reading.TheVariants.{Whole};
+    ghost use Rattle.gate_script.specs.declared.stop.Stop.TheVariants.{ReadFault, WriteFault};
+    ghost use Rattle.gate_script.specs.Acts.{IsReading};
+    ghost use Rattle.gate_script.specs.Lines.{Line, start, server, join, read, write, pixel, same, read_untold, acknowledge, done};
     ghost use Rattle.gate_script.specs.Plays.{setup_of};
-    ghost use Rattle.gate_script.specs.Told.{read_told};
-    ghost use Rattle.gate_script.specs.Running.{At, Ends, HasCause, Put, Reported, Told, read_shown};
+    ghost use Rattle.gate_script.specs.Told.{frames_line, joined_line, read_told};
+    ghost use Rattle.gate_script.specs.Running.{At, Ends, HasCause, PlaysOn, Put, Reported, Told, read_shown, stopped_at};
 
     /// Opens a session at the moment `now`, of at most `entries` entries.
     pub(crate) fn start(
@@ -47,6 +58,7 @@ impl Session {
         requires few { entries ≤ most_entries }
         ensures opened { IfOk result (λ s. Opened (setup_of size mode entries) now s.desk) }
         ensures nobody { IfOk result (λ s. s.desk.viewers ≡ []) }
+        ensures unseen { IfOk result (λ s. s.canvases.items ≡ []) }
         ensures one { IfOk result (λ s. s.desk.entries ≡ 1) }
     {
         let setup = Setup {
@@ -58,6 +70,7 @@ impl Session {
         };
         Ok(Session {
             desk: Desk::start(alloc, setup, now)?,
+            canvases: Vec::new(alloc),
             given: Vec::new(alloc),
             line: Vec::new(alloc),
         })
@@ -70,9 +83,10 @@ impl Session {
         frames: &mut F,
     ) -> Result<(), Stop>
         ensures step { (lines : List Line) (size : Sized) (mode : Shared) (entries now : ℕ) (a0 f0 : Option (List ℕ)) →
-            Told lines record { now = now; history = [] } a0 f0 (A.written answers.old) (F.written frames.old) → Opened (setup_of size mode entries) now self.old.desk →
-            Ends (start size mode entries ∷ lines) now result self.new.desk a0 f0 (A.written answers.new) (F.written frames.new) }
+            Told lines record { now = now; history = [] } a0 f0 (A.written answers.old) (F.written frames.old) → Opened (setup_of size mode entries) now self.old.desk → self.old.canvases.items ≡ [] →
+            Ends (start size mode entries ∷ lines) now result self.new a0 f0 (A.written answers.new) (F.written frames.new) }
         ensures same { self.new.desk ≡ self.old.desk }
+        ensures canvases { self.new.canvases ≡ self.old.canvases }
         ensures later_answers { A.faults answers.old ≤ A.faults answers.new }
         ensures later_frames { F.faults frames.old ≤ F.faults frames.new }
         ensures cause { IfErr result (λ stop. HasCause stop ⊥ (Rose (A.faults answers.old) (A.faults answers.new) ⊎ Rose (F.faults frames.old) (F.faults frames.new))) }
@@ -101,8 +115,8 @@ impl Session {
         requires some { 1 ≤ length bytes.now }
         requires few { length bytes.now ≤ 65536 }
         ensures step { (lines : List Line) (a0 f0 : Option (List ℕ)) →
-            At lines now self.old.desk a0 f0 (A.written answers.old) (F.written frames.old) →
-            Ends (server bytes.now ∷ lines) now result self.new.desk a0 f0 (A.written answers.new) (F.written frames.new) }
+            At lines now self.old a0 f0 (A.written answers.old) (F.written frames.old) →
+            Ends (server bytes.now ∷ lines) now result self.new a0 f0 (A.written answers.new) (F.written frames.new) }
         ensures counts { OnOk result (self.new.desk.entries ≡ self.old.desk.entries + 1) }
         ensures few { OnOk result (self.new.desk.entries ≤ 2 ^ 40) }
         ensures viewers { self.new.desk.viewers ≡ self.old.desk.viewers }
@@ -136,8 +150,8 @@ impl Session {
     ) -> Result<(), Stop>
         requires few { length self.old.desk.viewers < 2 ^ 32 - 1 }
         ensures step { (lines : List Line) (now : ℕ) (a0 f0 : Option (List ℕ)) →
-            At lines now self.old.desk a0 f0 (A.written answers.old) (F.written frames.old) →
-            Ends (join Owner ∷ lines) now result self.new.desk a0 f0 (A.written answers.new) (F.written frames.new) }
+            At lines now self.old a0 f0 (A.written answers.old) (F.written frames.old) →
+            Ends (join Owner ∷ lines) now result self.new a0 f0 (A.written answers.new) (F.written frames.new) }
         ensures viewers { OnOk result (length self.new.desk.viewers ≤ length self.old.desk.viewers + 1) }
         ensures few { OnOk result (self.old.desk.entries ≤ 2 ^ 40 → self.new.desk.entries ≤ 2 ^ 40) }
         ensures later_answers { A.faults answers.old ≤ A.faults answers.new }
@@ -146,21 +160,46 @@ impl Session {
     {
         self.given.clear();
         match self.desk.join(alloc, Asked::Owner, &mut self.given) {
-            Ok(joined) => report(
-                &mut self.line,
-                joined.viewer,
-                &self.given,
-                "joined",
-                &[u64::from(joined.viewer), joined.stamp],
-                answers,
-                frames,
-            ),
+            Ok(joined) => {
+                let canvas = played(alloc, &self.given)?;
+                if self.canvases.push(canvas).is_err() {
+                    return Err(Stop::NoMemory);
+                }
+                self.tell_joined(joined, answers, frames)
+            }
             Err(JoinRefusal::Closed(_)) => refuse(&mut self.line, 523, answers),
             Err(JoinRefusal::Forbidden) => refuse(&mut self.line, 771, answers),
             Err(JoinRefusal::TooMany { .. }) => refuse(&mut self.line, 797, answers),
             Err(JoinRefusal::Worn { entries }) => Err(Stop::Refused(Refused::Worn(entries))),
             Err(JoinRefusal::NoMemory) => Err(Stop::NoMemory),
         }
+    }
+
+    // Tells that a viewer has joined, after the line of the frames.
+    fn tell_joined<A: Sink, F: Sink>(
+        &mut self,
+        joined: Joined,
+        answers: &mut A,
+        frames: &mut F,
+    ) -> Result<(), Stop>
+        ensures told { Reported result (joined_line joined) (frames_line joined.viewer self.old.given.items) (A.written answers.old) (A.written answers.new) (F.written frames.old) (F.written frames.new) }
+        ensures same { self.new.desk ≡ self.old.desk }
+        ensures canvases { self.new.canvases ≡ self.old.canvases }
+        ensures later_answers { A.faults answers.old ≤ A.faults answers.new }
+        ensures later_frames { F.faults frames.old ≤ F.faults frames.new }
+        ensures cause { IfErr result (λ stop. HasCause stop ⊥ (Rose (A.faults answers.old) (A.faults answers.new) ⊎ Rose (F.faults frames.old) (F.faults frames.new))) }
+    {
+        let Session { given, line, .. } = self;
+        let numbers = [u64::from(joined.viewer), joined.stamp];
+        report(
+            line,
+            joined.viewer,
+            given,
+            "joined",
+            &numbers,
+            answers,
+            frames,
+        )
     }
 
     /// The viewer reads.
@@ -171,8 +210,8 @@ impl Session {
         frames: &mut F,
     ) -> Result<(), Stop>
         ensures step { (lines : List Line) (now : ℕ) (a0 f0 : Option (List ℕ)) →
-            At lines now self.old.desk a0 f0 (A.written answers.old) (F.written frames.old) →
-            Ends (read viewer ∷ lines) now result self.new.desk a0 f0 (A.written answers.new) (F.written frames.new) }
+            At lines now self.old a0 f0 (A.written answers.old) (F.written frames.old) →
+            Ends (read viewer ∷ lines) now result self.new a0 f0 (A.written answers.new) (F.written frames.new) }
         ensures viewers { length self.new.desk.viewers ≡ length self.old.desk.viewers }
         ensures later_answers { A.faults answers.old ≤ A.faults answers.new }
         ensures later_frames { F.faults frames.old ≤ F.faults frames.new }
@@ -180,7 +219,10 @@ impl Session {
     {
         self.given.clear();
         match self.desk.read(viewer, &mut self.given) {
-            Ok(answer) => self.tell_read(viewer, answer, answers, frames),
+            Ok(answer) => {
+                self.play_given(viewer)?;
+                self.tell_read(viewer, answer, answers, frames)
+            }
             Err(ReadRefusal::NoViewer) => refuse(&mut self.line, 516, answers),
             Err(ReadRefusal::Worn { entries }) => Err(Stop::Refused(Refused::Worn(entries))),
             Err(ReadRefusal::NoMemory) => Err(Stop::NoMemory),
@@ -197,6 +239,7 @@ impl Session {
     ) -> Result<(), Stop>
         ensures told { Reported result (read_told answer) (read_shown viewer self.old.given.items answer) (A.written answers.old) (A.written answers.new) (F.written frames.old) (F.written frames.new) }
         ensures same { self.new.desk ≡ self.old.desk }
+        ensures canvases { self.new.canvases ≡ self.old.canvases }
         ensures later_answers { A.faults answers.old ≤ A.faults answers.new }
         ensures later_frames { F.faults frames.old ≤ F.faults frames.new }
         ensures cause { IfErr result (λ stop. HasCause stop ⊥ (Rose (A.faults answers.old) (A.faults answers.new) ⊎ Rose (F.faults frames.old) (F.faults frames.new))) }
@@ -219,8 +262,8 @@ impl Session {
     /// Viewer 1 reads, and the answer isn't told.
     pub(crate) fn read_untold<F: Sink>(&mut self, frames: &mut F) -> Result<(), Stop>
         ensures step { (lines : List Line) (now : ℕ) (a0 f0 a : Option (List ℕ)) →
-            At lines now self.old.desk a0 f0 a (F.written frames.old) →
-            Ends (read_untold 1 ∷ lines) now result self.new.desk a0 f0 a (F.written frames.new) }
+            At lines now self.old a0 f0 a (F.written frames.old) →
+            Ends (read_untold 1 ∷ lines) now result self.new a0 f0 a (F.written frames.new) }
         ensures counts { OnOk result (self.old.desk.entries ≤ self.new.desk.entries) }
         ensures few { OnOk result (self.old.desk.entries ≤ 2 ^ 40 → self.new.desk.entries ≤ 2 ^ 40) }
         ensures later { F.faults frames.old ≤ F.faults frames.new }
@@ -228,7 +271,10 @@ impl Session {
     {
         self.given.clear();
         match self.desk.read(1, &mut self.given) {
-            Ok(answer) => self.show_read(answer, frames),
+            Ok(answer) => {
+                self.play_given(1)?;
+                self.show_read(answer, frames)
+            }
             Err(ReadRefusal::NoViewer) => Ok(()),
             Err(ReadRefusal::Worn { entries }) => Err(Stop::Refused(Refused::Worn(entries))),
             Err(ReadRefusal::NoMemory) => Err(Stop::NoMemory),
@@ -239,6 +285,7 @@ impl Session {
     fn show_read<F: Sink>(&mut self, answer: ReadAnswer, frames: &mut F) -> Result<(), Stop>
         ensures put { Put result (read_shown 1 self.old.given.items answer) (F.written frames.old) (F.written frames.new) }
         ensures same { self.new.desk ≡ self.old.desk }
+        ensures canvases { self.new.canvases ≡ self.old.canvases }
         ensures later { F.faults frames.old ≤ F.faults frames.new }
         ensures cause { IfErr result (λ stop. HasCause stop ⊥ (Rose (F.faults frames.old) (F.faults frames.new))) }
     {
@@ -253,7 +300,7 @@ impl Session {
     /// Viewer 1 acknowledges the newest stamp.
     pub(crate) fn acknowledge(&mut self, alloc: Global) -> Result<(), Stop>
         ensures step { (lines : List Line) (now : ℕ) (a0 f0 a f : Option (List ℕ)) →
-            At lines now self.old.desk a0 f0 a f → Ends (acknowledge 1 ∷ lines) now result self.new.desk a0 f0 a f }
+            At lines now self.old a0 f0 a f → Ends (acknowledge 1 ∷ lines) now result self.new a0 f0 a f }
         ensures counts { OnOk result (self.old.desk.entries ≤ self.new.desk.entries) }
         ensures few { OnOk result (self.old.desk.entries ≤ 2 ^ 40 → self.new.desk.entries ≤ 2 ^ 40) }
         ensures cause { IfErr result (λ stop. HasCause stop ⊥ ⊥) }
@@ -273,12 +320,123 @@ impl Session {
     /// Tells the newest stamp, at the end of the input of `draw`.
     pub(crate) fn done<A: Sink>(&mut self, answers: &mut A) -> Result<(), Stop>
         ensures step { (lines : List Line) (now : ℕ) (a0 f0 f : Option (List ℕ)) →
-            At lines now self.old.desk a0 f0 (A.written answers.old) f →
-            Ends (done ∷ lines) now result self.new.desk a0 f0 (A.written answers.new) f }
+            At lines now self.old a0 f0 (A.written answers.old) f →
+            Ends (done ∷ lines) now result self.new a0 f0 (A.written answers.new) f }
         ensures later { A.faults answers.old ≤ A.faults answers.new }
         ensures cause { IfErr result (λ stop. HasCause stop ⊥ (Rose (A.faults answers.old) (A.faults answers.new))) }
     {
         let numbers = [self.desk.stamp()];
         say(&mut self.line, "done", &numbers, answers)
+    }
+
+    // Plays what the viewer was given on its canvas.
+    fn play_given(&mut self, viewer: u32) -> Result<(), NoMemory>
+        ensures there { 1 ≤ viewer → viewer ≤ length self.old.canvases.items → OnOk result (PlaysOn self.old.canvases.items self.new.canvases.items (viewer - 1) self.old.given.items) }
+        ensures desk { self.new.desk ≡ self.old.desk }
+        ensures given { self.new.given ≡ self.old.given }
+    {
+        let place = viewer as usize;
+        if 1 <= place && place <= self.canvases.len() {
+            play_text(&mut self.canvases[place - 1], &self.given)?;
+        }
+        Ok(())
+    }
+
+    /// Takes the acts of a viewer's text, which is read as instructions. `bad` is the stop at a line with
+    /// too many of them.
+    pub(crate) fn write<A: Sink>(
+        &mut self,
+        alloc: Global,
+        viewer: u32,
+        text: &[u8],
+        bad: Stop,
+        answers: &mut A,
+    ) -> Result<(), Stop>
+        ensures step { (lines : List Line) (now : ℕ) (a0 f0 f : Option (List ℕ)) → bad ≡ stopped_at (length lines + 1) →
+            At lines now self.old a0 f0 (A.written answers.old) f →
+            Ends (write viewer text.now ∷ lines) now result self.new a0 f0 (A.written answers.new) f }
+        ensures viewers { self.new.desk.viewers ≡ self.old.desk.viewers }
+        ensures later { A.faults answers.old ≤ A.faults answers.new }
+        ensures cause { bad ≢ ReadFault → bad ≢ WriteFault → IfErr result (λ stop. HasCause stop ⊥ (Rose (A.faults answers.old) (A.faults answers.new))) }
+    {
+        match read_acts(alloc, text)? {
+            Reading::Whole { acts, passed } => {
+                self.write_acts(alloc, viewer, acts.as_slice(), passed, answers)
+            }
+            Reading::Cut(place) => say(&mut self.line, "cut", &[place as u64], answers),
+            Reading::Bad(at) => say_bad(&mut self.line, at, answers),
+            Reading::TooMany => Err(bad),
+        }
+    }
+
+    // Takes the acts of a viewer, and tells their number and that of the instructions without one.
+    fn write_acts<A: Sink>(
+        &mut self,
+        alloc: Global,
+        viewer: u32,
+        acts: &[Act],
+        passed: u32,
+        answers: &mut A,
+    ) -> Result<(), Stop>
+        requires { IsWrite acts.now }
+        ensures step { (lines : List Line) (text : List ℕ) (now : ℕ) (a0 f0 f : Option (List ℕ)) → IsReading text (Whole acts.now passed) →
+            At lines now self.old a0 f0 (A.written answers.old) f →
+            Ends (write viewer text ∷ lines) now result self.new a0 f0 (A.written answers.new) f }
+        ensures viewers { self.new.desk.viewers ≡ self.old.desk.viewers }
+        ensures later { A.faults answers.old ≤ A.faults answers.new }
+        ensures cause { IfErr result (λ stop. HasCause stop ⊥ (Rose (A.faults answers.old) (A.faults answers.new))) }
+    {
+        match self.desk.write(alloc, viewer, acts) {
+            Ok(Written { keys, denied }) => {
+                let numbers = [u64::from(keys), u64::from(denied), u64::from(passed)];
+                say(&mut self.line, "written", &numbers, answers)
+            }
+            Err(WriteRefusal::NoViewer) => refuse(&mut self.line, 516, answers),
+            Err(WriteRefusal::Closed(_)) => refuse(&mut self.line, 523, answers),
+            Err(WriteRefusal::Worn { entries }) => Err(Stop::Refused(Refused::Worn(entries))),
+            Err(WriteRefusal::NoMemory) => Err(Stop::NoMemory),
+        }
+    }
+
+    /// Tells the pixel at `x` and `y` of what the viewer sees.
+    pub(crate) fn pixel<A: Sink>(
+        &mut self,
+        viewer: u32,
+        x: u64,
+        y: u64,
+        answers: &mut A,
+    ) -> Result<(), Stop>
+        ensures step { (lines : List Line) (now : ℕ) (a0 f0 f : Option (List ℕ)) →
+            At lines now self.old a0 f0 (A.written answers.old) f →
+            Ends (pixel viewer x y ∷ lines) now result self.new a0 f0 (A.written answers.new) f }
+        ensures viewers { self.new.desk.viewers ≡ self.old.desk.viewers }
+        ensures later { A.faults answers.old ≤ A.faults answers.new }
+        ensures cause { IfErr result (λ stop. HasCause stop ⊥ (Rose (A.faults answers.old) (A.faults answers.new))) }
+    {
+        match dot_of(&self.canvases, viewer, x, y) {
+            Some(dot) => say_dot(&mut self.line, dot, answers),
+            None => refuse(&mut self.line, 516, answers),
+        }
+    }
+
+    /// Tells whether two viewers see the same in every layer.
+    pub(crate) fn same<A: Sink>(
+        &mut self,
+        one: u32,
+        other: u32,
+        answers: &mut A,
+    ) -> Result<(), Stop>
+        ensures step { (lines : List Line) (now : ℕ) (a0 f0 f : Option (List ℕ)) →
+            At lines now self.old a0 f0 (A.written answers.old) f →
+            Ends (same one other ∷ lines) now result self.new a0 f0 (A.written answers.new) f }
+        ensures viewers { self.new.desk.viewers ≡ self.old.desk.viewers }
+        ensures later { A.faults answers.old ≤ A.faults answers.new }
+        ensures cause { IfErr result (λ stop. HasCause stop ⊥ (Rose (A.faults answers.old) (A.faults answers.new))) }
+    {
+        match are_same(&self.canvases, one, other) {
+            Some(true) => say(&mut self.line, "same", &[], answers),
+            Some(false) => say(&mut self.line, "differ", &[], answers),
+            None => refuse(&mut self.line, 516, answers),
+        }
     }
 }

@@ -1,3 +1,4 @@
+use crate::acts_tests::repeated;
 use crate::command;
 use gate_outside::{MemSink, MemSource};
 use std::alloc::Global;
@@ -371,5 +372,254 @@ fn a_script_writes_the_frames_of_draw(rt: HostRuntime) -> Result<(), Fail> {
     let ran = run(rt.alloc(), "script", script, NO_FAULT)?;
     assert_eq!(rt; ran.status, 0);
     assert_eq!(rt; ran.frames.written(), FRAMES);
+    Ok(())
+}
+
+/// The left leg of `A` is in pixel column 1 and begins at line 4, the paper of the cursor's cell is 170
+/// 170 170, and a place that layer 0 doesn't have is outside.
+#[test]
+fn a_pixel_is_told_by_its_colour_or_is_outside(rt: HostRuntime) -> Result<(), Fail> {
+    let table = [
+        (
+            "start 1 1 none\njoin owner\npixel 1 0 0\npixel 1 7 15\npixel 1 8 0\n",
+            "started 1\njoined 1 1\npixel 170 170 170\npixel 170 170 170\npixel outside\n",
+        ),
+        (
+            "start 80 24 none\njoin owner\nserver 41\nread 1\npixel 1 1 4\npixel 1 1 2\npixel 1 2 2\npixel 1 8 0\n",
+            "started 1\njoined 1 1\nsynced 2\nframes 1 2\npixel 170 170 170\npixel 0 0 0\npixel 170 170 170\npixel 170 170 170\n",
+        ),
+        (
+            "start 2 2 none\njoin owner\nserver 4142\nread 1\npixel 1 8 0\nserver 43\nread 1\npixel 1 8 0\npixel 1 1 18\npixel 1 1 20\npixel 1 8 16\n",
+            "started 1\njoined 1 1\nsynced 2\nframes 1 2\npixel 170 170 170\nsynced 3\nframes 1 3\npixel 0 0 0\npixel 0 0 0\npixel 170 170 170\npixel 170 170 170\n",
+        ),
+        (
+            "start 2 2 none\njoin owner\nserver 410d0a420d0a43\nread 1\npixel 1 1 2\npixel 1 8 0\npixel 1 1 18\n",
+            "started 1\njoined 1 1\nsynced 2\nframes 1 2\npixel 170 170 170\npixel 0 0 0\npixel 0 0 0\n",
+        ),
+        (
+            "start 512 16 none\njoin owner\npixel 1 4095 255\npixel 1 4096 0\n",
+            "started 1\njoined 1 1\npixel 0 0 0\npixel outside\n",
+        ),
+        (
+            "start 1 1 none\njoin owner\npixel 1 0 16\npixel 1 4294967296 0\npixel 1 0 18446744073709551615\n",
+            "started 1\njoined 1 1\npixel outside\npixel outside\npixel outside\n",
+        ),
+    ];
+    for (script, answers) in table {
+        let same = answers_are(rt.alloc(), "script", script.as_bytes(), 0, answers)?;
+        assert!(rt; same, "at {script}");
+    }
+    Ok(())
+}
+
+/// A recording of what a shell printed to a terminal, for `uname -s; echo "Sum: $((6*7))"; seq -s, 1 9`
+/// and `printf "a|b~c\n"`. Of the strokes of its `L`, `4`, `9` and `~`, and of the cursor, some pixels and
+/// their neighbours are looked at; each glyph is 5 columns wide, and each of its 7 rows 2 pixels high.
+#[test]
+fn a_recording_of_a_terminal_is_seen(rt: HostRuntime) -> Result<(), Fail> {
+    let script = "start 20 5 none\njoin owner\n\
+        server 4c696e75780d0a53756d3a2034320d0a312c322c332c342c352c362c372c382c390d0a617c627e630d0a\nread 1\n\
+        pixel 1 1 2\npixel 1 2 2\npixel 1 5 14\npixel 1 6 14\npixel 1 41 26\npixel 1 41 18\npixel 1 44 18\n\
+        pixel 1 131 46\npixel 1 133 46\npixel 1 26 54\npixel 1 25 54\npixel 1 0 64\npixel 1 8 64\n";
+    let answers = "started 1\njoined 1 1\nsynced 2\nframes 1 2\n\
+        pixel 170 170 170\npixel 0 0 0\npixel 170 170 170\npixel 0 0 0\npixel 170 170 170\npixel 0 0 0\n\
+        pixel 170 170 170\npixel 170 170 170\npixel 0 0 0\npixel 170 170 170\npixel 0 0 0\n\
+        pixel 170 170 170\npixel 0 0 0\n";
+    assert!(rt; answers_are(rt.alloc(), "script", script.as_bytes(), 0, answers)?);
+    Ok(())
+}
+
+/// The host's `A` moves the cursor off the first cell, whose paper is black from then on; a viewer who
+/// hasn't read sees the cursor there.
+#[test]
+fn a_viewer_sees_no_more_than_it_was_given(rt: HostRuntime) -> Result<(), Fail> {
+    let script =
+        "start 80 24 none\njoin owner\nserver 41\njoin owner\npixel 1 0 0\npixel 2 0 0\nread 1\npixel 1 0 0\n";
+    let answers =
+        "started 1\njoined 1 1\nsynced 2\njoined 2 2\npixel 170 170 170\npixel 0 0 0\nframes 1 2\npixel 0 0 0\n";
+    let same = answers_are(rt.alloc(), "script", script.as_bytes(), 0, answers)?;
+    assert!(rt; same, "at {script}");
+    Ok(())
+}
+
+#[test]
+fn a_viewer_who_has_not_joined_is_refused(rt: HostRuntime) -> Result<(), Fail> {
+    let calls = [
+        "pixel 0 0 0",
+        "pixel 2 0 0",
+        "pixel 4294967295 0 0",
+        "same 0 1",
+        "same 1 0",
+        "same 2 1",
+        "same 1 2",
+        "same 2 2",
+        "write 0 3.nop;",
+        "write 2 3.key,2.97,1.1;",
+        "write 4294967295 4.name,1.x;",
+    ];
+    for call in calls {
+        let mut script = b"start 1 1 none\njoin owner\n".to_vec(rt.alloc())?;
+        script.extend_from_slice(call.as_bytes())?;
+        let answers = "started 1\njoined 1 1\nrefused 516\n";
+        assert!(rt;
+            answers_are(rt.alloc(), "script", &script, 0, answers)?,
+            "at {call}"
+        );
+    }
+    Ok(())
+}
+
+/// Two viewers who were given the same frames see the same; one who lacks a frame that changed the
+/// screen sees another screen.
+#[test]
+fn viewers_see_the_same_or_differ(rt: HostRuntime) -> Result<(), Fail> {
+    let script =
+        "start 80 24 none\njoin owner\njoin owner\nsame 1 2\nserver 41\nsame 1 2\nread 1\nsame 1 2\nsame 2 1\nsame 1 1\nread 2\nsame 1 2\njoin owner\nsame 3 1\n";
+    let answers =
+        "started 1\njoined 1 1\njoined 2 1\nsame\nsynced 2\nsame\nframes 1 2\ndiffer\ndiffer\nsame\nframes 1 2\nsame\njoined 3 2\nsame\n";
+    assert!(rt; answers_are(rt.alloc(), "script", script.as_bytes(), 0, answers)?);
+    Ok(())
+}
+
+// Does a line after a session has started and its owner has joined, and compares the answers after
+// those of the two.
+fn is_answered(alloc: Global, line: &[u8], status: u8, answer: &str) -> Result<bool, Fail> {
+    let mut script = b"start 80 24 none\njoin owner\n".to_vec(alloc)?;
+    script.extend_from_slice(line)?;
+    let ran = run(alloc, "script", &script, NO_FAULT)?;
+    let opened = b"started 1\njoined 1 1\n".as_slice();
+    let answers = ran.answers.written();
+    Ok(
+        ran.status == status
+            && answers.starts_with(opened)
+            && &answers[opened.len()..] == answer.as_bytes(),
+    )
+}
+
+/// Keys are counted pressed and released; the instructions without a meaning are counted last.
+#[test]
+fn a_text_is_written_is_cut_or_is_bad(rt: HostRuntime) -> Result<(), Fail> {
+    let table = [
+        (b"write 1 3.key,2.97,1.1;".as_slice(), "written 1 0 0\n"),
+        (b"write 1 3.key,2.97,1.1;3.key,2.97,1.0;", "written 2 0 0\n"),
+        (b"write 1 3.key,2.97,2.01;", "written 0 0 1\n"),
+        (
+            b"write 1 4.name,1.x;3.key,2.97,1.1;3.nop;4.size,1.8,1.0;",
+            "written 1 0 1\n",
+        ),
+        (b"write 1 4.sync,1.1;10.disconnect;", "written 0 0 0\n"),
+        (b"write 1 5.mouse,2.-0,1.7,3.255;", "written 0 0 0\n"),
+        (b"write\t01\t3.nop;\r\n", "written 0 0 0\n"),
+        (b"write 1 ", "written 0 0 0\n"),
+        (b"write 1 4.name,3.a b;", "written 0 0 1\n"),
+        (b"write 1 4.name,1.\xc3\xa9;", "written 0 0 1\n"),
+        (b"write 1 4.name,2.\xc3\xa9;", "cut 0\n"),
+        (b"write 1 3.nop;4.name,1.x;3.no", "cut 17\n"),
+        (b"write 1 8186.", "cut 0\n"),
+        (b"write 1 8187.", "bad 3 long\n"),
+        (b"write 1 3-key;", "bad 1 digit\n"),
+        (b"write 1 3.key:", "bad 5 separator\n"),
+        (b"write 1 000003.key,2.65,1.1;", "bad 5 length\n"),
+        (b"write 1 4.name,1.\xff;", "bad 9 utf8\n"),
+        (b"write 1 3.nop;3.nop; 3.nop;", "bad 12 digit\n"),
+    ];
+    for (line, answer) in table {
+        assert!(rt; is_answered(rt.alloc(), line, 0, answer)?, "at {line:?}");
+    }
+    Ok(())
+}
+
+#[test]
+fn an_instruction_of_129_elements_is_bad(rt: HostRuntime) -> Result<(), Fail> {
+    let alloc = rt.alloc();
+    let mut line = b"write 1 ".to_vec(alloc)?;
+    line.extend_from_slice(&repeated(alloc, b"0.,", 127, b"0.;")?)?;
+    assert!(rt; is_answered(alloc, &line, 0, "written 0 0 1\n")?);
+    line.pop();
+    line.extend_from_slice(b",0.")?;
+    assert!(rt; is_answered(alloc, &line, 0, "bad 383 many\n")?);
+    Ok(())
+}
+
+/// One whole instruction more than 4,096 is outside the grammar, whatever stands behind it; one that
+/// isn't finished, or is bad, isn't counted.
+#[test]
+fn a_text_of_4097_instructions_is_outside_the_grammar(rt: HostRuntime) -> Result<(), Fail> {
+    let alloc = rt.alloc();
+    let table = [
+        (b"".as_slice(), 0, "written 0 0 0\n"),
+        (b"3.no", 0, "cut 24576\n"),
+        (b"3-no", 0, "bad 24577 digit\n"),
+        (b"3.nop;", 3, "bad script line 3\n"),
+        (b"4.name;-", 3, "bad script line 3\n"),
+    ];
+    for (end, status, answer) in table {
+        let mut line = b"write 1 ".to_vec(alloc)?;
+        line.extend_from_slice(&repeated(alloc, b"3.nop;", 4096, end)?)?;
+        assert!(rt; is_answered(alloc, &line, status, answer)?, "at {end:?}");
+    }
+    Ok(())
+}
+
+/// A write is an entry of the session, also one without acts; a text that is cut or bad, and a viewer
+/// who isn't there, add none.
+#[test]
+fn a_write_to_a_full_session_ends_the_run(rt: HostRuntime) -> Result<(), Fail> {
+    let script =
+        "start 1 1 none\njoin owner\nwrite 1 3.no\nwrite 1 3-no\nwrite 2 3.nop;\nwrite 1 4.name;\npixel 1 0 0\nsame 1 1\nwrite 1 \n";
+    let answers =
+        "started 1\njoined 1 1\ncut 0\nbad 1 digit\nrefused 516\nwritten 0 0 1\npixel 170 170 170\nsame\nworn 3\n";
+    assert!(rt; answers_are(rt.alloc(), "script 3", script.as_bytes(), 7, answers)?);
+    Ok(())
+}
+
+#[test]
+fn looks_and_writes_have_no_line_of_the_frames(rt: HostRuntime) -> Result<(), Fail> {
+    let script =
+        b"start 1 1 none\njoin owner\npixel 1 0 0\nsame 1 1\nwrite 1 3.key,2.97,1.1;\nwrite 1 3\nserver 0a\nread 1\n";
+    let ran = run(rt.alloc(), "script", script, NO_FAULT)?;
+    assert_eq!(rt; ran.status, 0);
+    assert_eq!(rt; ran.frames.written(), FRAMES);
+    Ok(())
+}
+
+#[test]
+fn faulty_looks_and_writes_are_outside_the_grammar(rt: HostRuntime) -> Result<(), Fail> {
+    let calls = [
+        "write",
+        "write ",
+        "write 1",
+        "write x 3.nop;",
+        "write 4294967296 3.nop;",
+        "write  3.nop;",
+        "WRITE 1 3.nop;",
+        "pixel 1",
+        "pixel 1 0",
+        "pixel 1 0 0 0",
+        "pixel 1 0 0 ",
+        "pixel 1 -1 0",
+        "pixel 4294967296 0 0",
+        "pixel 1 18446744073709551616 0",
+        "pixel 1 0 18446744073709551616",
+        "same 1",
+        "same 1 ",
+        "same 1 1 1",
+        "same 4294967296 1",
+        "same 1 4294967296",
+    ];
+    for call in calls {
+        let answered = is_answered(rt.alloc(), call.as_bytes(), 3, "bad script line 3\n")?;
+        assert!(rt; answered, "at {call}");
+    }
+    for call in ["write 1 3.nop;", "pixel 1 0 0", "same 1 1"] {
+        let bad = answers_are(
+            rt.alloc(),
+            "script",
+            call.as_bytes(),
+            3,
+            "bad script line 1\n",
+        )?;
+        assert!(rt; bad, "at {call}");
+    }
     Ok(())
 }

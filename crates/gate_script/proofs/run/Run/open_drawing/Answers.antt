@@ -27,7 +27,7 @@ returns-in_err-tell_start-clause-step g c =
     let e : c.from_residual-in_err-tell_start.result ≡ Err stop = p.1 ∙ ap (λ (s : Stop). Err s) p.2 in
     subst (λ (x : Result (Unit {0}) Stop). PieceEnds (Draw c.args.size) [] x c.args.self.now (g.A.Sink.written c.args.answers.now) (g.F.Sink.written c.args.frames.now) (g.A.Sink.written c.tell_start.new.answers) (g.F.Sink.written c.tell_start.new.frames)) (sym e)
     (stopped-later (start c.args.size Nobody most_entries ∷ []) (draw_lines c.args.size []) stop (g.A.Sink.written c.args.answers.now) (g.F.Sink.written c.args.frames.now) (g.A.Sink.written c.tell_start.new.answers) (g.F.Sink.written c.tell_start.new.frames) (join Owner ∷ [], refl)
-    (c.in_err-tell_start.ensures.step [] c.args.size Nobody most_entries 0 (g.A.Sink.written c.args.answers.now) (g.F.Sink.written c.args.frames.now) (nothing_done (g.A.Sink.written c.args.answers.now) (g.F.Sink.written c.args.frames.now)) c.in_ok-session.ensures.opened))
+    (c.in_err-tell_start.ensures.step [] c.args.size Nobody most_entries 0 (g.A.Sink.written c.args.answers.now) (g.F.Sink.written c.args.frames.now) (nothing_done (g.A.Sink.written c.args.answers.now) (g.F.Sink.written c.args.frames.now)) c.in_ok-session.ensures.opened c.in_ok-session.ensures.unseen))
 
 pub returns-in_err-join-clause-step : goal.returns-in_err-join-clause-step
 returns-in_err-join-clause-step g c =
@@ -35,10 +35,10 @@ returns-in_err-join-clause-step g c =
     let stop = c.in_err-join.field-0.0 in
     let e : c.from_residual-in_err-join.result ≡ Err stop = p.1 ∙ ap (λ (s : Stop). Err s) p.2 in
     subst (λ (x : Result (Unit {0}) Stop). PieceEnds (Draw c.args.size) [] x c.args.self.now (g.A.Sink.written c.args.answers.now) (g.F.Sink.written c.args.frames.now) (g.A.Sink.written c.join.new.answers) (g.F.Sink.written c.join.new.frames)) (sym e)
-    (c.in_err-join.ensures.step (start c.args.size Nobody most_entries ∷ []) 0 (g.A.Sink.written c.args.answers.now) (g.F.Sink.written c.args.frames.now) (c.in_ok-tell_start.ensures.step [] c.args.size Nobody most_entries 0 (g.A.Sink.written c.args.answers.now) (g.F.Sink.written c.args.frames.now) (nothing_done (g.A.Sink.written c.args.answers.now) (g.F.Sink.written c.args.frames.now)) c.in_ok-session.ensures.opened))
+    (c.in_err-join.ensures.step (start c.args.size Nobody most_entries ∷ []) 0 (g.A.Sink.written c.args.answers.now) (g.F.Sink.written c.args.frames.now) (c.in_ok-tell_start.ensures.step [] c.args.size Nobody most_entries 0 (g.A.Sink.written c.args.answers.now) (g.F.Sink.written c.args.frames.now) (nothing_done (g.A.Sink.written c.args.answers.now) (g.F.Sink.written c.args.frames.now)) c.in_ok-session.ensures.opened c.in_ok-session.ensures.unseen))
 
 pub returns-clause-step : goal.returns-clause-step
 returns-clause-step g c = record {
   moment = c.requires.now;
-  stays = c.in_ok-join.ensures.step (start c.args.size Nobody most_entries ∷ []) 0 (g.A.Sink.written c.args.answers.now) (g.F.Sink.written c.args.frames.now) (c.in_ok-tell_start.ensures.step [] c.args.size Nobody most_entries 0 (g.A.Sink.written c.args.answers.now) (g.F.Sink.written c.args.frames.now) (nothing_done (g.A.Sink.written c.args.answers.now) (g.F.Sink.written c.args.frames.now)) c.in_ok-session.ensures.opened);
+  stays = c.in_ok-join.ensures.step (start c.args.size Nobody most_entries ∷ []) 0 (g.A.Sink.written c.args.answers.now) (g.F.Sink.written c.args.frames.now) (c.in_ok-tell_start.ensures.step [] c.args.size Nobody most_entries 0 (g.A.Sink.written c.args.answers.now) (g.F.Sink.written c.args.frames.now) (nothing_done (g.A.Sink.written c.args.answers.now) (g.F.Sink.written c.args.frames.now)) c.in_ok-session.ensures.opened c.in_ok-session.ensures.unseen);
 }

@@ -35,7 +35,7 @@ returns-in_err-tell_start-clause-step g c = λ lines a0 f0 count does.
     let none : false ≡ is_some c.args.self.now.session = c.if-is_some.ensures in
     subst (λ (x : Result (Unit {0}) Stop). LineEnds (in_place (is_some c.args.self.now.session) (start c.args.size c.args.mode c.args.entries) ∷ lines) x c.args.self.now a0 f0 (g.A.Sink.written c.tell_start.new.answers) (g.F.Sink.written c.tell_start.new.frames)) (sym e)
     (subst (λ (b : Bool). StoppedIn (in_place b (start c.args.size c.args.mode c.args.entries) ∷ lines) stop a0 f0 (g.A.Sink.written c.tell_start.new.answers) (g.F.Sink.written c.tell_start.new.frames)) none
-    (c.in_err-tell_start.ensures.step lines c.args.size c.args.mode c.args.entries c.args.self.now.moment a0 f0 (told_before lines c.args.self.now.moment a0 f0 (g.A.Sink.written c.args.answers.now) (g.F.Sink.written c.args.frames.now) c.args.self.now.session (sym none) does.stays) c.in_ok-session.ensures.opened))
+    (c.in_err-tell_start.ensures.step lines c.args.size c.args.mode c.args.entries c.args.self.now.moment a0 f0 (told_before lines c.args.self.now.moment a0 f0 (g.A.Sink.written c.args.answers.now) (g.F.Sink.written c.args.frames.now) c.args.self.now.session (sym none) does.stays) c.in_ok-session.ensures.opened c.in_ok-session.ensures.unseen))
 
 pub returns-clause-step : goal.returns-clause-step
 returns-clause-step g c = λ lines a0 f0 count does.
@@ -43,6 +43,6 @@ returns-clause-step g c = λ lines a0 f0 count does.
     let r' : Run = record { form = c.args.self.now.form; moment = c.args.self.now.moment; session = Some c.tell_start.new.self; lines = c.args.self.now.lines; read = c.args.self.now.read; answer = c.args.self.now.answer } in
     subst (λ (b : Bool). DoesLines (in_place b (start c.args.size c.args.mode c.args.entries) ∷ lines) r' a0 f0 (g.A.Sink.written c.tell_start.new.answers) (g.F.Sink.written c.tell_start.new.frames)) none
     (record {
-      stays = c.in_ok-tell_start.ensures.step lines c.args.size c.args.mode c.args.entries c.args.self.now.moment a0 f0 (told_before lines c.args.self.now.moment a0 f0 (g.A.Sink.written c.args.answers.now) (g.F.Sink.written c.args.frames.now) c.args.self.now.session (sym none) does.stays) c.in_ok-session.ensures.opened;
+      stays = c.in_ok-tell_start.ensures.step lines c.args.size c.args.mode c.args.entries c.args.self.now.moment a0 f0 (told_before lines c.args.self.now.moment a0 f0 (g.A.Sink.written c.args.answers.now) (g.F.Sink.written c.args.frames.now) c.args.self.now.session (sym none) does.stays) c.in_ok-session.ensures.opened c.in_ok-session.ensures.unseen;
       opened = refl;
     })

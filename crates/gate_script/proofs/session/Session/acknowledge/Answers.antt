@@ -13,22 +13,22 @@ use Rattle.gate_script.proofs.session.Session.acknowledge.Goals as goal
 
 pub returns-in-Ok-clause-step : goal.returns-in-Ok-clause-step
 returns-in-Ok-clause-step c = λ lines now a0 f0 a f at.
-    acknowledged lines now c.args.self.now.desk a0 f0 a f at c.stamp.result (c.stamp.ensures at.history at.stands) c.in-Ok.field-0 c.write.new.self (c.in-Ok.ensures.step at.history at.stands)
+    acknowledged lines now c.args.self.now a0 f0 a f at c.stamp.result (c.stamp.ensures at.history at.stands) c.in-Ok.field-0 record { desk = c.write.new.self; canvases = c.args.self.now.canvases; given = c.args.self.now.given; line = c.args.self.now.line } (c.in-Ok.ensures.step at.history at.stands) refl
 
 pub returns-in-Err-Worn-clause-step : goal.returns-in-Err-Worn-clause-step
 returns-in-Err-Worn-clause-step c = λ lines now a0 f0 a f at.
-    refuses lines now c.args.self.now.desk a0 f0 a f at (acknowledge 1) (Worn c.in-Err-Worn.entries)
-    (write_is_worn lines now c.args.self.now.desk a0 f0 a f at c.stamp.result (c.stamp.ensures at.history at.stands) c.in-Err-Worn.entries (subst (λ (e : WriteRefusal). WriteEnds at.history 1 (act_sync c.stamp.result ∷ []) (Err e) c.write.new.self) c.in-Err-Worn.field-0-is (c.in-Err-Worn.ensures.step at.history at.stands)))
+    refuses lines now c.args.self.now a0 f0 a f at (acknowledge 1) (Worn c.in-Err-Worn.entries)
+    (write_is_worn lines now c.args.self.now a0 f0 a f at c.stamp.result (c.stamp.ensures at.history at.stands) c.in-Err-Worn.entries (subst (λ (e : WriteRefusal). WriteEnds at.history 1 (act_sync c.stamp.result ∷ []) (Err e) c.write.new.self) c.in-Err-Worn.field-0-is (c.in-Err-Worn.ensures.step at.history at.stands)))
 
 pub returns-in-Err-NoMemory-clause-step : goal.returns-in-Err-NoMemory-clause-step
-returns-in-Err-NoMemory-clause-step c = λ lines now a0 f0 a f at. out_of_memory lines now c.args.self.now.desk a0 f0 a f at (acknowledge 1)
+returns-in-Err-NoMemory-clause-step c = λ lines now a0 f0 a f at. out_of_memory lines now c.args.self.now a0 f0 a f at (acknowledge 1)
 
 pub returns-in-Err-NoViewer-clause-step : goal.returns-in-Err-NoViewer-clause-step
 returns-in-Err-NoViewer-clause-step c = λ lines now a0 f0 a f at.
-    write_refused lines now c.args.self.now.desk a0 f0 a f at c.stamp.result (c.stamp.ensures at.history at.stands) NoViewer (refused_line 516) c.write.new.self
-    (subst (λ (e : WriteRefusal). WriteEnds at.history 1 (act_sync c.stamp.result ∷ []) (Err e) c.write.new.self) c.in-Err-NoViewer.field-0-is (c.in-Err-NoViewer.ensures.step at.history at.stands)) refl c.in-Err-NoViewer.ensures.unchanged
+    write_refused lines now c.args.self.now a0 f0 a f at c.stamp.result (c.stamp.ensures at.history at.stands) NoViewer (refused_line 516) record { desk = c.write.new.self; canvases = c.args.self.now.canvases; given = c.args.self.now.given; line = c.args.self.now.line }
+    (subst (λ (e : WriteRefusal). WriteEnds at.history 1 (act_sync c.stamp.result ∷ []) (Err e) c.write.new.self) c.in-Err-NoViewer.field-0-is (c.in-Err-NoViewer.ensures.step at.history at.stands)) refl c.in-Err-NoViewer.ensures.unchanged refl
 
 pub returns-in-Err-Closed-clause-step : goal.returns-in-Err-Closed-clause-step
 returns-in-Err-Closed-clause-step c = λ lines now a0 f0 a f at.
-    write_refused lines now c.args.self.now.desk a0 f0 a f at c.stamp.result (c.stamp.ensures at.history at.stands) (Closed c.in-Err-Closed.field-0-0) (refused_line 523) c.write.new.self
-    (subst (λ (e : WriteRefusal). WriteEnds at.history 1 (act_sync c.stamp.result ∷ []) (Err e) c.write.new.self) c.in-Err-Closed.field-0-is (c.in-Err-Closed.ensures.step at.history at.stands)) refl c.in-Err-Closed.ensures.unchanged
+    write_refused lines now c.args.self.now a0 f0 a f at c.stamp.result (c.stamp.ensures at.history at.stands) (Closed c.in-Err-Closed.field-0-0) (refused_line 523) record { desk = c.write.new.self; canvases = c.args.self.now.canvases; given = c.args.self.now.given; line = c.args.self.now.line }
+    (subst (λ (e : WriteRefusal). WriteEnds at.history 1 (act_sync c.stamp.result ∷ []) (Err e) c.write.new.self) c.in-Err-Closed.field-0-is (c.in-Err-Closed.ensures.step at.history at.stands)) refl c.in-Err-Closed.ensures.unchanged refl
