@@ -138,6 +138,11 @@ pub viewers-write : (h : History) (viewer : ℕ) (acts : List Act) (ps : List Pr
 viewers-write h viewer acts ps all i p small =
     come-same h (Write viewer acts ∷ h) (delivered h (i + 1)) (delivered (Write viewer acts ∷ h) (i + 1)) (get_or ps i p) (append-nil (frames h)) (append-nil (delivered h (i + 1))) (all i p small)
 
+-- a Take: nobody has come further
+pub viewers-take : (h : History) (count : ℕ) (ps : List Progress) → AllCome h ps → AllCome (Take count ∷ h) ps
+viewers-take h count ps all i p small =
+    come-same h (Take count ∷ h) (delivered h (i + 1)) (delivered (Take count ∷ h) (i + 1)) (get_or ps i p) (append-nil (frames h)) (append-nil (delivered h (i + 1))) (all i p small)
+
 -- the text past what a viewer was given is the text of what it lacks
 pub text_past : (h : History) (v : ℕ) → Facts h → drop (length (texts (delivered h v))) (texts (all_frames h)) ≡ texts (instructions (frames_after (position h v) (frames h)))
 text_past h v f =

@@ -1,5 +1,5 @@
 pub mod Results
-pub mod Showing
+pub mod Hearing
 pub mod Coming
 pub mod Standing
 pub mod Calling

@@ -3,12 +3,11 @@ use Rattle.std.proofs.Common.{◌≡◌, ℕ, ◌+◌, ◌-◌, ◌<◌, ◌≤�
 use Rattle.std.specs.Prelude.{Option, Some, None, Ok, Err, ◌==◌, if◌then◌else◌}
 use Rattle.std.proofs.lemmas.Bool.{lt-leb, le-leb, eq-eqb}
 use Rattle.std.proofs.lemmas.Bool.Decides.{nat_tests, eqb_tells}
-use Rattle.gate_model.specs.declared.feed_refusal.FeedRefusal.TheVariants.{Worn as feed_worn, Unbuilt}
+use Rattle.gate_model.specs.declared.feed_refusal.FeedRefusal.TheVariants.{Worn as feed_worn}
 use Rattle.gate_model.specs.declared.join_refusal.JoinRefusal.TheVariants.{Worn as join_worn}
 use Rattle.gate_model.specs.declared.read_answer.ReadAnswer.TheVariants.{Empty}
 use Rattle.gate_model.specs.declared.read_refusal.ReadRefusal.TheVariants.{NoViewer as read_no_viewer, Worn as read_worn}
 use Rattle.gate_model.specs.declared.write_refusal.WriteRefusal.TheVariants.{NoViewer as write_no_viewer, Worn as write_worn}
-use Rattle.gate_model.specs.Screens.{first_unbuilt}
 use Rattle.gate_model.specs.History.{History, newest, capacity, is_full}
 use Rattle.gate_model.specs.Delivered.{delivered, position}
 use Rattle.gate_model.specs.Rights.{is_live}
@@ -63,14 +62,11 @@ place-none v n e = cases (is_there v n) e
     cases false q = refl
 
 -- feed
-pub feed_is_worn : (d : DeskState) (h : History) (bs : List ℕ) → Stands d h → d.capacity ≤ d.entries → feed_refusal h bs ≡ Some (feed_worn d.entries)
-feed_is_worn d h bs s le = rw ((bounds_of h s.legal).no_cause, full d h s le, s.entries) refl
+pub feed_is_worn : (d : DeskState) (h : History) → Stands d h → d.capacity ≤ d.entries → feed_refusal h ≡ Some (feed_worn d.entries)
+feed_is_worn d h s le = rw ((bounds_of h s.legal).no_cause, full d h s le, s.entries) refl
 
-pub feed_is_unbuilt : (d : DeskState) (h : History) (bs : List ℕ) (place : ℕ) → Stands d h → d.entries < d.capacity → first_unbuilt bs ≡ Some place → feed_refusal h bs ≡ Some (Unbuilt place)
-feed_is_unbuilt d h bs place s lt is = rw ((bounds_of h s.legal).no_cause, not_full d h s lt, is) refl
-
-pub feed_is_allowed : (d : DeskState) (h : History) (bs : List ℕ) → Stands d h → d.entries < d.capacity → first_unbuilt bs ≡ None → feed_refusal h bs ≡ None
-feed_is_allowed d h bs s lt is = rw ((bounds_of h s.legal).no_cause, not_full d h s lt, is) refl
+pub feed_is_allowed : (d : DeskState) (h : History) → Stands d h → d.entries < d.capacity → feed_refusal h ≡ None
+feed_is_allowed d h s lt = rw ((bounds_of h s.legal).no_cause, not_full d h s lt) refl
 
 -- join
 pub join_is_worn : (d : DeskState) (h : History) → Stands d h → d.capacity ≤ d.entries → join_refusal h ≡ Some (join_worn d.entries)
@@ -133,7 +129,6 @@ write_is_allowed d h v s there lt = rw (live d h v s ∙ there, (bounds_of h s.l
 -- the numbers that a desk keeps are small
 pub record IsSmall (d : DeskState) : Type 0 where
   pub room : d.capacity ≤ 2 ^ 40
-  pub entries : d.entries ≤ 2 ^ 40
   pub stamp : d.latest.stamp ≤ 2 ^ 53 + 2 ^ 40
   pub frames : d.latest.frames ≤ 2 ^ 40
 
@@ -143,9 +138,8 @@ small d h s =
     let all = all-come h d.latest (facts_of h s.legal) s.latest in
     record {
       room = omega (arith, s.capacity, b.room);
-      entries = omega (arith, s.entries, b.few, b.room);
-      stamp = omega (arith, all.stamp, b.stamps, b.few, b.room);
-      frames = omega (arith, all.frames, b.few_frames, b.few, b.room);
+      stamp = omega (arith, all.stamp, b.stamps, b.few_frames, b.room);
+      frames = omega (arith, all.frames, b.few_frames, b.room);
     }
 
 -- what the test for a viewer tells

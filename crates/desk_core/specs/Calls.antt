@@ -1,10 +1,12 @@
 -- How each call of a desk ends that stood for a history (this project's own).
-use Rattle.std.specs.Prelude.{◌≡◌, ℕ, List, [], ◌∷◌, ◌++◌, Result, Ok, Err}
+use Rattle.std.specs.Prelude.{◌≡◌, ℕ, List, [], ◌∷◌, ◌++◌, length, drop, Result, Ok, Err}
 use Rattle.gate_model.specs.declared.act.Act.{Act}
 use Rattle.gate_model.specs.declared.entry.Entry.{Entry}
 use Rattle.gate_model.specs.declared.setup.Setup.{Setup}
 use Rattle.gate_model.specs.declared.sharing.Asked.{Asked}
 use Rattle.gate_model.specs.declared.joined.Joined.{Joined}
+use Rattle.gate_model.specs.declared.memory.NoMemory.{NoMemory}
+use Rattle.gate_model.specs.declared.taken.Taken.{Taken}
 use Rattle.gate_model.specs.declared.written.Written.{Written}
 use Rattle.gate_model.specs.declared.feed_refusal.FeedRefusal.{FeedRefusal}
 use Rattle.gate_model.specs.declared.feed_refusal.FeedRefusal.TheVariants.{Closed as feed_closed, NoMemory as feed_no_memory}
@@ -19,7 +21,7 @@ use Rattle.gate_model.specs.declared.write_refusal.WriteRefusal.TheVariants.{NoM
 use Rattle.gate_model.specs.Text.{texts}
 use Rattle.gate_model.specs.History.{History}
 use Rattle.gate_model.specs.Delivered.{delivered, given}
-use Rattle.gate_model.specs.Calls.{StartStep, FeedStep, JoinStep, ReadStep, WriteStep}
+use Rattle.gate_model.specs.Calls.{StartStep, FeedStep, JoinStep, ReadStep, WriteStep, TakeStep}
 use Rattle.desk_core.specs.Desk.{DeskState, Stands}
 
 -- a desk that was opened
@@ -65,6 +67,19 @@ abbrev pub WriteEnds : History → ℕ → List Act → Result Written WriteRefu
 WriteEnds h viewer acts (Ok counts) new = Adds h (WriteStep h viewer acts (Ok counts)) new
 WriteEnds h viewer acts (Err write_no_memory) new = Unit {0}
 WriteEnds h viewer acts (Err refusal) new = WriteStep h viewer acts (Err refusal) []
+
+-- some bytes that wait were moved to the front of the buffer
+pub record Hands (h : History) (before : List ℕ) (taken : Taken) (new : DeskState) (after : List ℕ) : Type 0 where
+  pub added : List Entry
+  pub bytes : List ℕ
+  pub step : TakeStep h (length before) bytes taken.closed added
+  pub count : taken.count ≡ length bytes
+  pub stands : Stands new (added ++ h)
+  pub handed : after ≡ bytes ++ drop (length bytes) before
+
+abbrev pub TakeEnds : History → List ℕ → Result Taken NoMemory → DeskState → List ℕ → Type 0
+TakeEnds h before (Ok taken) new after = Hands h before taken new after
+TakeEnds h before (Err refused) new after = Unit {0}
 
 -- P holds where a read gave nothing
 abbrev pub OnNothing : Result ReadAnswer ReadRefusal → Type 0 → Type 0

@@ -1,30 +1,38 @@
 //! The desk itself, and what it tells of its history.
 
-ghost use Rattle.std.specs.Prelude.{◌≡◌, ◌≤◌, ◌^◌, length};
+ghost use Rattle.std.specs.Prelude.{◌≡◌, ◌-◌, length};
 ghost use Rattle.gate_model.specs.History.{History, newest, newest_frame};
+ghost use Rattle.gate_model.specs.Output.{out, taken};
 ghost use Rattle.gate_model.specs.Text.{texts};
 
 mod feed;
 mod join;
 mod read;
 mod start;
+mod take;
 mod write;
 
+use crate::host::Host;
+use crate::outgoing::Outgoing;
 use crate::progress::Progress;
 use crate::storing::text_from;
-use gate_model::Entry;
+use gate_model::{Entry, Text};
 use std::marker::Model;
-use vt_screen::Screen;
 
-/// One session: its screen, the text of its frames, how far each viewer has come, and every entry.
+/// One session: what its Telnet host has sent, the screen, the bytes that wait for the host, the text of the
+/// frames, how far each viewer has come, and every entry.
 /// Contracts see what it keeps, a `DeskState`, and say by `Stands` for which histories it may stand
 /// (this project's own rule).
 #[derive(Drop)]
 pub struct Desk {
+    cols: u16,
+    rows: u16,
+    term: Text,
     capacity: u64,
     stored: Vec<Entry>,
     entries: u64,
-    screen: Screen,
+    host: Host,
+    outgoing: Outgoing,
     text: Vec<u8>,
     last: usize,
     latest: Progress,
@@ -36,19 +44,18 @@ impl Model for Desk {
 
     ghost Value = { DeskState };
 
-    ghost view = { λ d. record { capacity = d.capacity; stored = d.stored.items; entries = d.entries; screen = d.screen; text = d.text.items; last = d.last; latest = d.latest; viewers = d.viewers.items } };
+    ghost view = { λ d. record { cols = d.cols; rows = d.rows; term = d.term; capacity = d.capacity; stored = d.stored.items; entries = d.entries; host = d.host; outgoing = d.outgoing; text = d.text.items; last = d.last; latest = d.latest; viewers = d.viewers.items } };
 
-    ghost invariant = { λ d. IsKept (record { capacity = d.capacity; stored = d.stored.items; entries = d.entries; screen = d.screen; text = d.text.items; last = d.last; latest = d.latest; viewers = d.viewers.items }) };
+    ghost invariant = { λ d. IsKept (record { cols = d.cols; rows = d.rows; term = d.term; capacity = d.capacity; stored = d.stored.items; entries = d.entries; host = d.host; outgoing = d.outgoing; text = d.text.items; last = d.last; latest = d.latest; viewers = d.viewers.items }) };
 }
 
 impl Desk {
     ghost use Rattle.desk_core.specs.Desk.{IsKept, Stands};
 
-    /// The number of entries of the session, at most 2^40. A desk stands for some history.
+    /// The number of entries of the session. A desk stands for some history.
     pub fn entries(&self) -> u64
         ensures counts { (h : History) → Stands self.now h → result ≡ length h }
         ensures stands { IsKept self.now }
-        ensures few { self.now.entries ≤ 2 ^ 40 }
     {
         self.entries
     }
@@ -58,6 +65,13 @@ impl Desk {
         ensures { (h : History) → Stands self.now h → result ≡ newest h }
     {
         self.latest.stamp
+    }
+
+    /// How many bytes wait for the Telnet host.
+    pub fn pending(&self) -> u64
+        ensures counts { (h : History) → Stands self.now h → result ≡ length (out h) - taken h }
+    {
+        self.outgoing.len() as u64
     }
 
     /// The text of the newest frame.

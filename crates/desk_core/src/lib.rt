@@ -10,7 +10,9 @@
 
 mod desk;
 mod drawing;
+mod host;
 pub mod laws;
+mod outgoing;
 mod places;
 mod progress;
 mod storing;
@@ -20,5 +22,5 @@ mod tests;
 pub use desk::Desk;
 pub use gate_model::{
     Answer, Closed, Event, FeedRefusal, Forbidden, JoinRefusal, Joined, NoMemory, NoViewer,
-    ReadAnswer, ReadRefusal, Setup, WriteRefusal, Written,
+    ReadAnswer, ReadRefusal, Setup, Taken, WriteRefusal, Written,
 };

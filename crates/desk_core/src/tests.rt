@@ -2,8 +2,8 @@ ghost use Rattle.std.specs.Prelude.{◌≡◌, ◌≤◌, ◌^◌, [], IfOk};
 ghost use Rattle.gate_model.specs.Steps.{IsScreenSize};
 
 use crate::{
-    Desk, FeedRefusal, JoinRefusal, Joined, NoMemory, ReadAnswer, ReadRefusal, Setup, WriteRefusal,
-    Written,
+    Desk, FeedRefusal, JoinRefusal, Joined, NoMemory, ReadAnswer, ReadRefusal, Setup, Taken,
+    WriteRefusal, Written,
 };
 use gate_model::{Act, Asked, Role, Share, Text};
 use std::alloc::Global;
@@ -89,28 +89,34 @@ fn a_full_session_is_worn(rt: HostRuntime) -> Result<(), Fail> {
     let mut given = Vec::new(alloc);
     let owner = desk.join(alloc, Asked::Owner, &mut given);
     assert!(rt; owner.is_ok());
-    assert_eq!(rt;
-        desk.feed(alloc, b"A\x07", 0),
-        Err(FeedRefusal::Unbuilt { place: 1 })
-    );
     assert_eq!(rt; desk.feed(alloc, b"A", 0), Ok(2));
+    given.clear();
     assert_eq!(rt;
         desk.feed(alloc, b"B", 0),
         Err(FeedRefusal::Worn { entries: 3 })
     );
-    given.clear();
     let worn = ReadRefusal::Worn { entries: 3 };
     assert_eq!(rt; desk.read(1, &mut given), Err(worn));
     assert_eq!(rt; desk.read(2, &mut given), Err(ReadRefusal::NoViewer));
     assert!(rt; given.is_empty());
-    let worn = JoinRefusal::Worn { entries: 3 };
-    assert_eq!(rt; desk.join(alloc, Asked::Owner, &mut given), Err(worn));
     let worn = WriteRefusal::Worn { entries: 3 };
     assert_eq!(rt; acknowledge(&mut desk, alloc, 1, 1), Err(worn));
     let nobody = WriteRefusal::NoViewer;
     assert_eq!(rt; acknowledge(&mut desk, alloc, 0, 1), Err(nobody));
     assert_eq!(rt; desk.stamp(), 2);
     assert_eq!(rt; desk.entries(), 3);
+    Ok(())
+}
+
+/// A session that may have its opening alone refuses its owner.
+#[test]
+fn a_session_of_one_entry_has_no_owner(rt: HostRuntime) -> Result<(), Fail> {
+    let alloc = rt.alloc();
+    let mut desk = opened(alloc, 1, 1, 1, 0)?;
+    let mut given = Vec::new(alloc);
+    let worn = JoinRefusal::Worn { entries: 1 };
+    assert_eq!(rt; desk.join(alloc, Asked::Owner, &mut given), Err(worn));
+    assert!(rt; given.is_empty());
     Ok(())
 }
 
@@ -141,6 +147,61 @@ fn a_write_counts_its_keys(rt: HostRuntime) -> Result<(), Fail> {
         desk.write(alloc, 1, &[]),
         Ok(Written { keys: 0, denied: 0 })
     );
+    assert_eq!(rt; desk.entries(), 4);
+    Ok(())
+}
+
+/// The bytes that wait, all of them, as one take hands them out.
+fn all_taken(alloc: Global, desk: &mut Desk) -> Result<Vec<u8>, Fail> {
+    let mut bytes = vec![in alloc; 0; 100]?;
+    let taken = desk.take(&mut bytes)?;
+    bytes.truncate(taken.count);
+    Ok(bytes)
+}
+
+/// Option answers and reports wait in the order of the bytes that complete their causes, also where the host's bytes
+/// come one by one: a request for the position, DO 31, text, and a request for the position again.
+#[test]
+fn answers_and_reports_wait_in_order(rt: HostRuntime) -> Result<(), Fail> {
+    let alloc = rt.alloc();
+    let sent = b"\x1b[6n\xff\xfd\x1fAB\x1b[6n";
+    let replies = b"\x1b[1;1R\xff\xfb\x1f\xff\xfa\x1f\x00\x50\x00\x18\xff\xf0\x1b[1;3R";
+    let mut whole = opened(alloc, 80, 24, 100, 0)?;
+    assert_eq!(rt; whole.feed(alloc, sent, 0), Ok(2));
+    assert_eq!(rt; whole.pending(), 24);
+    assert!(rt; all_taken(alloc, &mut whole)?.as_slice() == replies.as_slice());
+    assert_eq!(rt; whole.pending(), 0);
+    let mut cut = opened(alloc, 80, 24, 100, 0)?;
+    for byte in sent {
+        assert!(rt; cut.feed(alloc, &[*byte], 0).is_ok());
+    }
+    assert!(rt; all_taken(alloc, &mut cut)?.as_slice() == replies.as_slice());
+    Ok(())
+}
+
+/// A take hands out each byte once, adds an entry where it hands out any, and is never refused by a full session.
+#[test]
+fn a_take_hands_out_each_byte_once(rt: HostRuntime) -> Result<(), Fail> {
+    let alloc = rt.alloc();
+    let mut desk = opened(alloc, 80, 24, 2, 0)?;
+    let mut two = [0; 2];
+    let nothing = Taken {
+        count: 0,
+        closed: false,
+    };
+    assert_eq!(rt; desk.take(&mut two), Ok(nothing));
+    assert_eq!(rt; desk.feed(alloc, b"\xff\xfb\x01", 0), Ok(2));
+    assert_eq!(rt; desk.entries(), 2);
+    let some = Taken {
+        count: 2,
+        closed: false,
+    };
+    assert_eq!(rt; desk.take(&mut []), Ok(nothing));
+    assert_eq!(rt; desk.take(&mut two), Ok(some));
+    assert!(rt; two.as_slice() == b"\xff\xfd".as_slice());
+    assert_eq!(rt; desk.pending(), 1);
+    assert!(rt; all_taken(alloc, &mut desk)?.as_slice() == b"\x01".as_slice());
+    assert_eq!(rt; desk.take(&mut two), Ok(nothing));
     assert_eq!(rt; desk.entries(), 4);
     Ok(())
 }

@@ -1,15 +1,16 @@
 -- The entry that a call adds may follow its history.
-use Rattle.std.proofs.Common.{◌≡◌, ℕ, List, [], ◌∷◌, subst}
-use Rattle.std.specs.Prelude.{Result, Ok, Err}
+use Rattle.std.proofs.Common.{◌≡◌, ℕ, ◌≤◌, List, [], ◌∷◌, length, take, drop, Bool, true, false, ◌⊎◌, inl, inr, ap, subst, arith, length-take, length-drop}
+use Rattle.std.specs.Prelude.{Result, Ok, Err, ◌==◌, if◌then◌else◌}
+use Rattle.std.proofs.lemmas.Bool.Decides.{eqb_tells}
 use Rattle.gate_model.specs.declared.act.Act.{Act}
 use Rattle.gate_model.specs.declared.how.How.TheVariants.{Suffix}
 use Rattle.gate_model.specs.declared.sharing.Asked.{Asked}
 use Rattle.gate_model.specs.declared.entry.Entry.{Entry}
-use Rattle.gate_model.specs.declared.entry.Entry.TheVariants.{Feed, Join, Read, Write}
+use Rattle.gate_model.specs.declared.entry.Entry.TheVariants.{Feed, Join, Read, Write, Take}
 use Rattle.gate_model.specs.declared.event.Event.{Event}
 use Rattle.gate_model.specs.declared.event.Event.TheVariants.{Feed as feed, Join as join, Read as read, Write as write, Take as take_, Leave as leave, Close as close}
 use Rattle.gate_model.specs.declared.answer.Answer.{Answer}
-use Rattle.gate_model.specs.declared.answer.Answer.TheVariants.{Feed as fed, Join as joined_as, Read as was_read, Write as was_written, Take as taken, Leave as left, Close as closed}
+use Rattle.gate_model.specs.declared.answer.Answer.TheVariants.{Feed as fed, Join as joined_as, Read as was_read, Write as was_written, Take as was_taken, Leave as left, Close as closed}
 use Rattle.gate_model.specs.declared.joined.Joined.{Joined}
 use Rattle.gate_model.specs.declared.written.Written.{Written}
 use Rattle.gate_model.specs.declared.feed_refusal.FeedRefusal.{FeedRefusal}
@@ -19,8 +20,9 @@ use Rattle.gate_model.specs.declared.read_answer.ReadAnswer.TheVariants.{Frames,
 use Rattle.gate_model.specs.declared.read_refusal.ReadRefusal.{ReadRefusal}
 use Rattle.gate_model.specs.declared.write_refusal.WriteRefusal.{WriteRefusal}
 use Rattle.gate_model.specs.History.{History}
+use Rattle.gate_model.specs.Output.{out, taken}
 use Rattle.gate_model.specs.Steps.{IsNext, Legal}
-use Rattle.gate_model.specs.Calls.{FeedStep, JoinStep, ReadStep, WriteStep, Step}
+use Rattle.gate_model.specs.Calls.{FeedStep, JoinStep, ReadStep, WriteStep, TakeStep, Step}
 use Rattle.gate_model.proofs.Histories.{legal-next}
 
 -- the only entry of a list
@@ -50,36 +52,53 @@ write_follows : (h : History) (viewer : ℕ) (acts : List Act) (result : Result 
 write_follows h viewer acts (Ok counts) e s = subst (IsNext h) (only e (Write viewer acts) s.1.adds) s.1.writes
 write_follows h viewer acts (Err refusal) e s = absurd (none_added e s.1.1)
 
+take_follows : (h : History) (most : ℕ) (bytes : List ℕ) (c : Bool) (e : Entry) → TakeStep h most bytes c (e ∷ []) → IsNext h e
+take_follows h most bytes c e s = cases (eqb_tells (length bytes) 0)
+  where
+    cases : (((length bytes == 0) ≡ true) × (length bytes ≡ 0)) ⊎ (((length bytes == 0) ≡ false) × (length bytes ≡ 0 → ⊥)) → IsNext h e
+    cases (inl q) = absurd (none_added e (subst (λ (b : Bool). e ∷ [] ≡ (if b then [] else Take (length bytes) ∷ [])) q.0 s.adds))
+    cases (inr q) =
+        let is : e ∷ [] ≡ Take (length bytes) ∷ [] = subst (λ (b : Bool). e ∷ [] ≡ (if b then [] else Take (length bytes) ∷ [])) q.0 s.adds in
+        let long : length bytes ≡ length (take most (drop (taken h) (out h))) = ap length s.hands in
+        let some : 1 ≤ length bytes = omega (arith, q.1) in
+        subst (IsNext h) (only e (Take (length bytes)) is) record { some = some; there = omega (arith, some, long, length-take most (drop (taken h) (out h)), length-drop (taken h) (out h)) }
+
 follows : (h : History) (event : Event) (answer : Answer) (e : Entry) → Step h event answer (e ∷ []) → IsNext h e
 follows h (feed bytes now) (fed result) e s = feed_follows h bytes now result e s
 follows h (feed bytes now) (joined_as result) e s = absurd s
 follows h (feed bytes now) (was_read result) e s = absurd s
 follows h (feed bytes now) (was_written result) e s = absurd s
-follows h (feed bytes now) (taken bs c) e s = absurd s
+follows h (feed bytes now) (was_taken bs c) e s = absurd s
 follows h (feed bytes now) (left result) e s = absurd s
 follows h (feed bytes now) (closed result) e s = absurd s
 follows h (join asked) (fed result) e s = absurd s
 follows h (join asked) (joined_as result) e s = join_follows h asked result e s
 follows h (join asked) (was_read result) e s = absurd s
 follows h (join asked) (was_written result) e s = absurd s
-follows h (join asked) (taken bs c) e s = absurd s
+follows h (join asked) (was_taken bs c) e s = absurd s
 follows h (join asked) (left result) e s = absurd s
 follows h (join asked) (closed result) e s = absurd s
 follows h (read viewer) (fed result) e s = absurd s
 follows h (read viewer) (joined_as result) e s = absurd s
 follows h (read viewer) (was_read result) e s = read_follows h viewer result e s
 follows h (read viewer) (was_written result) e s = absurd s
-follows h (read viewer) (taken bs c) e s = absurd s
+follows h (read viewer) (was_taken bs c) e s = absurd s
 follows h (read viewer) (left result) e s = absurd s
 follows h (read viewer) (closed result) e s = absurd s
 follows h (write viewer acts) (fed result) e s = absurd s
 follows h (write viewer acts) (joined_as result) e s = absurd s
 follows h (write viewer acts) (was_read result) e s = absurd s
 follows h (write viewer acts) (was_written result) e s = write_follows h viewer acts result e s
-follows h (write viewer acts) (taken bs c) e s = absurd s
+follows h (write viewer acts) (was_taken bs c) e s = absurd s
 follows h (write viewer acts) (left result) e s = absurd s
 follows h (write viewer acts) (closed result) e s = absurd s
-follows h (take_ most) answer e s = absurd s
+follows h (take_ most) (fed result) e s = absurd s
+follows h (take_ most) (joined_as result) e s = absurd s
+follows h (take_ most) (was_read result) e s = absurd s
+follows h (take_ most) (was_written result) e s = absurd s
+follows h (take_ most) (was_taken bs c) e s = take_follows h most bs c e s
+follows h (take_ most) (left result) e s = absurd s
+follows h (take_ most) (closed result) e s = absurd s
 follows h (leave viewer) answer e s = absurd s
 follows h (close cause) answer e s = absurd s
 

@@ -1,5 +1,5 @@
 -- What each entry does to the parts of a history, for the proofs above.
-use Rattle.std.proofs.Common.{◌≡◌, ℕ, ◌<◌, List, [], ◌∷◌, ◌++◌, false, refl, ap, ◌∙◌, append-nil}
+use Rattle.std.proofs.Common.{◌≡◌, ℕ, ◌*◌, ◌<◌, List, [], ◌∷◌, ◌++◌, false, refl, ap, sym, ◌∙◌, append-nil}
 use Rattle.std.specs.Prelude.{nat_lt}
 use Rattle.std.proofs.lemmas.Grind.{flat_map-append}
 use Rattle.std.proofs.lemmas.List.Elements.{filter-append}
@@ -12,21 +12,23 @@ use Rattle.gate_model.specs.declared.how.How.{How}
 use Rattle.gate_model.specs.declared.sharing.Role.{Role}
 use Rattle.gate_model.specs.Layers.{draw, nothing, visible}
 use Rattle.gate_model.specs.Frames.{IsReady, IsDrawn, Redraws}
-use Rattle.gate_model.specs.Screens.{after_bytes, shown}
+use Rattle.gate_model.specs.declared.control.Control.{Control}
+use Rattle.gate_model.specs.Screens.{after_controls, functions, shown}
+use Rattle.gate_model.specs.TelnetTokens.{tokens}
 use Rattle.gate_model.specs.Terminal.{opening_screen}
 use Rattle.gate_model.specs.Entries.{fed, framed}
 use Rattle.gate_model.specs.History.{History, at, bytes, columns, lines, frames, frames_after, instructions, all_frames, is_closed}
 use Rattle.gate_model.specs.Steps.{IsScreenSize, IsNext, Legal}
 use Rattle.gate_model.specs.Truth.{AllDrawn}
 use Rattle.gate_model.proofs.Drawing.{draw-append}
-use Rattle.gate_model.proofs.ScreenLaws.{after_bytes-keeps, after_bytes-append}
+use Rattle.gate_model.proofs.ScreenLaws.{after_controls-append, columns-screen, rows-screen}
 
 -- a Feed
 pub all_frames-feed : (h : History) (bs : List ℕ) (t : ℕ) (frame : List Instr) → all_frames (Feed bs t frame ∷ h) ≡ all_frames h ++ frame
 all_frames-feed h bs t frame = flat_map-append (λ (p : ℕ × List Instr). p.1) (frames h) ((t, frame) ∷ []) ∙ ap (λ (xs : List Instr). all_frames h ++ xs) (append-nil frame)
 
-pub at-feed : (h : History) (bs : List ℕ) (t : ℕ) (frame : List Instr) → at (Feed bs t frame ∷ h) ≡ after_bytes (at h) bs
-at-feed h bs t frame = after_bytes-append (opening_screen (columns h) (lines h)) (bytes h) bs
+pub at-feed : (h : History) (bs : List ℕ) (t : ℕ) (frame : List Instr) (cs : List Control) → functions (tokens (bytes h ++ bs)) ≡ functions (tokens (bytes h)) ++ cs → at (Feed bs t frame ∷ h) ≡ after_controls (at h) cs
+at-feed h bs t frame cs more = ap (after_controls (opening_screen (columns h) (lines h))) more ∙ after_controls-append (opening_screen (columns h) (lines h)) (functions (tokens (bytes h))) cs
 
 -- the frames after a stamp that is older than the new one
 pub frames_after-feed : (h : History) (s t : ℕ) (frame : List Instr) → s < t → frames_after s (frames h ++ (t, frame) ∷ []) ≡ frames_after s (frames h) ++ (t, frame) ∷ []
@@ -46,6 +48,9 @@ plain-read viewer how = record { no_bytes = refl; no_frame = refl; no_start = λ
 
 pub plain-write : (viewer : ℕ) (acts : List Act) → IsPlain (Write viewer acts)
 plain-write viewer acts = record { no_bytes = refl; no_frame = refl; no_start = λ g. (refl, refl) }
+
+pub plain-take : (count : ℕ) → IsPlain (Take count)
+plain-take count = record { no_bytes = refl; no_frame = refl; no_start = λ g. (refl, refl) }
 
 pub at-plain : (h : History) (e : Entry) → IsPlain e → at (e ∷ h) ≡ at h
 at-plain h e p =
@@ -71,7 +76,7 @@ legal-open (Feed bs stamp frame ∷ f ∷ g) l = legal-open (f ∷ g) l.0
 legal-open (Join viewer role first ∷ f ∷ g) l = legal-open (f ∷ g) l.0
 legal-open (Read viewer how ∷ f ∷ g) l = legal-open (f ∷ g) l.0
 legal-open (Write viewer acts ∷ f ∷ g) l = legal-open (f ∷ g) l.0
-legal-open (Take count ∷ f ∷ g) l = absurd l.1
+legal-open (Take count ∷ f ∷ g) l = legal-open (f ∷ g) l.0
 legal-open (Leave viewer ∷ f ∷ g) l = absurd l.1
 legal-open (Close cause ∷ f ∷ g) l = absurd l.1
 
@@ -90,7 +95,7 @@ legal-size (Feed bs stamp frame ∷ f ∷ g) l = legal-size (f ∷ g) l.0
 legal-size (Join viewer role first ∷ f ∷ g) l = legal-size (f ∷ g) l.0
 legal-size (Read viewer how ∷ f ∷ g) l = legal-size (f ∷ g) l.0
 legal-size (Write viewer acts ∷ f ∷ g) l = legal-size (f ∷ g) l.0
-legal-size (Take count ∷ f ∷ g) l = absurd l.1
+legal-size (Take count ∷ f ∷ g) l = legal-size (f ∷ g) l.0
 legal-size (Leave viewer ∷ f ∷ g) l = absurd l.1
 legal-size (Close cause ∷ f ∷ g) l = absurd l.1
 
@@ -109,14 +114,13 @@ pub drawn-plain : (h : History) (e : Entry) → IsPlain e → Legal h → AllDra
 drawn-plain h e p l d = (d, rw (all_frames-plain h e p, at-plain h e p) (drawn-now h l d))
 
 -- a frame that redraws the new screen keeps the drawing true
-pub drawn-feed : (h : History) (bs : List ℕ) (t : ℕ) (frame : List Instr) → Legal h → AllDrawn h → Redraws frame (shown (after_bytes (at h) bs)) → AllDrawn (Feed bs t frame ∷ h)
+pub drawn-feed : (h : History) (bs : List ℕ) (t : ℕ) (frame : List Instr) → Legal h → AllDrawn h → Redraws frame (shown (at (Feed bs t frame ∷ h))) → AllDrawn (Feed bs t frame ∷ h)
 drawn-feed h bs t frame l d redraws =
     let now = drawn-now h l d in
-    let keeps = after_bytes-keeps (at h) bs in
-    let ready : IsReady (draw nothing (all_frames h) visible) (shown (after_bytes (at h) bs)) = record {
-      width = rw keeps.columns now.shows.width;
-      height = rw keeps.rows now.shows.height;
+    let ready : IsReady (draw nothing (all_frames h) visible) (shown (at (Feed bs t frame ∷ h))) = record {
+      width = now.shows.width ∙ ap (λ (n : ℕ). 8 * n) (columns-screen (columns h) (lines h) (bytes h) ∙ sym (columns-screen (columns h) (lines h) (bytes h ++ bs)));
+      height = now.shows.height ∙ ap (λ (n : ℕ). 16 * n) (rows-screen (columns h) (lines h) (bytes h) ∙ sym (rows-screen (columns h) (lines h) (bytes h ++ bs)));
       no_path = now.no_path;
     } in
-    let drawn : IsDrawn (draw (draw nothing (all_frames h)) frame visible) (shown (after_bytes (at h) bs)) = redraws (draw nothing (all_frames h)) ready in
-    (d, rw (all_frames-feed h bs t frame, draw-append nothing (all_frames h) frame, at-feed h bs t frame) drawn)
+    let drawn : IsDrawn (draw (draw nothing (all_frames h)) frame visible) (shown (at (Feed bs t frame ∷ h))) = redraws (draw nothing (all_frames h)) ready in
+    (d, rw (all_frames-feed h bs t frame, draw-append nothing (all_frames h) frame) drawn)

@@ -10,6 +10,7 @@ pub mod NumeralLaws
 pub mod MeaningLaws
 pub mod TextLaws
 pub mod OptionLaws
+pub mod ReplyLaws
 pub mod Cutting
 pub mod Drawing
 pub mod GlyphTests
@@ -22,6 +23,7 @@ pub mod ScreenLaws
 mod CellRuns
 mod CellLaws
 mod CellRows
+mod ScreenRows
 pub mod Rows
 pub mod Histories
 pub mod Digits

@@ -7,7 +7,7 @@ use Rattle.gate_model.specs.declared.sharing.Role.TheVariants.{Control}
 use Rattle.gate_model.specs.declared.sharing.Share.TheVariants.{Nobody}
 use Rattle.gate_model.specs.declared.instr.Instr.TheVariants.{Sync}
 use Rattle.gate_model.specs.declared.entry.Entry.TheVariants.{Start, Feed, Join, Read, Close}
-use Rattle.gate_model.specs.declared.feed_refusal.FeedRefusal.TheVariants.{Closed as feed_closed, Worn as feed_worn, Unbuilt}
+use Rattle.gate_model.specs.declared.feed_refusal.FeedRefusal.TheVariants.{Closed as feed_closed, Worn as feed_worn}
 use Rattle.gate_model.specs.declared.join_refusal.JoinRefusal.TheVariants.{Closed as join_closed, Worn as join_worn}
 use Rattle.gate_model.specs.declared.read_answer.ReadAnswer.TheVariants.{Empty}
 use Rattle.gate_model.specs.declared.read_refusal.ReadRefusal.TheVariants.{NoViewer as read_no_viewer, Worn as read_worn}
@@ -28,17 +28,14 @@ full = Feed (65 ∷ []) 2 (Sync 2 ∷ []) ∷ with_owner
 abbrev shut : History
 shut = Close Stopped ∷ full
 
--- a byte without a meaning is told by its place; a full session tells its entries first, a closed one its cause
-a_byte : feed_refusal with_owner (65 ∷ 10 ∷ []) ≡ None
-a_byte = refl
+-- feed: a full session tells its entries, and a closed one its cause first
+feeds_opened : feed_refusal with_owner ≡ None
+feeds_opened = refl
 
-unbuilt_byte : feed_refusal with_owner (65 ∷ 7 ∷ []) ≡ Some (Unbuilt 1)
-unbuilt_byte = refl
+feeds_full : feed_refusal full ≡ Some (feed_worn 3)
+feeds_full = refl
 
-worn_before_unbuilt : feed_refusal full (65 ∷ 7 ∷ []) ≡ Some (feed_worn 3)
-worn_before_unbuilt = refl
-
-closed_before_worn : feed_refusal shut (65 ∷ []) ≡ Some (feed_closed Stopped)
+closed_before_worn : feed_refusal shut ≡ Some (feed_closed Stopped)
 closed_before_worn = refl
 
 -- join

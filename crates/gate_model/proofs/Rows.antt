@@ -1,6 +1,8 @@
 -- Worked facts, which the checker computes: a wrong definition shows here before any code.
 use Rattle.std.proofs.Common.{◌≡◌, [], ◌∷◌, true, false, refl, pos}
 use Rattle.std.specs.Prelude.{Some, None}
+use Rattle.bstr.proofs.Computing.{computing}
+use Rattle.gate_model.specs.Reading.{read}
 use Rattle.gate_model.specs.Palette.{colour_of}
 use Rattle.gate_model.specs.declared.colour.Colour.{Colour}
 use Rattle.gate_model.specs.declared.instr.Instr.TheVariants.{Size, Rect, Cfill, Copy, Sync}
@@ -32,23 +34,23 @@ letter = (refl, refl, refl, refl, refl)
 
 -- the cursor on one blank cell
 smallest : (picture (shown (screen 1 1 [])) 0 0 ≡ grey) × (picture (shown (screen 1 1 [])) 7 15 ≡ grey)
-unfolding colour_of picture lit grey
+unfolding computing read colour_of picture lit grey
 smallest = (refl, refl)
 
 -- an A, and the cursor behind it
 one_glyph : let s = shown (screen 2 1 (65 ∷ [])) in (picture s 1 4 ≡ grey) × (picture s 1 2 ≡ black) × (picture s 2 2 ≡ grey) × (picture s 8 0 ≡ grey)
-unfolding colour_of picture lit grey black
+unfolding computing read colour_of picture lit grey black
 one_glyph = (refl, refl, refl, refl)
 
 -- the last column holds back the wrap until the next character
 pending_wrap : let before = shown (screen 2 2 (65 ∷ 66 ∷ [])) in let after = shown (screen 2 2 (65 ∷ 66 ∷ 67 ∷ [])) in
     (picture before 8 0 ≡ grey) × (picture after 8 0 ≡ black) × (picture after 1 18 ≡ black) × (picture after 1 20 ≡ grey) × (picture after 8 16 ≡ grey)
-unfolding colour_of picture lit grey black
+unfolding computing read colour_of picture lit grey black
 pending_wrap = (refl, refl, refl, refl, refl)
 
 -- three lines on two rows
 scrolled : let s = shown (screen 2 2 (65 ∷ 13 ∷ 10 ∷ 66 ∷ 13 ∷ 10 ∷ 67 ∷ [])) in (picture s 1 2 ≡ grey) × (picture s 8 0 ≡ black) × (picture s 1 18 ≡ black)
-unfolding colour_of picture lit grey black
+unfolding computing read colour_of picture lit grey black
 scrolled = (refl, refl, refl)
 
 -- a fill covers the path and nothing else; a rectangle after a fill begins a new path

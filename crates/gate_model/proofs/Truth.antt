@@ -138,6 +138,24 @@ write_facts g viewer acts f s = plain_facts g (Write viewer acts) f record {
         same true e = refl
         same false e = e
 
+take_facts : (g : History) (count : ℕ) → Facts g → Facts (Take count ∷ g)
+take_facts g count f = plain_facts g (Take count) f record {
+  framed_is = refl;
+  stamp_is = refl;
+  gives = λ v. inl (append-nil (delivered g v));
+  gives_none = λ v lt. append-nil (delivered g v);
+  joins_more = omega arith;
+  live = λ v q. f.live_joined v (still v q);
+  closes_not = refl;
+}
+  where
+    still : (v : ℕ) → is_live (Take count ∷ g) v ≡ true → is_live g v ≡ true
+    still v q = same (is_live g v) q
+      where
+        same : (b : Bool) → (false || (b && not false)) ≡ true → b ≡ true
+        same true e = refl
+        same false e = e
+
 -- the facts of one entry more
 next_facts : (g : History) (e : Entry) → Facts g → IsNext g e → Facts (e ∷ g)
 next_facts g (Feed bytes stamp frame) f s = feed_facts g bytes stamp frame f s
@@ -145,7 +163,7 @@ next_facts g (Join viewer role first) f s = join_facts g viewer role first f s
 next_facts g (Read viewer how) f s = read_facts g viewer how f s
 next_facts g (Write viewer acts) f s = write_facts g viewer acts f s
 next_facts g (Start cols rows mode term entries stamp frame) f s = absurd s
-next_facts g (Take count) f s = absurd s
+next_facts g (Take count) f s = take_facts g count f
 next_facts g (Leave viewer) f s = absurd s
 next_facts g (Close cause) f s = absurd s
 

@@ -1,6 +1,6 @@
 -- Each call of a desk after a history: what it is given, what it answers, and the entry that it adds
 -- (this project's own).
-use Rattle.std.specs.Prelude.{◌≡◌, ℕ, ◌-◌, ◌<◌, ◌≤◌, ◌^◌, min, List, [], ◌∷◌, length, Bool, true, false, ◌&&◌, nat_le, count_by, Some, None, Result, Ok, Err}
+use Rattle.std.specs.Prelude.{◌≡◌, ℕ, ◌-◌, ◌<◌, ◌≤◌, ◌^◌, min, List, [], ◌∷◌, length, take, ◌==◌, if◌then◌else◌, Bool, true, false, ◌&&◌, nat_le, count_by, Some, None, Result, Ok, Err}
 use Rattle.std.specs.List.{list_all}
 use Rattle.gate_model.specs.declared.act.Act.{Act}
 use Rattle.gate_model.specs.declared.act.Act.TheVariants.{Key as key_act}
@@ -10,11 +10,11 @@ use Rattle.gate_model.specs.declared.sharing.Asked.{Asked}
 use Rattle.gate_model.specs.declared.sharing.Asked.TheVariants.{Owner}
 use Rattle.gate_model.specs.declared.setup.Setup.{Setup}
 use Rattle.gate_model.specs.declared.entry.Entry.{Entry}
-use Rattle.gate_model.specs.declared.entry.Entry.TheVariants.{Start, Feed, Join, Read, Write}
+use Rattle.gate_model.specs.declared.entry.Entry.TheVariants.{Start, Feed, Join, Read, Write, Take}
 use Rattle.gate_model.specs.declared.event.Event.{Event}
-use Rattle.gate_model.specs.declared.event.Event.TheVariants.{Feed as feed, Join as join, Read as read, Write as write}
+use Rattle.gate_model.specs.declared.event.Event.TheVariants.{Feed as feed, Join as join, Read as read, Write as write, Take as take_most}
 use Rattle.gate_model.specs.declared.answer.Answer.{Answer}
-use Rattle.gate_model.specs.declared.answer.Answer.TheVariants.{Feed as fed, Join as joined_as, Read as was_read, Write as was_written}
+use Rattle.gate_model.specs.declared.answer.Answer.TheVariants.{Feed as fed, Join as joined_as, Read as was_read, Write as was_written, Take as was_taken}
 use Rattle.gate_model.specs.declared.joined.Joined.{Joined}
 use Rattle.gate_model.specs.declared.written.Written.{Written}
 use Rattle.gate_model.specs.declared.feed_refusal.FeedRefusal.{FeedRefusal}
@@ -26,6 +26,7 @@ use Rattle.gate_model.specs.declared.write_refusal.WriteRefusal.{WriteRefusal}
 use Rattle.gate_model.specs.Limits.{most_piece, most_entries, most_acts}
 use Rattle.gate_model.specs.History.{History, next_stamp, newest, frames, frames_after, joined, is_closed}
 use Rattle.gate_model.specs.Delivered.{position}
+use Rattle.gate_model.specs.Output.{untaken}
 use Rattle.gate_model.specs.Steps.{IsScreenSize, Starts, Feeds, Joins, Reads, Writes}
 use Rattle.gate_model.specs.Refusals.{feed_refusal, join_refusal, read_stop, write_refusal}
 
@@ -58,7 +59,7 @@ pub record IsPiece (bytes : List ℕ) : Type 0 where
 
 -- the Feed is added, and its stamp answered
 pub record FeedAdds (h : History) (bytes : List ℕ) (now stamp : ℕ) (added : List Entry) : Type 0 where
-  pub allowed : feed_refusal h bytes ≡ None
+  pub allowed : feed_refusal h ≡ None
   pub frame : List Instr
   pub adds : added ≡ Feed bytes stamp frame ∷ []
   pub is_next : stamp ≡ next_stamp (newest h) now
@@ -66,7 +67,7 @@ pub record FeedAdds (h : History) (bytes : List ℕ) (now stamp : ℕ) (added : 
 
 abbrev pub FeedOutcome : History → List ℕ → ℕ → Result ℕ FeedRefusal → List Entry → Type 0
 FeedOutcome h bytes now (Ok stamp) added = FeedAdds h bytes now stamp added
-FeedOutcome h bytes now (Err refusal) added = (feed_refusal h bytes ≡ Some refusal) × (added ≡ [])
+FeedOutcome h bytes now (Err refusal) added = (feed_refusal h ≡ Some refusal) × (added ≡ [])
 
 abbrev pub FeedStep : History → List ℕ → ℕ → Result ℕ FeedRefusal → List Entry → Type 0
 FeedStep h bytes now result added = IsPiece bytes × FeedOutcome h bytes now result added
@@ -132,10 +133,22 @@ WriteOutcome h viewer acts (Err refusal) added = (write_refusal h viewer ≡ Som
 abbrev pub WriteStep : History → ℕ → List Act → Result Written WriteRefusal → List Entry → Type 0
 WriteStep h viewer acts result added = IsWrite acts × WriteOutcome h viewer acts result added
 
+-- what a take of so many bytes adds
+abbrev pub take_entry : ℕ → List Entry
+take_entry count = if count == 0 then [] else Take count ∷ []
+
+-- at most so many of the bytes that wait are handed out, and whether the session is closed is answered;
+-- a Take is added where there are any
+pub record TakeStep (h : History) (most : ℕ) (bytes : List ℕ) (closed : Bool) (added : List Entry) : Type 0 where
+  pub hands : bytes ≡ take most (untaken h)
+  pub closes : closed ≡ is_closed h
+  pub adds : added ≡ take_entry (length bytes)
+
 -- the call answers as its rule says, and adds these entries, none or one
 abbrev pub Step : History → Event → Answer → List Entry → Type 0
 Step h (feed bytes now) (fed result) added = FeedStep h bytes now result added
 Step h (join asked) (joined_as result) added = JoinStep h asked result added
 Step h (read viewer) (was_read result) added = ReadStep h viewer result added
 Step h (write viewer acts) (was_written result) added = WriteStep h viewer acts result added
+Step h (take_most most) (was_taken bytes closed) added = TakeStep h most bytes closed added
 Step h event answer added = ⊥

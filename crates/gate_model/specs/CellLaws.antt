@@ -1,8 +1,7 @@
 -- Laws of the edits of a grid, cell by cell, which public functions of `laws::cells` prove.
 use Rattle.std.specs.Prelude.{◌≡◌, ◌<◌, ◌≤◌, ℕ, ◌+◌, ◌-◌, ◌*◌, ◌==◌, ◌&&◌, nat_lt, nat_le, if◌then◌else◌, length}
 use Rattle.gate_model.specs.declared.cell.Cell.{Cell}
-use Rattle.gate_model.specs.Terminal.{blank}
-use Rattle.gate_model.specs.Cells.{CellGrid, cell_at, put, erased, inserted, deleted, scrolled_up, scrolled_down}
+use Rattle.gate_model.specs.Cells.{blank, CellGrid, cell_at, put, erased, inserted, deleted, scrolled_up, scrolled_down}
 
 -- there is a cell for each place
 abbrev pub IsFull : CellGrid → Type 0

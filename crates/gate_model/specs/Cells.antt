@@ -1,7 +1,10 @@
 -- The cells of a grid, and what each edit makes of them (this project's own; the edits are those of ECMA-48).
-use Rattle.std.specs.Prelude.{ℕ, ◌+◌, ◌-◌, ◌*◌, min, List, length, take, drop, ◌++◌, replicate, slice_set, slice_range, get_or}
+use Rattle.std.specs.Prelude.{ℕ, ◌+◌, ◌-◌, ◌*◌, min, List, length, take, drop, ◌++◌, replicate, slice_set, slice_range, get_or, false}
 use Rattle.gate_model.specs.declared.cell.Cell.{Cell}
-use Rattle.gate_model.specs.Terminal.{blank}
+
+-- a space with ink 7, paper 0 and no underline
+abbrev pub blank : Cell
+blank = record { ch = 32; ink = 7; paper = 0; under = false }
 
 -- columns, rows, and the cell of each place, row by row
 pub record CellGrid : Type 0 where

@@ -1,7 +1,7 @@
 -- What one entry of a history holds, one function for each thing that is asked of it.
 use Rattle.std.specs.Prelude.{ℕ, List, [], ◌∷◌, Option, Some, None, Bool, true, false, ◌==◌}
 use Rattle.gate_model.specs.declared.entry.Entry.{Entry}
-use Rattle.gate_model.specs.declared.entry.Entry.TheVariants.{Start, Feed, Join, Leave, Close}
+use Rattle.gate_model.specs.declared.entry.Entry.TheVariants.{Start, Feed, Join, Take, Leave, Close}
 use Rattle.gate_model.specs.declared.instr.Instr.{Instr}
 
 -- the bytes of a Feed
@@ -37,3 +37,8 @@ joins v e = false
 abbrev pub leaves : ℕ → Entry → Bool
 leaves v (Leave viewer) = viewer == v
 leaves v e = false
+
+-- how many bytes a Take hands out
+abbrev pub taken_by : Entry → ℕ
+taken_by (Take count) = count
+taken_by e = 0

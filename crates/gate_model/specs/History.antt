@@ -16,7 +16,7 @@ History = List Entry
 abbrev pub next_stamp : ℕ → ℕ → ℕ
 next_stamp last now = max (last + 1) (min now most_clock)
 
--- what Start says: the columns, the rows and the most entries of the session
+-- what Start says: the columns, the rows, the terminal type and the most entries of the session
 abbrev pub columns : History → ℕ
 columns [] = 0
 columns (Start cols rows mode term entries stamp frame ∷ g) = cols
@@ -26,6 +26,11 @@ abbrev pub lines : History → ℕ
 lines [] = 0
 lines (Start cols rows mode term entries stamp frame ∷ g) = rows
 lines (e ∷ g) = lines g
+
+abbrev pub terminal_type : History → List ℕ
+terminal_type [] = []
+terminal_type (Start cols rows mode term entries stamp frame ∷ g) = term
+terminal_type (e ∷ g) = terminal_type g
 
 abbrev pub capacity : History → ℕ
 capacity [] = 0

@@ -5,7 +5,7 @@ use Rattle.std.specs.Option.{option_map}
 use Rattle.gate_model.specs.declared.cause.Cause.{Cause}
 use Rattle.gate_model.specs.declared.entry.Entry.TheVariants.{Close}
 use Rattle.gate_model.specs.declared.feed_refusal.FeedRefusal.{FeedRefusal}
-use Rattle.gate_model.specs.declared.feed_refusal.FeedRefusal.TheVariants.{Closed as feed_closed, Worn as feed_worn, Unbuilt}
+use Rattle.gate_model.specs.declared.feed_refusal.FeedRefusal.TheVariants.{Closed as feed_closed, Worn as feed_worn}
 use Rattle.gate_model.specs.declared.join_refusal.JoinRefusal.{JoinRefusal}
 use Rattle.gate_model.specs.declared.join_refusal.JoinRefusal.TheVariants.{Closed as join_closed, Worn as join_worn}
 use Rattle.gate_model.specs.declared.read_answer.ReadAnswer.{ReadAnswer}
@@ -14,7 +14,6 @@ use Rattle.gate_model.specs.declared.read_refusal.ReadRefusal.{ReadRefusal}
 use Rattle.gate_model.specs.declared.read_refusal.ReadRefusal.TheVariants.{NoViewer as read_no_viewer, Worn as read_worn}
 use Rattle.gate_model.specs.declared.write_refusal.WriteRefusal.{WriteRefusal}
 use Rattle.gate_model.specs.declared.write_refusal.WriteRefusal.TheVariants.{NoViewer as write_no_viewer, Closed as write_closed, Worn as write_worn}
-use Rattle.gate_model.specs.Screens.{first_unbuilt}
 use Rattle.gate_model.specs.History.{History, newest, is_closed, is_full}
 use Rattle.gate_model.specs.Delivered.{position}
 use Rattle.gate_model.specs.Rights.{is_live}
@@ -35,12 +34,11 @@ close_cause [] = None
 close_cause (Close cause ∷ g) = Some cause
 close_cause (e ∷ g) = close_cause g
 
--- feed: the session is closed, or full, or a byte has no meaning
-abbrev pub feed_refusal : History → List ℕ → Option FeedRefusal
-feed_refusal h bytes = first_of (
+-- feed: the session is closed, or full
+abbrev pub feed_refusal : History → Option FeedRefusal
+feed_refusal h = first_of (
     option_map feed_closed (close_cause h)
     ∷ only_if (is_full h) (feed_worn (length h))
-    ∷ option_map Unbuilt (first_unbuilt bytes)
     ∷ [])
 
 -- join: the session is closed, or full

@@ -1,34 +1,44 @@
 -- The screen that a session's bytes leave, and what it shows.
-use Rattle.std.specs.Prelude.{ℕ, ◌+◌, ◌*◌, List, [], ◌∷◌, map, Bool, ◌&&◌, ◌||◌, ◌==◌, nat_lt, nat_le, if◌then◌else◌, Option, slice_set, ◌<◌, All, position, not}
+use Rattle.std.specs.Prelude.{ℕ, List, [], ◌∷◌, map, flat_map, ◌&&◌, nat_le, if◌then◌else◌, slice_set, ◌<◌, All}
 use Rattle.gate_model.specs.declared.cell.Cell.{Cell}
 use Rattle.gate_model.specs.declared.key.Key.{Key}
 use Rattle.gate_model.specs.declared.control.Control.{Control}
-use Rattle.gate_model.specs.declared.control.Control.TheVariants.{Print, Code}
+use Rattle.gate_model.specs.declared.token.Token.{Token}
+use Rattle.gate_model.specs.declared.token.Token.TheVariants.{Byte, Do, Dont, Will, Wont, Sub, Single}
+use Rattle.gate_model.specs.Cells.{place}
+use Rattle.gate_model.specs.Characters.{characters}
+use Rattle.gate_model.specs.Controls.{controls}
+use Rattle.gate_model.specs.Effects.{effect}
 use Rattle.gate_model.specs.KeyGrid.{KeyGrid}
 use Rattle.gate_model.specs.Pictures.{key_at}
+use Rattle.gate_model.specs.TelnetTokens.{tokens}
 use Rattle.gate_model.specs.Terminal.{Terminal, opening_screen}
-use Rattle.gate_model.specs.Effects.{effect}
 
--- each byte of the stream is a control function of its own
-abbrev pub control_of : ℕ → Control
-control_of byte = if nat_lt byte 32 then Code byte else Print byte
+-- the data bytes among Telnet tokens
+abbrev pub data_byte : Token → List ℕ
+data_byte (Byte b) = b ∷ []
+data_byte (Do option) = []
+data_byte (Dont option) = []
+data_byte (Will option) = []
+data_byte (Wont option) = []
+data_byte (Sub bytes) = []
+data_byte (Single b) = []
 
--- the bytes that this version gives a meaning: U+0020 to U+007E, LF and CR
-abbrev pub is_built : ℕ → Bool
-is_built byte = (nat_le 32 byte && nat_le byte 126) || byte == 10 || byte == 13
+abbrev pub data_of : List Token → List ℕ
+data_of ts = flat_map data_byte ts
 
--- the place of the first byte without a meaning
-abbrev pub first_unbuilt : List ℕ → Option ℕ
-first_unbuilt bytes = position (λ b. not (is_built b)) bytes
+-- the control functions that Telnet tokens complete
+abbrev pub functions : List Token → List Control
+functions ts = controls (characters (data_of ts))
 
--- the screen after more bytes
-abbrev pub after_bytes : Terminal → List ℕ → Terminal
-after_bytes t [] = t
-after_bytes t (b ∷ bs) = after_bytes (effect (control_of b) t) bs
+-- the screen after more control functions
+abbrev pub after_controls : Terminal → List Control → Terminal
+after_controls t [] = t
+after_controls t (c ∷ cs) = after_controls (effect c t) cs
 
--- the screen that bytes leave from the start
+-- the screen that bytes of a Telnet host leave from the start
 abbrev pub screen : ℕ → ℕ → List ℕ → Terminal
-screen columns rows bytes = after_bytes (opening_screen columns rows) bytes
+screen columns rows bytes = after_controls (opening_screen columns rows) (functions (tokens bytes))
 
 -- the face of a character: itself from U+0020 to U+007E, U+FFFD otherwise
 abbrev pub face_of : ℕ → ℕ
@@ -54,8 +64,8 @@ exchanged_at place keys = slice_set keys place (exchanged (key_at keys place))
 
 -- the key of each place, exchanged under a visible cursor
 abbrev pub shown : Terminal → KeyGrid
-shown t = let keys = map key_of t.cells in record {
-  cols = t.columns;
-  rows = t.rows;
-  keys = if t.visible then exchanged_at (t.y * t.columns + t.x) keys else keys;
+shown t = let keys = map key_of t.grid.cells in record {
+  cols = t.grid.cols;
+  rows = t.grid.rows;
+  keys = if t.modes.visible then exchanged_at (place t.x t.y t.grid) keys else keys;
 }

@@ -1,18 +1,18 @@
 -- Which entry may follow which history: the rules of each call, and the legal histories.
-use Rattle.std.specs.Prelude.{◌≡◌, ℕ, ◌+◌, ◌<◌, ◌≤◌, ◌^◌, List, [], ◌∷◌, length, true, false, ◌==◌, None}
+use Rattle.std.specs.Prelude.{◌≡◌, ℕ, ◌+◌, ◌<◌, ◌≤◌, ◌^◌, List, [], ◌∷◌, length, true, false, ◌==◌}
 use Rattle.gate_model.specs.declared.act.Act.{Act}
 use Rattle.gate_model.specs.declared.how.How.{How}
 use Rattle.gate_model.specs.declared.how.How.TheVariants.{Suffix}
 use Rattle.gate_model.specs.declared.sharing.Role.{Role}
 use Rattle.gate_model.specs.declared.sharing.Role.TheVariants.{Control}
 use Rattle.gate_model.specs.declared.entry.Entry.{Entry}
-use Rattle.gate_model.specs.declared.entry.Entry.TheVariants.{Start, Feed, Join, Read, Write}
+use Rattle.gate_model.specs.declared.entry.Entry.TheVariants.{Start, Feed, Join, Read, Write, Take}
 use Rattle.gate_model.specs.declared.instr.Instr.{Instr}
 use Rattle.gate_model.specs.Limits.{most_columns, most_rows, most_piece, most_entries, most_acts}
 use Rattle.gate_model.specs.Shape.{Shape, OpensScreen}
-use Rattle.gate_model.specs.Screens.{first_unbuilt}
 use Rattle.gate_model.specs.History.{History, next_stamp, columns, lines, newest, frames, instructions, joined, is_closed, is_full}
 use Rattle.gate_model.specs.Delivered.{position}
+use Rattle.gate_model.specs.Output.{out, taken}
 use Rattle.gate_model.specs.Rights.{is_live}
 
 -- a screen has 1 to 512 columns and 1 to 256 rows
@@ -42,7 +42,6 @@ pub record Feeds (g : History) (bytes : List ℕ) (stamp : ℕ) (frame : List In
   pub is_open : IsOpen g
   pub some_bytes : 1 ≤ length bytes
   pub few_bytes : length bytes ≤ most_piece
-  pub built : first_unbuilt bytes ≡ None
   pub is_next : stamp ≡ next_stamp (newest g) now
   pub shape : Shape (columns g) (lines g) frame stamp
 
@@ -67,6 +66,11 @@ pub record Writes (g : History) (viewer : ℕ) (acts : List Act) : Type 0 where
   pub is_open : IsOpen g
   pub few : length acts ≤ most_acts
 
+-- take: bytes that wait for the host are handed out
+pub record Takes (g : History) (count : ℕ) : Type 0 where
+  pub some : 1 ≤ count
+  pub there : taken g + count ≤ length (out g)
+
 -- the entry is the first
 abbrev pub IsFirst : Entry → Type 0
 IsFirst (Start cols rows mode term entries stamp frame) = Starts cols rows entries stamp frame
@@ -78,6 +82,7 @@ IsNext g (Feed bytes stamp frame) = Feeds g bytes stamp frame
 IsNext g (Join viewer role first) = Joins g viewer role first
 IsNext g (Read viewer how) = Reads g viewer how
 IsNext g (Write viewer acts) = Writes g viewer acts
+IsNext g (Take count) = Takes g count
 IsNext g e = ⊥
 
 -- each entry is added by a step after the entries before it

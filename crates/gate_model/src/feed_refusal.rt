@@ -12,8 +12,6 @@ pub enum FeedRefusal {
     Closed(Cause),
     /// The session has this many entries, and may have no more.
     Worn { entries: u64 },
-    /// The byte at this place has no meaning in this version.
-    Unbuilt { place: usize },
     /// Want of memory.
     NoMemory,
 }

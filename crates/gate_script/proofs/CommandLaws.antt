@@ -7,7 +7,7 @@ use Rattle.gate_outside.specs.Edge.{AtEnd, came, gained}
 use Rattle.gate_outside.proofs.Moved.{gained-gained, came-none}
 use Rattle.gate_script.specs.declared.form.Form.{Form}
 use Rattle.gate_script.specs.declared.refused.Refused.{Refused as Refusal}
-use Rattle.gate_script.specs.declared.refused.Refused.TheVariants.{BadLine, Worn, Unbuilt}
+use Rattle.gate_script.specs.declared.refused.Refused.TheVariants.{BadLine, Worn}
 use Rattle.gate_script.specs.declared.stop.Stop.{Stop}
 use Rattle.gate_script.specs.declared.stop.Stop.TheVariants.{ReadFault, WriteFault, NoMemory, Refused}
 use Rattle.gate_script.specs.Lines.{Line}
@@ -15,25 +15,25 @@ use Rattle.gate_script.specs.Grammar.{lines_of, whole_lines, all_lines}
 use Rattle.gate_script.specs.Outcomes.{AreFirst, Finished, Interrupted, Refuses, Ends, CutShort, Ran, Outcome, last_line}
 use Rattle.gate_script.specs.Outcomes.{WriteFault as write_fault}
 use Rattle.gate_script.specs.Running.{StoppedIn, ShortOf, RefusedOf, HasRead, RunEnds, LastSaid, Ended, refused_status}
+use Rattle.gate_script.proofs.TakenLaws.{tells}
 use Rattle.gate_script.proofs.InputLaws.{no_pieces, run_stopped}
 
 module _ (form : Form) (left : Option (List ℕ)) (bytes a f : List ℕ) where
   at_done : AtEnd left × Finished form bytes a f → Outcome 0 form left bytes a f
-  at_done p = record { done = λ e. p; bad_script = λ e. absurd (omega arith); read_fault = λ e. absurd (omega arith); write_fault = λ e. absurd (omega arith); memory = λ e. absurd (omega arith); worn = λ e. absurd (omega arith); unbuilt = λ e. absurd (omega arith); only = inl refl }
+  at_done p = record { done = λ e. p; bad_script = λ e. absurd (omega arith); read_fault = λ e. absurd (omega arith); write_fault = λ e. absurd (omega arith); memory = λ e. absurd (omega arith); worn = λ e. absurd (omega arith); only = inl refl }
 
   at_read_fault : Interrupted form bytes a f → Outcome 4 form left bytes a f
-  at_read_fault p = record { done = λ e. absurd (omega arith); bad_script = λ e. absurd (omega arith); read_fault = λ e. p; write_fault = λ e. absurd (omega arith); memory = λ e. absurd (omega arith); worn = λ e. absurd (omega arith); unbuilt = λ e. absurd (omega arith); only = inr (inr (inl refl)) }
+  at_read_fault p = record { done = λ e. absurd (omega arith); bad_script = λ e. absurd (omega arith); read_fault = λ e. p; write_fault = λ e. absurd (omega arith); memory = λ e. absurd (omega arith); worn = λ e. absurd (omega arith); only = inr (inr (inl refl)) }
 
   at_write_fault : write_fault form bytes a f left → Outcome 5 form left bytes a f
-  at_write_fault p = record { done = λ e. absurd (omega arith); bad_script = λ e. absurd (omega arith); read_fault = λ e. absurd (omega arith); write_fault = λ e. p; memory = λ e. absurd (omega arith); worn = λ e. absurd (omega arith); unbuilt = λ e. absurd (omega arith); only = inr (inr (inr (inl refl))) }
+  at_write_fault p = record { done = λ e. absurd (omega arith); bad_script = λ e. absurd (omega arith); read_fault = λ e. absurd (omega arith); write_fault = λ e. p; memory = λ e. absurd (omega arith); worn = λ e. absurd (omega arith); only = inr (inr (inr (inl refl))) }
 
   at_memory : CutShort form bytes a f left → Outcome 6 form left bytes a f
-  at_memory p = record { done = λ e. absurd (omega arith); bad_script = λ e. absurd (omega arith); read_fault = λ e. absurd (omega arith); write_fault = λ e. absurd (omega arith); memory = λ e. p; worn = λ e. absurd (omega arith); unbuilt = λ e. absurd (omega arith); only = inr (inr (inr (inr (inl refl)))) }
+  at_memory p = record { done = λ e. absurd (omega arith); bad_script = λ e. absurd (omega arith); read_fault = λ e. absurd (omega arith); write_fault = λ e. absurd (omega arith); memory = λ e. p; worn = λ e. absurd (omega arith); only = inr (inr (inr (inr (inl refl)))) }
 
   at_refused : (refused : Refusal) → Ends form bytes a f left refused → Outcome (refused_status refused) form left bytes a f
-  at_refused (BadLine number) p = record { done = λ e. absurd (omega arith); bad_script = λ e. (number, p); read_fault = λ e. absurd (omega arith); write_fault = λ e. absurd (omega arith); memory = λ e. absurd (omega arith); worn = λ e. absurd (omega arith); unbuilt = λ e. absurd (omega arith); only = inr (inl refl) }
-  at_refused (Worn entries) p = record { done = λ e. absurd (omega arith); bad_script = λ e. absurd (omega arith); read_fault = λ e. absurd (omega arith); write_fault = λ e. absurd (omega arith); memory = λ e. absurd (omega arith); worn = λ e. (entries, p); unbuilt = λ e. absurd (omega arith); only = inr (inr (inr (inr (inr (inl refl))))) }
-  at_refused (Unbuilt place) p = record { done = λ e. absurd (omega arith); bad_script = λ e. absurd (omega arith); read_fault = λ e. absurd (omega arith); write_fault = λ e. absurd (omega arith); memory = λ e. absurd (omega arith); worn = λ e. absurd (omega arith); unbuilt = λ e. (place, p); only = inr (inr (inr (inr (inr (inr refl))))) }
+  at_refused (BadLine number) p = record { done = λ e. absurd (omega arith); bad_script = λ e. (number, p); read_fault = λ e. absurd (omega arith); write_fault = λ e. absurd (omega arith); memory = λ e. absurd (omega arith); worn = λ e. absurd (omega arith); only = inr (inl refl) }
+  at_refused (Worn entries) p = record { done = λ e. absurd (omega arith); bad_script = λ e. absurd (omega arith); read_fault = λ e. absurd (omega arith); write_fault = λ e. absurd (omega arith); memory = λ e. absurd (omega arith); worn = λ e. (entries, p); only = inr (inr (inr (inr (inr refl)))) }
 
 module _ (form : Form) (k : ℕ) (left0 left a0 f0 a a' f : Option (List ℕ)) where
   -- no last answer was due
@@ -65,7 +65,7 @@ module _ (form : Form) (k : ℕ) (left0 left a0 f0 a a' f : Option (List ℕ)) w
   short bytes all are s = record { lines = s.lines; play = s.play; answers = s.answers; framings = s.framings; first = are s.lines s.first; tells = s.tells; answers_begin = s.answers_begin; framings_begin = s.framings_begin }
 
   refuses : (bytes : List ℕ) (all : List Line) → ((lines : List Line) → IsLater lines all → AreFirst form bytes left lines) → (refused : Refusal) → (s : RefusedOf all refused a0 f0 a f) → Refuses form bytes s.told.answers s.told.framings left refused
-  refuses bytes all are refused s = record { lines = s.lines; next = s.next; play = s.play; first = are (s.next ∷ s.lines) s.first; tells = record { plays = s.told.plays; lawful = s.lawful }; is_refused = s.is_refused }
+  refuses bytes all are refused s = record { lines = s.lines; next = s.next; play = s.play; first = are (s.next ∷ s.lines) s.first; tells = tells s.lines s.play s.told.answers s.told.framings s.told.bytes s.told.plays s.lawful; is_refused = s.is_refused }
 
   -- the last answer was due
   last_said : (Fault : Type 0) (bytes : List ℕ) (all : List Line) → ((lines : List Line) → IsLater lines all → AreFirst form bytes left lines) → left0 ≡ came bytes left → (refused : Refusal) → RefusedOf all refused a0 f0 a f → LastSaid refused k Fault a a'
@@ -89,7 +89,7 @@ module _ (form : Form) (k : ℕ) (left0 left a0 f0 a a' f : Option (List ℕ)) w
         answers = s.told.answers;
         framings = s.told.framings;
         first = are s.lines (s.first.0 ++ s.next ∷ [], s.first.1 ∙ sym (append_assoc s.first.0 (s.next ∷ []) s.lines));
-        tells = record { plays = s.told.plays; lawful = s.lawful };
+        tells = tells s.lines s.play s.told.answers s.told.framings s.told.bytes s.told.plays s.lawful;
         answers_begin = ([], sym (append-nil s.told.answers));
         framings_begin = ([], sym (append-nil s.told.framings));
       }))
@@ -111,10 +111,10 @@ module _ (form : Form) (k : ℕ) (left0 left a0 f0 a a' f : Option (List ℕ)) w
   pub outcome_of : (Fault : Type 0) (r : Result (Unit {0}) Stop) → HasRead left0 left (λ bytes. RunEnds form bytes left r a0 f0 a f) → Ended r k Fault a a' → Ran left0 left a0 a' f0 f (Outcome k form left)
   outcome_of Fault (Ok u) ran e =
       let d = ran.holds.1 in
-      unchanged 0 ran.bytes d.told.answers d.told.framings ran.came_is d.told.answered d.told.framed e (at_done form left ran.bytes d.told.answers d.told.framings (ran.holds.0, record { play = d.play; tells = record { plays = d.told.plays; lawful = d.lawful } }))
+      unchanged 0 ran.bytes d.told.answers d.told.framings ran.came_is d.told.answered d.told.framed e (at_done form left ran.bytes d.told.answers d.told.framings (ran.holds.0, record { play = d.play; tells = tells (all_lines form ran.bytes) d.play d.told.answers d.told.framings d.told.bytes d.told.plays d.lawful }))
   outcome_of Fault (Err ReadFault) ran e =
       let d = ran.holds in
-      unchanged 4 ran.bytes d.told.answers d.told.framings ran.came_is d.told.answered d.told.framed e (at_read_fault form left ran.bytes d.told.answers d.told.framings (record { play = d.play; tells = record { plays = d.told.plays; lawful = d.lawful } }))
+      unchanged 4 ran.bytes d.told.answers d.told.framings ran.came_is d.told.answered d.told.framed e (at_read_fault form left ran.bytes d.told.answers d.told.framings (record { play = d.play; tells = tells (whole_lines form ran.bytes) d.play d.told.answers d.told.framings d.told.bytes d.told.plays d.lawful }))
   outcome_of Fault (Err WriteFault) ran e = stopped_either Fault ran.bytes ran.came_is WriteFault ran.holds e
   outcome_of Fault (Err NoMemory) ran e = stopped_either Fault ran.bytes ran.came_is NoMemory ran.holds e
   outcome_of Fault (Err (Refused refused)) ran e = stopped_either Fault ran.bytes ran.came_is (Refused refused) ran.holds e

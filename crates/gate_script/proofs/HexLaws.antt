@@ -3,7 +3,7 @@ use Rattle.std.proofs.Common.{◌≡◌, ℕ, zero, suc, ◌+◌, ◌*◌, ◌<�
 use native.Mathlib.Numerals.{unary_clauses}
 use Rattle.std.specs.Prelude.{Option, Some, None}
 use Rattle.std.specs.Option.{option_map}
-use Rattle.gate_script.specs.Grammar.{byte_of, before_bytes, bytes_of, digit_of}
+use Rattle.gate_script.specs.Hexadecimal.{byte_of, before_bytes, bytes_of, digit_of}
 
 -- an odd number of digits writes no bytes
 pub odd_is_none : (digits : List ℕ) → length digits % 2 ≡ 1 → None ≡ bytes_of digits

@@ -22,6 +22,7 @@ use Rattle.gate_script.specs.Pieces.{first_piece, whole_pieces, all_pieces, last
 use Rattle.gate_script.specs.Lines.{Line, server, read_untold, acknowledge, done, draw_lines}
 use Rattle.gate_script.specs.Grammar.{ending, judged, total, is_start, script_lines, lines_of, most_of, whole_lines, all_lines}
 use Rattle.gate_script.specs.Running.{StoppedIn, HasDone, HasCut, LastEnds, AllDone, RunEnds, AtEndUnless, IsReady, IsReadyFor}
+use Rattle.gate_script.proofs.TakenLaws.{tells}
 use Rattle.gate_script.proofs.PieceLaws.{pieces_are_read, begun}
 use Rattle.gate_script.proofs.ReportLaws.{whole}
 use Rattle.gate_script.proofs.RunLaws.{stopped-later, all_done}
@@ -53,7 +54,7 @@ short_after lines all a0 f0 a f d more = record {
   own_a = d.told.answers;
   own_f = d.told.framings;
   first = more;
-  tells = record { plays = d.told.plays; lawful = d.lawful };
+  tells = tells lines d.play d.told.answers d.told.framings d.told.bytes d.told.plays d.lawful;
   answers_begin = whole d.told.answers;
   framings_begin = whole d.told.framings;
   answered = d.told.answered;

@@ -2,6 +2,7 @@ pub mod PieceLaws
 pub mod NumberLaws
 pub mod ReportLaws
 pub mod ShownLaws
+pub mod TakenLaws
 pub mod SessionLaws
 pub mod PlayingLaws
 pub mod ActsLaws

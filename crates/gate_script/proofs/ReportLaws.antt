@@ -1,9 +1,9 @@
 -- What was written of an answer and of a line of the frames.
-use Rattle.std.proofs.Common.{◌≡◌, ℕ, List, [], take, drop, refl, sym, ◌∙◌, Option, append-nil}
+use Rattle.std.proofs.Common.{◌≡◌, ℕ, ◌≤◌, ◌⊎◌, inl, inr, List, [], take, drop, refl, sym, ◌∙◌, Option, append-nil, arith}
 use Rattle.std.specs.Prelude.{Result, Ok, Err, IfErr}
 use Rattle.std.proofs.lemmas.List.{take-append-drop}
 use Rattle.gate_model.specs.Sequences.{BeginsWith}
-use Rattle.gate_outside.specs.Edge.{gained}
+use Rattle.gate_outside.specs.Edge.{Rose, gained}
 use Rattle.gate_outside.proofs.Moved.{gained-none}
 use Rattle.gate_script.specs.declared.stop.Stop.{Stop}
 use Rattle.gate_script.specs.declared.stop.Stop.TheVariants.{ReadFault, WriteFault, NoMemory, Refused}
@@ -41,6 +41,14 @@ said_alone answer a a' f r put = said answer [] a a' f f r (sym (gained-none f))
 pub shown_alone : (framing : List ℕ) (a f f' : Option (List ℕ)) (r : Result (Unit {0}) Stop) → Put r framing f f' → Reported r [] framing a a f f'
 shown_alone framing a f f' (Ok done) put = (sym (gained-none a), put)
 shown_alone framing a f f' (Err stop) put = not_shown [] framing a f f' stop put
+
+-- a count that rose later rose
+pub rose-earlier : (a b c : ℕ) → a ≤ b → Rose b c → Rose a c
+rose-earlier a b c le rose = omega (arith, le, rose)
+
+pub either-earlier : (a b c x y z : ℕ) → a ≤ b → x ≤ y → Rose b c ⊎ Rose y z → Rose a c ⊎ Rose x z
+either-earlier a b c x y z le le' (inl rose) = inl (rose-earlier a b c le rose)
+either-earlier a b c x y z le le' (inr rose) = inr (rose-earlier x y z le' rose)
 
 -- a cause of a fault is one of any larger causes
 pub cause-more : (S W S' W' : Type 0) (stop : Stop) → (S → S') → (W → W') → HasCause stop S W → HasCause stop S' W'

@@ -12,12 +12,13 @@ use Rattle.gate_script.specs.declared.session.Session.{Session}
 use Rattle.gate_script.specs.declared.stop.Stop.{Stop}
 use Rattle.gate_script.specs.declared.stop.Stop.TheVariants.{ReadFault, WriteFault, NoMemory, Refused}
 use Rattle.gate_script.specs.declared.refused.Refused.TheVariants.{BadLine}
-use Rattle.gate_script.specs.Lines.{Line, bad, moment, server, read_untold, acknowledge, done, draw_lines}
+use Rattle.gate_script.specs.Lines.{Line, blank, bad, moment, server, read_untold, acknowledge, done, draw_lines}
 use Rattle.gate_script.specs.Grammar.{ending, lines_of, script_lines, in_place, judged, line_of, content, most_script, most_line}
 use Rattle.gate_script.specs.Meanings.{call_meant}
 use Rattle.gate_script.specs.declared.line.Call.{Call}
-use Rattle.gate_script.specs.declared.line.Call.TheVariants.{Server, JoinOwner, Read, Write, Pixel, Same}
+use Rattle.gate_script.specs.declared.line.Call.TheVariants.{Server, JoinOwner, Read, Write, Take, Pixel, Same}
 use Rattle.gate_script.specs.Told.{answer_line}
+use Rattle.gate_script.specs.Plays.{Play}
 use Rattle.gate_script.specs.Running.{Told, At, StoppedIn, Ends, Stays, DoesLines, HasDone, IsDrawing, PieceEnds, LineEnds, LastEnds, AllDone, Put, stopped_at}
 use Rattle.gate_script.proofs.ReportLaws.{said_alone}
 use Rattle.gate_script.proofs.SessionLaws.{play, lawful, no_memory, refused_line_ends, told-more, stopped-more}
@@ -35,7 +36,7 @@ stopped-later lines all ReadFault a0 f0 a f more s = absurd s
 
 -- nothing was done
 pub nothing_done : (a0 f0 : Option (List ℕ)) → Told [] (play 0 []) a0 f0 a0 f0
-nothing_done a0 f0 = record { answers = []; framings = []; plays = (refl, refl, refl); answered = sym (gained-none a0); framed = sym (gained-none f0) }
+nothing_done a0 f0 = record { answers = []; framings = []; bytes = []; plays = (refl, refl, refl, refl); answered = sym (gained-none a0); framed = sym (gained-none f0) }
 
 module _ (lines : List Line) (now : ℕ) (a0 f0 a f : Option (List ℕ)) where
   -- a line is outside the grammar
@@ -89,6 +90,10 @@ pub in_place-moment : (opened : Bool) (now : ℕ) → in_place opened (moment no
 in_place-moment true now = refl
 in_place-moment false now = refl
 
+pub in_place-blank : (opened : Bool) → in_place opened blank ≡ blank
+in_place-blank true = refl
+in_place-blank false = refl
+
 pub in_place-bad : (opened : Bool) → in_place opened bad ≡ bad
 in_place-bad true = refl
 in_place-bad false = refl
@@ -99,8 +104,24 @@ call-unopened (Server bytes) = refl
 call-unopened JoinOwner = refl
 call-unopened (Read viewer) = refl
 call-unopened (Write viewer text) = refl
+call-unopened (Take most) = refl
 call-unopened (Pixel viewer x y) = refl
 call-unopened (Same one other) = refl
+
+-- a line without effect
+pub blank_ends : (lines : List Line) (r : Run) (a0 f0 a f : Option (List ℕ)) → DoesLines lines r a0 f0 a f → DoesLines (blank ∷ lines) r a0 f0 a f
+blank_ends lines r a0 f0 a f does = by_session r.session refl
+  where
+    more : (p : Play) → Told lines p a0 f0 a f → Told (blank ∷ lines) p a0 f0 a f
+    more p t = told-more blank lines p a0 f0 a f t p [] [] a f (record { same = refl; answered = refl; framed = refl }) (sym (gained-none a)) (sym (gained-none f))
+
+    by_session : (o : Option Session) → r.session ≡ o → DoesLines (blank ∷ lines) r a0 f0 a f
+    by_session None is =
+        let t : Told lines (play r.moment []) a0 f0 a f = subst (λ (o : Option Session). Stays lines r.moment o a0 f0 a f) is does.stays in
+        record { stays = rw is (more (play r.moment []) t); opened = does.opened }
+    by_session (Some s) is =
+        let at : At lines r.moment s a0 f0 a f = subst (λ (o : Option Session). Stays lines r.moment o a0 f0 a f) is does.stays in
+        record { stays = rw is (record { history = at.history; told = more (play r.moment at.history) at.told; stands = at.stands; shown = at.shown }); opened = does.opened }
 
 -- the moment was set
 pub moment_ends : (lines : List Line) (r r' : Run) (a0 f0 a a' f : Option (List ℕ)) (now : ℕ) → DoesLines lines r a0 f0 a f → r'.moment ≡ now → r'.session ≡ r.session → (result : Result (Unit {0}) Stop) → Put result (answer_line (codes "now") (now ∷ [])) a a'

@@ -1,23 +1,26 @@
 -- One line more: what it tells, and how a call ends that stopped in it.
-use Rattle.std.proofs.Common.{◌≡◌, ℕ, List, [], ◌∷◌, ◌++◌, length, ◌≤◌, ◌-◌, ◌+◌, Bool, true, false, inl, inr, slice_index_or, refl, ap, sym, ◌∙◌, subst, append_assoc, append-nil}
-use Rattle.std.specs.Prelude.{Result, Ok, Err, Option, Some, codes, not, ◌&&◌, ◌==◌, if◌then◌else◌, IsTrue, ◌↔◌}
+use Rattle.std.proofs.Common.{◌≡◌, ℕ, List, [], ◌∷◌, ◌++◌, length, take, drop, arith, length-take, length-drop, ◌≤◌, ◌-◌, ◌+◌, Bool, true, false, inl, inr, slice_index_or, refl, ap, sym, ◌∙◌, subst, append_assoc, append-nil}
+use Rattle.std.specs.Prelude.{Result, Ok, Err, Option, Some, min, codes, not, ◌&&◌, ◌==◌, if◌then◌else◌, IsTrue, ◌↔◌}
 use Rattle.std.proofs.lemmas.Bool.{eq-eqb}
+use Rattle.std.proofs.lemmas.List.{take_min}
+use Rattle.std.proofs.Math.ListN.{drop_of_length-le}
 use Rattle.gate_model.specs.declared.act.Act.{Act}
 use Rattle.gate_model.specs.declared.act.Act.TheVariants.{Sync as act_sync}
 use Rattle.gate_model.specs.declared.answer.Answer.{Answer}
-use Rattle.gate_model.specs.declared.answer.Answer.TheVariants.{Feed as fed, Join as joined_as, Read as was_read, Write as was_written}
+use Rattle.gate_model.specs.declared.answer.Answer.TheVariants.{Feed as fed, Join as joined_as, Read as was_read, Write as was_written, Take as was_taken}
 use Rattle.gate_model.specs.declared.how.How.TheVariants.{Suffix}
 use Rattle.gate_model.specs.declared.instr.Instr.{Instr}
 use Rattle.gate_model.specs.declared.sharing.Asked.TheVariants.{Owner}
 use Rattle.gate_model.specs.declared.sharing.Role.{Role}
 use Rattle.gate_model.specs.declared.sharing.Share.{Share}
 use Rattle.gate_model.specs.declared.entry.Entry.{Entry}
-use Rattle.gate_model.specs.declared.entry.Entry.TheVariants.{Start, Feed, Join, Read, Write}
+use Rattle.gate_model.specs.declared.entry.Entry.TheVariants.{Start, Feed, Join, Read, Write, Take}
 use Rattle.gate_model.specs.declared.event.Event.{Event}
 use Rattle.gate_model.specs.declared.event.Event.TheVariants.{Feed as feed, Join as join_in, Read as read_as, Write as write_acts}
 use Rattle.gate_model.specs.declared.joined.Joined.{Joined}
+use Rattle.gate_model.specs.declared.taken.Taken.{Taken}
 use Rattle.gate_model.specs.declared.written.Written.{Written}
-use Rattle.gate_model.specs.declared.feed_refusal.FeedRefusal.TheVariants.{Worn as feed_worn, Unbuilt as feed_unbuilt}
+use Rattle.gate_model.specs.declared.feed_refusal.FeedRefusal.TheVariants.{Worn as feed_worn}
 use Rattle.gate_model.specs.declared.join_refusal.JoinRefusal.TheVariants.{Worn as join_worn}
 use Rattle.gate_model.specs.declared.read_answer.ReadAnswer.{ReadAnswer}
 use Rattle.gate_model.specs.declared.read_answer.ReadAnswer.TheVariants.{Frames, Fresh, Ended, Empty, Hold}
@@ -29,6 +32,7 @@ use Rattle.gate_model.specs.Sequences.{BeginsWith}
 use Rattle.gate_model.specs.Text.{texts}
 use Rattle.gate_model.specs.History.{History, joined, newest, newest_frame, next_stamp, is_closed, is_full}
 use Rattle.gate_model.specs.Delivered.{delivered, given, position}
+use Rattle.gate_model.specs.Output.{out, taken, untaken}
 use Rattle.gate_model.specs.Rights.{is_live}
 use Rattle.gate_model.specs.Refusals.{first_of, only_if, read_stop}
 use Rattle.gate_model.specs.Calls.{FeedStep, JoinStep, ReadStep, WriteStep, Step}
@@ -36,18 +40,19 @@ use Rattle.gate_model.proofs.Truth.{faithful}
 use Rattle.gate_outside.specs.Edge.{gained}
 use Rattle.gate_outside.proofs.Moved.{gained-none, gained-gained}
 use Rattle.desk_core.specs.Desk.{DeskState, Stands}
-use Rattle.desk_core.specs.Calls.{Opened, FeedEnds, JoinEnds, ReadEnds, WriteEnds, OnNothing}
+use Rattle.desk_core.specs.Calls.{Opened, FeedEnds, JoinEnds, ReadEnds, WriteEnds, Hands, OnNothing}
 use Rattle.gate_script.specs.declared.refused.Refused.{Refused as Refusal}
-use Rattle.gate_script.specs.declared.refused.Refused.TheVariants.{BadLine, Worn, Unbuilt}
+use Rattle.gate_script.specs.declared.refused.Refused.TheVariants.{BadLine, Worn}
 use Rattle.gate_script.specs.declared.size.Size.{Size}
 use Rattle.gate_script.specs.declared.stop.Stop.{Stop}
 use Rattle.gate_script.specs.declared.stop.Stop.TheVariants.{ReadFault, WriteFault, NoMemory, Refused}
-use Rattle.gate_script.specs.Lines.{Line, start, server, join, read, write, read_untold, acknowledge, done}
-use Rattle.gate_script.specs.Told.{answer_line, answer_to, frames_line, framings, joined_line, read_told, refused_line, written_line, write_answer, pixel_line, same_line, differ_line}
+use Rattle.gate_script.specs.Lines.{Line, start, server, join, read, write, take_up_to, read_untold, acknowledge, done}
+use Rattle.gate_script.specs.Told.{answer_line, answer_to, frames_line, framings, joined_line, read_told, refused_line, written_line, write_answer, pixel_line, same_line, differ_line, took_line}
 use Rattle.gate_script.specs.Plays.{Play, Plays, Does, Calls, Answers, Untold, IsLawful, setup_of, seen, pixel_answer, Compares}
 use Rattle.gate_script.specs.Outcomes.{IsRefused}
 use Rattle.gate_script.specs.Running.{Told, At, AreShown, PlaysOn, ShortOf, StoppedIn, Ends, Fronts, Reported, Put, read_shown, stopped_at}
 use Rattle.gate_script.proofs.ReportLaws.{said_alone, shown_alone, whole}
+use Rattle.gate_script.proofs.TakenLaws.{printed, tells}
 use Rattle.gate_script.proofs.ShownLaws.{shown_none, shown_plain, shown_join, shown_read, shown_still, given_by_join, there, both, numbered, canvas_shows}
 use Rattle.canvas.specs.Kept.{KeptLayer}
 use Rattle.canvas.specs.Standing.{Stands as stands_for, dot_at}
@@ -74,14 +79,17 @@ gained-more : (o a a' : Option (List ℕ)) (xs ys : List ℕ) → a ≡ gained o
 gained-more o a a' xs ys p q = q ∙ (ap (λ (x : Option (List ℕ)). gained x ys) p ∙ gained-gained o xs ys)
 
 module _ (line : Line) (lines : List Line) (p : Play) (a0 f0 a f : Option (List ℕ)) (t : Told lines p a0 f0 a f) where
-  plays-more : (q : Play) (answer shown : List ℕ) → Does line p q answer shown → Plays (line ∷ lines) q (t.answers ++ answer) (t.framings ++ shown)
-  plays-more q answer shown does = (p, t.answers, t.framings, t.plays, record { own_a = answer; own_f = shown; does = does; answered = refl; framed = refl })
+  plays-more : (q : Play) (answer shown : List ℕ) → (does : Does line p q answer shown) → Plays (line ∷ lines) q (t.answers ++ answer) (t.framings ++ shown) (t.bytes ++ (printed line p q answer shown does).0)
+  plays-more q answer shown does =
+      let w = printed line p q answer shown does in
+      (p, t.answers, t.framings, t.bytes, t.plays, record { own_a = answer; own_f = shown; own_bytes = w.0; does = does; prints = w.1; answered = refl; framed = refl; joined = refl })
 
   -- the line was done, and all of it told
   pub told-more : (q : Play) (answer shown : List ℕ) (a' f' : Option (List ℕ)) → Does line p q answer shown → a' ≡ gained a answer → f' ≡ gained f shown → Told (line ∷ lines) q a0 f0 a' f'
   told-more q answer shown a' f' does answered framed = record {
     answers = t.answers ++ answer;
     framings = t.framings ++ shown;
+    bytes = t.bytes ++ (printed line p q answer shown does).0;
     plays = plays-more q answer shown does;
     answered = gained-more a0 a a' t.answers answer t.answered answered;
     framed = gained-more f0 f f' t.framings shown t.framed framed;
@@ -97,7 +105,7 @@ module _ (line : Line) (lines : List Line) (p : Play) (a0 f0 a f : Option (List 
     own_a = t.answers ++ w.own_a;
     own_f = t.framings ++ w.own_f;
     first = ([], refl);
-    tells = record { plays = plays-more q answer shown does; lawful = is_lawful };
+    tells = tells (line ∷ lines) q (t.answers ++ answer) (t.framings ++ shown) (t.bytes ++ (printed line p q answer shown does).0) (plays-more q answer shown does) is_lawful;
     answers_begin = begins-more t.answers answer w.own_a w.answer_begins;
     framings_begin = begins-more t.framings shown w.own_f w.framing_begins;
     answered = gained-more a0 a a' t.answers w.own_a t.answered w.answered;
@@ -120,7 +128,7 @@ module _ (line : Line) (lines : List Line) (p : Play) (a0 f0 a f : Option (List 
     own_a = t.answers;
     own_f = t.framings;
     first = (line ∷ [], refl);
-    tells = record { plays = t.plays; lawful = is_lawful };
+    tells = tells lines p t.answers t.framings t.bytes t.plays is_lawful;
     answers_begin = whole t.answers;
     framings_begin = whole t.framings;
     answered = t.answered;
@@ -158,6 +166,14 @@ framed-join h e v role first is = rw is (ap (λ (b : Bool). frames_line v (texts
 
 framed-read : (h : History) (e : Entry) (v : ℕ) → e ≡ Read v Suffix → frames_line v (texts (given h (delivered h v) v e)) ≡ framings h (e ∷ [])
 framed-read h e v is = rw is (sym (append-nil (frames_line v (texts (given h (delivered h v) v (Read v Suffix))))))
+
+framed-take : (h : History) (count : ℕ) (none : Bool) → [] ≡ framings h (if none then [] else Take count ∷ [])
+framed-take h count true = refl
+framed-take h count false = refl
+
+shown-take : (cs : List (List KeptLayer)) (h : History) (count : ℕ) (none : Bool) → AreShown cs h → AreShown cs ((if none then [] else Take count ∷ []) ++ h)
+shown-take cs h count true a = a
+shown-take cs h count false a = shown_plain cs h (Take count) a refl (λ v. refl)
 
 framed-write : (h : History) (e : Entry) (v : ℕ) (acts : List Act) → e ≡ Write v acts → [] ≡ framings h (e ∷ [])
 framed-write h e v acts is = rw is refl
@@ -208,9 +224,6 @@ module _ (lines : List Line) (now : ℕ) (s : Session) (a0 f0 a f : Option (List
 
   pub feed_is_worn : (bytes : List ℕ) (entries : ℕ) → FeedStep at.history bytes now (Err (feed_worn entries)) [] → IsRefused (Worn entries) (server bytes) lines p
   feed_is_worn bytes entries step = (fed (Err (feed_worn entries)), record { event = feed bytes now; makes = refl; step = step }, refl)
-
-  pub feed_is_unbuilt : (bytes : List ℕ) (place : ℕ) → FeedStep at.history bytes now (Err (feed_unbuilt place)) [] → IsRefused (Unbuilt place) (server bytes) lines p
-  feed_is_unbuilt bytes place step = (fed (Err (feed_unbuilt place)), record { event = feed bytes now; makes = refl; step = step }, refl)
 
   -- the owner joined
   pub owner_joined : (given_ : Joined) (n : Session) (before text : List ℕ) (canvas : List KeptLayer) → before ≡ [] → JoinEnds at.history Owner (Ok given_) n.desk before text → ((is : List Instr) → AreReadable is → text ≡ texts is → stands_for canvas (draw nothing is)) → n.canvases.items ≡ s.canvases.items ++ canvas ∷ [] → (a' f' : Option (List ℕ)) (r : Result (Unit {0}) Stop)
@@ -386,6 +399,29 @@ module _ (lines : List Line) (now : ℕ) (s : Session) (a0 f0 a f : Option (List
   -- a text with too many instructions ends the run
   pub too_long : (viewer : ℕ) (text : List ℕ) (stop : Stop) → IsReading text TooMany → stop ≡ stopped_at (length lines + 1) → StoppedIn (write viewer text ∷ lines) stop a0 f0 a f
   too_long viewer text stop is_reading is = subst (λ (x : Stop). StoppedIn (write viewer text ∷ lines) x a0 f0 a f) (sym is) (refuses (write viewer text) (BadLine (length lines + 1)) (inr is_reading, refl))
+
+  -- bytes were taken for the host, and filled the buffer
+  pub bytes_taken : (most : ℕ) (before after : List ℕ) (given_ : Taken) (n : Session) → length before ≡ min (length (out at.history) - taken at.history) most → Hands at.history before given_ n.desk after → n.canvases.items ≡ s.canvases.items
+      → (a' : Option (List ℕ)) (r : Result (Unit {0}) Stop) → Put r (took_line after) a a' → Ends (take_up_to most ∷ lines) now r n a0 f0 a' f
+  bytes_taken most before after given_ n sized hands same a' r put =
+      let waiting : List ℕ = untaken at.history in
+      let size : length before ≡ min most (length waiting) = omega (arith, sized, length-drop (taken at.history) (out at.history)) in
+      let filled : hands.bytes ≡ take most waiting = hands.step.hands ∙ (ap (λ (k : ℕ). take k waiting) size ∙ take_min most waiting) in
+      let over : drop (length hands.bytes) before ≡ [] = drop_of_length-le before (omega (arith, size, ap length filled, length-take most waiting)) in
+      let all : after ≡ hands.bytes = hands.handed ∙ (ap (λ (l : List ℕ). hands.bytes ++ l) over ∙ append-nil hands.bytes) in
+      let none : Bool = length hands.bytes == 0 in
+      line_ends (take_up_to most) lines p now (hands.added ++ at.history) n a0 f0 a a' f f (took_line after) [] at.told
+      (record {
+        result = was_taken hands.bytes given_.closed;
+        added = hands.added;
+        step = record { hands = filled; closes = hands.step.closes; adds = hands.step.adds };
+        told = ap (λ (l : List ℕ). Some (took_line l)) (sym all);
+        after_it = refl;
+        framed = subst (λ (es : List Entry). [] ≡ framings at.history es) (sym hands.step.adds) (framed-take at.history (length hands.bytes) none);
+      })
+      hands.stands
+      (subst (λ (cs : List (List KeptLayer)). AreShown cs (hands.added ++ at.history)) (sym same) (subst (λ (es : List Entry). AreShown s.canvases.items (es ++ at.history)) (sym hands.step.adds) (shown-take s.canvases.items at.history (length hands.bytes) none at.shown))) r
+      (said_alone (took_line after) a a' f r put)
 
   -- what a viewer who is there sees at a place
   pub pixel_told : (viewer x y : ℕ) (dot : Dot) (cs : List (List KeptLayer)) → cs ≡ s.canvases.items → true ≡ is_there viewer (length cs) → ((m : Layers) → stands_for (slice_index_or cs (viewer - 1) []) m → dot ≡ dot_at (m visible) x y) → pixel_line dot ≡ pixel_answer at.history viewer x y

@@ -1,6 +1,6 @@
 -- What a script's line says (this project's own). Words are separated by one blank, which is a space or
 -- a tab.
-use Rattle.std.specs.Prelude.{ℕ, ◌+◌, ◌-◌, ◌*◌, ◌^◌, List, [], ◌∷◌, length, take, drop, Bool, true, false, ◌&&◌, ◌||◌, ◌==◌, nat_le, nat_lt, if◌then◌else◌, Option, Some, None, option_and_then, codes, bytes_eq}
+use Rattle.std.specs.Prelude.{ℕ, ◌+◌, ◌-◌, ◌^◌, List, [], ◌∷◌, length, take, drop, Bool, true, false, ◌&&◌, ◌||◌, ◌==◌, nat_le, nat_lt, if◌then◌else◌, Option, Some, None, option_and_then, codes, bytes_eq}
 use Rattle.std.specs.List.{position_or_len, list_any, ends_with}
 use Rattle.gate_model.specs.declared.sharing.Asked.TheVariants.{Owner}
 use Rattle.gate_model.specs.declared.sharing.Share.{Share}
@@ -10,9 +10,10 @@ use Rattle.gate_script.specs.declared.form.Form.{Form}
 use Rattle.gate_script.specs.declared.form.Form.TheVariants.{Draw, Script}
 use Rattle.gate_script.specs.declared.size.Size.{Size}
 use Rattle.gate_script.specs.Numbers.{number_up_to}
+use Rattle.gate_script.specs.Hexadecimal.{bytes_of}
 use Rattle.gate_script.specs.Words.{size_of}
 use Rattle.gate_script.specs.Pieces.{whole_pieces, all_pieces}
-use Rattle.gate_script.specs.Lines.{Line, blank, bad, moment, start, server, join, read, write, pixel, same, done, draw_lines}
+use Rattle.gate_script.specs.Lines.{Line, blank, bad, moment, start, server, join, read, write, take_up_to, pixel, same, done, draw_lines}
 use Rattle.std.specs.Prelude.{reverse}
 
 -- the most bytes of a line without its end, and of a script
@@ -21,6 +22,10 @@ most_line = 262144
 
 abbrev pub most_script : ℕ
 most_script = 67108864
+
+-- the most bytes of a take
+abbrev pub most_taken : ℕ
+most_taken = 65536
 
 abbrev pub is_blank : ℕ → Bool
 is_blank b = b == 32 || b == 9
@@ -31,27 +36,6 @@ first_word text = take (position_or_len is_blank text) text
 
 abbrev pub behind_word : List ℕ → Option (List ℕ)
 behind_word text = if nat_lt (position_or_len is_blank text) (length text) then Some (drop (position_or_len is_blank text + 1) text) else None
-
--- a hexadecimal digit of either case
-abbrev pub digit_of : ℕ → Option ℕ
-digit_of b =
-    if nat_le 48 b && nat_le b 57 then Some (b - 48) else (
-    if nat_le 65 b && nat_le b 70 then Some (b - 55) else (
-    if nat_le 97 b && nat_le b 102 then Some (b - 87) else None))
-
-abbrev pub byte_of : Option ℕ → Option ℕ → Option ℕ
-byte_of (Some high) (Some low) = Some (16 * high + low)
-byte_of high low = None
-
-abbrev pub before_bytes : Option ℕ → Option (List ℕ) → Option (List ℕ)
-before_bytes (Some b) (Some bs) = Some (b ∷ bs)
-before_bytes b bs = None
-
--- the bytes that pairs of hexadecimal digits write
-abbrev pub bytes_of : List ℕ → Option (List ℕ)
-bytes_of [] = Some []
-bytes_of (high ∷ []) = None
-bytes_of (high ∷ low ∷ digits) = before_bytes (byte_of (digit_of high) (digit_of low)) (bytes_of digits)
 
 -- 1 to 65,536 bytes
 abbrev pub served : Option (List ℕ) → Line
@@ -70,6 +54,11 @@ reading (Some viewer) = read viewer
 abbrev pub writing : Option ℕ → Option (List ℕ) → Line
 writing (Some viewer) (Some text) = write viewer text
 writing viewer text = bad
+
+-- `take M`
+abbrev pub taking : Option ℕ → Line
+taking None = bad
+taking (Some most) = take_up_to most
 
 -- `pixel N X Y`
 abbrev pub looking : Option ℕ → Option ℕ → Option ℕ → Line
@@ -116,8 +105,9 @@ meant entries name text =
     if bytes_eq name (codes "join") then joining text else (
     if bytes_eq name (codes "read") then reading (number_up_to (2 ^ 32 - 1) text) else (
     if bytes_eq name (codes "write") then writing (number_up_to (2 ^ 32 - 1) (first_word text)) (behind_word text) else (
+    if bytes_eq name (codes "take") then taking (number_up_to most_taken text) else (
     if bytes_eq name (codes "pixel") then pixel_place (first_word text) (behind_word text) else (
-    if bytes_eq name (codes "same") then comparing (number_up_to (2 ^ 32 - 1) (first_word text)) (option_and_then (number_up_to (2 ^ 32 - 1)) (behind_word text)) else bad)))))))
+    if bytes_eq name (codes "same") then comparing (number_up_to (2 ^ 32 - 1) (first_word text)) (option_and_then (number_up_to (2 ^ 32 - 1)) (behind_word text)) else bad))))))))
 
 abbrev pub by_word : ℕ → List ℕ → Option (List ℕ) → Line
 by_word entries name None = bad
@@ -146,6 +136,7 @@ in_place false (server bytes) = bad
 in_place false (join asked) = bad
 in_place false (read viewer) = bad
 in_place false (write viewer text) = bad
+in_place false (take_up_to most) = bad
 in_place false (pixel viewer x y) = bad
 in_place false (same one other) = bad
 in_place opened line = line

@@ -1,8 +1,9 @@
--- In reading order: numbers, the words, the pieces of the input, a script's line, what lines do and
--- tell, how a run ends.
+-- In reading order: numbers, the words, the pieces of the input, hexadecimal digits, a script's line, what
+-- lines do and tell, how a run ends.
 pub mod Numbers
 pub mod Words
 pub mod Pieces
+pub mod Hexadecimal
 pub mod Lines
 pub mod Grammar
 pub mod Acts

@@ -7,14 +7,14 @@ use Rattle.gate_model.specs.Calls.{Step}
 use Rattle.gate_outside.specs.Edge.{AtEnd, came, gained}
 use Rattle.gate_script.specs.declared.form.Form.{Form}
 use Rattle.gate_script.specs.declared.refused.Refused.{Refused}
-use Rattle.gate_script.specs.declared.refused.Refused.TheVariants.{BadLine, Worn, Unbuilt}
+use Rattle.gate_script.specs.declared.refused.Refused.TheVariants.{BadLine, Worn}
 use Rattle.gate_model.specs.declared.act.Act.{Act}
 use Rattle.gate_model.specs.declared.event.Event.TheVariants.{Write as write_acts}
 use Rattle.gate_script.specs.declared.reading.Reading.TheVariants.{Whole, TooMany}
 use Rattle.gate_script.specs.Acts.{IsReading}
 use Rattle.gate_script.specs.Lines.{Line, bad, write}
 use Rattle.gate_script.specs.Grammar.{whole_lines, all_lines}
-use Rattle.gate_script.specs.Told.{bad_line, worn_line, unbuilt_line, worn_by, unbuilt_by}
+use Rattle.gate_script.specs.Told.{bad_line, worn_line, worn_by}
 use Rattle.gate_script.specs.Plays.{Play, event_of, Tells}
 
 -- the lines are some first lines of what the bytes read make: of the whole pieces, or at the end of the
@@ -48,18 +48,16 @@ pub record Answered (line : Line) (p : Play) (result : Answer) : Type 0 where
   pub makes : Makes line p event
   pub step : Step p.history event result []
 
--- why the next line ended the run: it is outside the grammar, and this is its number; the session is
--- full, and has so many entries; or a byte at this place has no meaning
+-- why the next line ended the run: it is outside the grammar, and this is its number; or the session is
+-- full, and has so many entries
 abbrev pub IsRefused : Refused → Line → List Line → Play → Type 0
 IsRefused (BadLine number) line lines p = ((line ≡ bad) ⊎ IsTooLong line) × (number ≡ length lines + 1)
 IsRefused (Worn entries) line lines p = (result : Answer) × Answered line p result × (worn_by result ≡ Some entries)
-IsRefused (Unbuilt place) line lines p = (result : Answer) × Answered line p result × (unbuilt_by result ≡ Some place)
 
 -- the last answer then
 abbrev pub last_line : Refused → List ℕ
 last_line (BadLine number) = bad_line number
 last_line (Worn entries) = worn_line entries
-last_line (Unbuilt place) = unbuilt_line place
 
 -- the next line was refused after these, of which all was written
 pub record Refuses (form : Form) (bytes a f : List ℕ) (left : Option (List ℕ)) (refused : Refused) : Type 0 where
@@ -109,7 +107,7 @@ pub record Ran (left left' wrote wrote' framed framed' : Option (List ℕ)) (P :
 
 -- the statuses of a run
 abbrev pub IsStatus : ℕ → Type 0
-IsStatus status = (status ≡ 0) ⊎ (status ≡ 3) ⊎ (status ≡ 4) ⊎ (status ≡ 5) ⊎ (status ≡ 6) ⊎ (status ≡ 7) ⊎ (status ≡ 9)
+IsStatus status = (status ≡ 0) ⊎ (status ≡ 3) ⊎ (status ≡ 4) ⊎ (status ≡ 5) ⊎ (status ≡ 6) ⊎ (status ≡ 7)
 
 -- what each status says of the bytes read, the answers and the frames
 pub record Outcome (status : ℕ) (form : Form) (left : Option (List ℕ)) (bytes a f : List ℕ) : Type 0 where
@@ -119,5 +117,4 @@ pub record Outcome (status : ℕ) (form : Form) (left : Option (List ℕ)) (byte
   pub write_fault : status ≡ 5 → WriteFault form bytes a f left
   pub memory : status ≡ 6 → CutShort form bytes a f left
   pub worn : status ≡ 7 → (entries : ℕ) × Ends form bytes a f left (Worn entries)
-  pub unbuilt : status ≡ 9 → (place : ℕ) × Ends form bytes a f left (Unbuilt place)
   pub only : IsStatus status

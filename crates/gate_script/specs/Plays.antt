@@ -1,11 +1,11 @@
 -- What lines do: from the moment and the history before to those after, with what they tell (this
 -- project's own). The history has the newest entry first, and is empty before `start`.
-use Rattle.std.specs.Prelude.{◌≡◌, ℕ, List, [], ◌∷◌, ◌++◌, true, false, ◌&&◌, if◌then◌else◌, ◌⊎◌, codes, Option, Some, None, Result}
+use Rattle.std.specs.Prelude.{◌≡◌, ℕ, List, [], ◌∷◌, ◌++◌, take, true, false, ◌&&◌, if◌then◌else◌, ◌⊎◌, codes, Option, Some, None, Result}
 use Rattle.gate_model.specs.declared.act.Act.TheVariants.{Sync as act_sync}
 use Rattle.gate_model.specs.declared.answer.Answer.{Answer}
 use Rattle.gate_model.specs.declared.entry.Entry.{Entry}
 use Rattle.gate_model.specs.declared.event.Event.{Event}
-use Rattle.gate_model.specs.declared.event.Event.TheVariants.{Feed as feed, Join as join_in, Read as read_as, Write as write_acts}
+use Rattle.gate_model.specs.declared.event.Event.TheVariants.{Feed as feed, Join as join_in, Read as read_as, Write as write_acts, Take as take_most}
 use Rattle.gate_model.specs.declared.setup.Setup.{Setup}
 use Rattle.gate_model.specs.declared.sharing.Share.{Share}
 use Rattle.gate_model.specs.declared.act.Act.{Act}
@@ -14,6 +14,7 @@ use Rattle.gate_model.specs.declared.write_refusal.WriteRefusal.{WriteRefusal}
 use Rattle.gate_model.specs.Layers.{Layers, Same, draw, nothing, visible}
 use Rattle.gate_model.specs.History.{History, newest, next_stamp}
 use Rattle.gate_model.specs.Delivered.{delivered}
+use Rattle.gate_model.specs.Output.{out, taken}
 use Rattle.gate_model.specs.Rights.{is_live}
 use Rattle.canvas.specs.Standing.{dot_at}
 use Rattle.gate_script.specs.declared.reading.Reading.{Reading}
@@ -23,8 +24,8 @@ use Rattle.gate_model.specs.Steps.{Legal}
 use Rattle.gate_model.specs.Calls.{StartStep, Step, WriteStep}
 use Rattle.gate_model.specs.Truth.{Faithful}
 use Rattle.gate_script.specs.declared.size.Size.{Size}
-use Rattle.gate_script.specs.Lines.{Line, blank, bad, moment, start, server, join, read, write, pixel, same, read_untold, acknowledge, done}
-use Rattle.gate_script.specs.Told.{answer_line, answer_to, framings, refused_line, text_answer, cut_line, bad_text_line, pixel_line, same_line, differ_line}
+use Rattle.gate_script.specs.Lines.{Line, blank, bad, moment, start, server, join, read, write, take_up_to, pixel, same, read_untold, acknowledge, done}
+use Rattle.gate_script.specs.Told.{answer_line, answer_to, framings, refused_line, text_answer, cut_line, bad_text_line, pixel_line, same_line, differ_line, took_line}
 
 pub record Play : Type 0 where
   pub now : ℕ
@@ -97,6 +98,7 @@ abbrev pub event_of : Line → Play → Option Event
 event_of (server bytes) p = Some (feed bytes p.now)
 event_of (join asked) p = Some (join_in asked)
 event_of (read viewer) p = Some (read_as viewer)
+event_of (take_up_to most) p = Some (take_most most)
 event_of (read_untold viewer) p = Some (read_as viewer)
 event_of (acknowledge viewer) p = Some (write_acts viewer (act_sync (newest p.history) ∷ []))
 event_of line p = None
@@ -117,31 +119,43 @@ Does (server bytes) p q a f = Calls (feed bytes p.now) p q a f
 Does (join asked) p q a f = Calls (join_in asked) p q a f
 Does (read viewer) p q a f = Calls (read_as viewer) p q a f
 Does (write viewer text) p q a f = (reading : Reading) × IsReading text reading × DoesReading reading viewer p q a f
+Does (take_up_to most) p q a f = Calls (take_most most) p q a f
 Does (pixel viewer x y) p q a f = Answers p q (pixel_answer p.history viewer x y) a f
 Does (same one other) p q a f = (answer : List ℕ) × Compares p.history one other answer × Answers p q answer a f
 Does (read_untold viewer) p q a f = Untold (read_as viewer) p q a f
 Does (acknowledge viewer) p q a f = Untold (write_acts viewer (act_sync (newest p.history) ∷ [])) p q a f
 Does done p q a f = Answers p q (answer_line (codes "done") (newest p.history ∷ [])) a f
 
--- a line after some lines, which led to p and told a and f
-pub record Then (line : Line) (p q : Play) (before_a before_f a f : List ℕ) : Type 0 where
+-- the bytes that an answer prints, where it is that of a take
+abbrev pub Prints : Line → List ℕ → List ℕ → Type 0
+Prints (take_up_to most) a bytes = a ≡ took_line bytes
+Prints line a bytes = bytes ≡ []
+
+-- a line after some lines, which led to p, told `before_a` and `before_f`, and printed `before_bytes`
+pub record Then (line : Line) (p q : Play) (before_a before_f before_bytes a f bytes : List ℕ) : Type 0 where
   pub own_a : List ℕ
   pub own_f : List ℕ
+  pub own_bytes : List ℕ
   pub does : Does line p q own_a own_f
+  pub prints : Prints line own_a own_bytes
   pub answered : a ≡ before_a ++ own_a
   pub framed : f ≡ before_f ++ own_f
+  pub joined : bytes ≡ before_bytes ++ own_bytes
 
--- lines, the newest first, from the opening on
-abbrev pub Plays : List Line → Play → List ℕ → List ℕ → Type 0
-Plays [] q a f = (q ≡ opening) × (a ≡ []) × (f ≡ [])
-Plays (line ∷ lines) q a f = (p : Play) × (before_a before_f : List ℕ) × Plays lines p before_a before_f × Then line p q before_a before_f a f
+-- lines, the newest first, from the opening on: what they tell, and the bytes that their takes print
+abbrev pub Plays : List Line → Play → List ℕ → List ℕ → List ℕ → Type 0
+Plays [] q a f bytes = (q ≡ opening) × (a ≡ []) × (f ≡ []) × (bytes ≡ [])
+Plays (line ∷ lines) q a f bytes = (p : Play) × (before_a before_f before_bytes : List ℕ) × Plays lines p before_a before_f before_bytes × Then line p q before_a before_f before_bytes a f bytes
 
 -- a history that is legal and true; before `start` it is empty
 abbrev pub IsLawful : History → Type 0
 IsLawful [] = Unit {0}
 IsLawful (e ∷ g) = Legal (e ∷ g) × Faithful (e ∷ g)
 
--- the lines were done, and told a and f; the history is legal and true
+-- the lines were done, and told a and f; the history is legal and true; and the bytes that the takes
+-- print are, joined, the first ones that the history sends to the host, as many as it took
 pub record Tells (lines : List Line) (p : Play) (a f : List ℕ) : Type 0 where
-  pub plays : Plays lines p a f
+  pub bytes : List ℕ
+  pub plays : Plays lines p a f bytes
   pub lawful : IsLawful p.history
+  pub sent_on : bytes ≡ take (taken p.history) (out p.history)

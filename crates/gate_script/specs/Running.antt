@@ -20,7 +20,7 @@ use Rattle.canvas.specs.Standing.{Stands as stands_for}
 use Rattle.gate_script.specs.declared.form.Form.{Form}
 use Rattle.gate_script.specs.declared.form.Form.TheVariants.{Draw, Script}
 use Rattle.gate_script.specs.declared.refused.Refused.{Refused as Refusal}
-use Rattle.gate_script.specs.declared.refused.Refused.TheVariants.{BadLine, Worn, Unbuilt}
+use Rattle.gate_script.specs.declared.refused.Refused.TheVariants.{BadLine, Worn}
 use Rattle.gate_script.specs.declared.stop.Stop.{Stop}
 use Rattle.gate_script.specs.declared.stop.Stop.TheVariants.{ReadFault, WriteFault, NoMemory, Refused}
 use Rattle.gate_script.specs.declared.session.Session.{Session}
@@ -38,7 +38,8 @@ use Rattle.gate_script.specs.Outcomes.{IsRefused, last_line}
 pub record Told (lines : List Line) (p : Play) (a0 f0 a f : Option (List ℕ)) : Type 0 where
   pub answers : List ℕ
   pub framings : List ℕ
-  pub plays : Plays lines p answers framings
+  pub bytes : List ℕ
+  pub plays : Plays lines p answers framings bytes
   pub answered : a ≡ gained a0 answers
   pub framed : f ≡ gained f0 framings
 
@@ -250,7 +251,6 @@ status_after (Err stop) status = 6
 abbrev pub refused_status : Refusal → ℕ
 refused_status (BadLine number) = 3
 refused_status (Worn entries) = 7
-refused_status (Unbuilt place) = 9
 
 -- the last answer was written and the status is its own; or its sink failed, or no memory was found
 abbrev pub LastSaid : Refusal → ℕ → Type 0 → Option (List ℕ) → Option (List ℕ) → Type 0

@@ -1,11 +1,11 @@
 -- What is printed: the answers to calls, and the frames (this project's own).
 use Rattle.std.specs.Prelude.{ℕ, List, [], ◌∷◌, ◌++◌, codes, decimal, flat_map, Option, Some, None, Result, Ok, Err}
 use Rattle.gate_model.specs.declared.answer.Answer.{Answer}
-use Rattle.gate_model.specs.declared.answer.Answer.TheVariants.{Feed as fed, Join as joined_as, Read as was_read, Write as was_written}
+use Rattle.gate_model.specs.declared.answer.Answer.TheVariants.{Feed as fed, Join as joined_as, Read as was_read, Write as was_written, Take as was_taken}
 use Rattle.gate_model.specs.declared.entry.Entry.{Entry}
 use Rattle.gate_model.specs.declared.entry.Entry.TheVariants.{Start, Feed, Join, Read}
 use Rattle.gate_model.specs.declared.feed_refusal.FeedRefusal.{FeedRefusal}
-use Rattle.gate_model.specs.declared.feed_refusal.FeedRefusal.TheVariants.{Closed as feed_closed, Worn as feed_worn, Unbuilt as feed_unbuilt}
+use Rattle.gate_model.specs.declared.feed_refusal.FeedRefusal.TheVariants.{Closed as feed_closed, Worn as feed_worn}
 use Rattle.gate_model.specs.declared.join_refusal.JoinRefusal.{JoinRefusal}
 use Rattle.gate_model.specs.declared.join_refusal.JoinRefusal.TheVariants.{Closed as join_closed, Worn as join_worn, Forbidden, TooMany as too_many_viewers}
 use Rattle.gate_model.specs.declared.joined.Joined.{Joined}
@@ -24,6 +24,7 @@ use Rattle.canvas.specs.declared.dot.Dot.{Dot}
 use Rattle.canvas.specs.declared.dot.Dot.TheVariants.{Outside, Clear, Painted}
 use Rattle.gate_model.specs.History.{History}
 use Rattle.gate_model.specs.Delivered.{delivered, given}
+use Rattle.gate_script.specs.Hexadecimal.{digits_of}
 
 abbrev pub blank_and : ℕ → List ℕ
 blank_and n = 32 ∷ decimal n
@@ -74,11 +75,20 @@ write_answer (Err write_no_viewer) = Some (refused_line 516)
 write_answer (Err (write_closed cause)) = Some (refused_line 523)
 write_answer (Err refusal) = None
 
+-- the bytes that a take handed out, or a dash where there were none
+abbrev pub taken_text : List ℕ → List ℕ
+taken_text [] = codes "-"
+taken_text (b ∷ bytes) = digits_of (b ∷ bytes)
+
+abbrev pub took_line : List ℕ → List ℕ
+took_line bytes = codes "took " ++ taken_text bytes ++ 10 ∷ []
+
 abbrev pub answer_to : Answer → Option (List ℕ)
 answer_to (fed result) = feed_answer result
 answer_to (joined_as result) = join_answer result
 answer_to (was_read result) = read_answer result
 answer_to (was_written result) = write_answer result
+answer_to (was_taken bytes closed) = Some (took_line bytes)
 answer_to answer = None
 
 -- how many entries a full session has, where the call was refused for that
@@ -88,11 +98,6 @@ worn_by (joined_as (Err (join_worn entries))) = Some entries
 worn_by (was_read (Err (read_worn entries))) = Some entries
 worn_by (was_written (Err (write_worn entries))) = Some entries
 worn_by answer = None
-
--- the place of a byte without a meaning, where the call was refused for it
-abbrev pub unbuilt_by : Answer → Option ℕ
-unbuilt_by (fed (Err (feed_unbuilt place))) = Some place
-unbuilt_by answer = None
 
 -- the frame that an entry after g made, or what it gave a viewer
 abbrev pub framing : History → Entry → List ℕ
@@ -142,12 +147,9 @@ same_line = answer_line (codes "same") []
 abbrev pub differ_line : List ℕ
 differ_line = answer_line (codes "differ") []
 
--- the last answers: a line outside the grammar, a full session, a byte without a meaning
+-- the last answers: a line outside the grammar, a full session
 abbrev pub bad_line : ℕ → List ℕ
 bad_line number = answer_line (codes "bad script line") (number ∷ [])
 
 abbrev pub worn_line : ℕ → List ℕ
 worn_line count = answer_line (codes "worn") (count ∷ [])
-
-abbrev pub unbuilt_line : ℕ → List ℕ
-unbuilt_line place = answer_line (codes "unbuilt") (place ∷ [])

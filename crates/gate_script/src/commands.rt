@@ -25,7 +25,7 @@ use std::alloc::Global;
 ///
 /// The statuses: 0, the input was read to its end; 2, the words are of no form, and nothing is read or
 /// written; 3, a line of the script is outside the grammar; 4, the source failed; 5, a sink failed; 6,
-/// want of memory; 7, the session may have no more entries; 9, a piece has a byte without a meaning.
+/// want of memory; 7, the session may have no more entries.
 pub fn command<S: Source, A: Sink, F: Sink>(
     alloc: Global,
     words: &[String],
@@ -36,7 +36,8 @@ pub fn command<S: Source, A: Sink, F: Sink>(
     ensures usage { (form_of (map string_bytes words.now) ≡ None) ↔ (result ≡ 2) }
     ensures nothing { result ≡ 2 → (S.left source.new ≡ S.left source.old) × (A.written answers.new ≡ A.written answers.old) × (F.written frames.new ≡ F.written frames.old) }
 
-    // What each other status says of the bytes read and written.
+    // What each other status says of the bytes read and written; and the bytes that takes print are the
+    // first ones that the history sends to the host.
     ensures outcome { (form : Forms) → form_of (map string_bytes words.now) ≡ Some form →
         Ran (S.left source.old) (S.left source.new) (A.written answers.old) (A.written answers.new) (F.written frames.old) (F.written frames.new)
         (Outcome result form (S.left source.new)) }
@@ -104,7 +105,6 @@ fn say_last<A: Sink>(alloc: Global, refused: Refused, answers: &mut A) -> Result
     match refused {
         Refused::BadLine(number) => say(&mut line, "bad script line", &[number], answers),
         Refused::Worn(entries) => say(&mut line, "worn", &[entries], answers),
-        Refused::Unbuilt(place) => say(&mut line, "unbuilt", &[place as u64], answers),
     }
 }
 
@@ -115,7 +115,6 @@ fn refused_status(refused: Refused) -> u8
     match refused {
         Refused::BadLine(_) => 3,
         Refused::Worn(_) => 7,
-        Refused::Unbuilt(_) => 9,
     }
 }
 

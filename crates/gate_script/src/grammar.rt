@@ -2,19 +2,23 @@
 
 ghost use Rattle.std.specs.Prelude.{◌≡◌, ◌≤◌, ◌-◌, ◌^◌, ℕ, length, position, option_and_then, IfOk, bytes_eq};
 ghost use Rattle.std.specs.Option.{option_map};
-ghost use Rattle.gate_script.specs.Grammar.{behind_word, bytes_of, comparing, content, end_length, first_word, is_blank, joining, line_of, looking, meant, mode_of, moved, pixel_place, reading, served, start_mode, start_rows, writing};
+ghost use Rattle.gate_script.specs.Grammar.{behind_word, comparing, content, end_length, first_word, is_blank, joining, line_of, looking, meant, mode_of, most_taken, moved, pixel_place, reading, served, start_mode, start_rows, taking, writing};
+ghost use Rattle.gate_script.specs.Hexadecimal.{bytes_of};
 ghost use Rattle.gate_script.specs.Numbers.{number_up_to};
 ghost use Rattle.gate_script.specs.Meanings.{IsInRange, line_meant};
 
 use crate::hexadecimal::bytes_of;
 use crate::line::{Call, Line};
-use crate::numbers::{number_of_32_bits, number_of_64_bits};
+use crate::numbers::{number, number_of_32_bits, number_of_64_bits};
 use crate::words::size_of;
 use gate_model::{Bytes, NoMemory, Share};
 use std::alloc::Global;
 
 /// The most bytes that the host sends at once.
 const MOST_PIECE: usize = 65536;
+
+/// The most bytes of a take (this project's own rule).
+const MOST_TAKEN: u128 = 65536;
 
 /// What a line says that has this content.
 pub(crate) fn line_of(alloc: Global, text: &[u8]) -> Result<Line, NoMemory>
@@ -104,6 +108,9 @@ fn meant(alloc: Global, name: &[u8], text: &[u8]) -> Result<Line, NoMemory>
     }
     if is(name, "write") {
         return write(alloc, text);
+    }
+    if is(name, "take") {
+        return Ok(take(text));
     }
     if is(name, "pixel") {
         return Ok(pixel(text));
@@ -216,6 +223,17 @@ fn write(alloc: Global, text: &[u8]) -> Result<Line, NoMemory>
             Ok(Line::Call(Call::Write(viewer, text)))
         }
         _ => Ok(Line::Bad),
+    }
+}
+
+// `take MOST`
+fn take(text: &[u8]) -> Line
+    ensures says { (entries : ℕ) → line_meant entries result ≡ taking (number_up_to most_taken text.now) }
+    ensures in_range { IsInRange result }
+{
+    match number(text) {
+        Some(most) if most <= MOST_TAKEN => Line::Call(Call::Take(most as u32)),
+        _ => Line::Bad,
     }
 }
 

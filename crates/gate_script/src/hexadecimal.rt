@@ -1,8 +1,8 @@
 //! Bytes written as hexadecimal digits.
 
-ghost use Rattle.std.specs.Prelude.{◌≡◌, IfOk};
+ghost use Rattle.std.specs.Prelude.{◌≡◌, ◌++◌, ◌<◌, IfOk, OnOk};
 ghost use Rattle.std.specs.Option.{option_map};
-ghost use Rattle.gate_script.specs.Grammar.{byte_of, bytes_of, digit_of};
+ghost use Rattle.gate_script.specs.Hexadecimal.{byte_of, bytes_of, digit_of, digits_of, lower_digit};
 
 use gate_model::NoMemory;
 use std::alloc::Global;
@@ -40,5 +40,28 @@ fn digit_of(byte: u8) -> Option<u8>
         b'A'..=b'F' => Some(byte - b'A' + 10),
         b'a'..=b'f' => Some(byte - b'a' + 10),
         _ => None,
+    }
+}
+
+/// Appends the digits that write the bytes, in lower case.
+pub(crate) fn push_digits(text: &mut Vec<u8>, bytes: &[u8]) -> Result<(), NoMemory>
+    ensures { OnOk result (text.new.items ≡ text.old.items ++ digits_of bytes.now) }
+{
+    for byte in bytes {
+        text.push(lower_digit(*byte / 16))?;
+        text.push(lower_digit(*byte % 16))?;
+    }
+    Ok(())
+}
+
+// The digit of a value.
+fn lower_digit(value: u8) -> u8
+    requires { value < 16 }
+    ensures { result ≡ lower_digit value }
+{
+    if value < 10 {
+        b'0' + value
+    } else {
+        b'a' + (value - 10)
     }
 }

@@ -3,7 +3,8 @@
 //!
 //! `command` is the public call. Its contract says for each status what was read and written: the
 //! answers and the frames are just what the lines that the input makes (`specs/Grammar.antt`) tell of a
-//! legal and true history (`specs/Plays.antt`, `specs/Outcomes.antt`).
+//! legal and true history, and the bytes that the lines `take` print are the first ones that the history
+//! sends to the Telnet host (`specs/Plays.antt`, `specs/Outcomes.antt`).
 #![tactic(auto)]
 
 mod acts;
@@ -13,6 +14,8 @@ mod commands;
 mod form;
 mod grammar;
 mod hexadecimal;
+#[cfg(test)]
+mod host_tests;
 mod input;
 mod line;
 mod numbers;

@@ -27,6 +27,8 @@ pub(crate) enum Call {
     Read(u32),
     /// The viewer writes a text of instructions.
     Write(u32, Bytes),
+    /// At most so many bytes are taken for the host.
+    Take(u32),
     /// The pixel at x and y of what the viewer sees.
     Pixel(u32, u64, u64),
     /// Whether two viewers see the same.

@@ -5,6 +5,4 @@ pub(crate) enum Refused {
     BadLine(u64),
     /// The session has this many entries, and may have no more.
     Worn(u64),
-    /// A piece has a byte without a meaning at this place.
-    Unbuilt(usize),
 }

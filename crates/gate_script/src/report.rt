@@ -2,9 +2,10 @@
 
 ghost use Rattle.std.specs.Prelude.{◌≡◌, ◌≤◌, ◌⊎◌, [], ◌∷◌, ◌++◌, codes, decimal, OnOk, IfErr};
 ghost use Rattle.gate_outside.specs.Edge.{Rose};
-ghost use Rattle.gate_script.specs.Told.{answer_line, bad_text_line, frames_line, kind_word, pixel_line, refused_line};
+ghost use Rattle.gate_script.specs.Told.{answer_line, bad_text_line, frames_line, kind_word, pixel_line, refused_line, taken_text, took_line};
 ghost use Rattle.gate_script.specs.Running.{HasCause, Put, Reported};
 
+use crate::hexadecimal::push_digits;
 use crate::stop::Stop;
 use canvas::Dot;
 use gate_model::{Colour, NoMemory};
@@ -92,6 +93,46 @@ pub(crate) fn say_dot<A: Sink>(line: &mut Vec<u8>, dot: Dot, answers: &mut A) ->
             let numbers = [u64::from(red), u64::from(green), u64::from(blue)];
             say(line, "pixel", &numbers, answers)
         }
+    }
+}
+
+/// Writes the bytes that a take handed out.
+pub(crate) fn say_took<A: Sink>(
+    line: &mut Vec<u8>,
+    bytes: &[u8],
+    answers: &mut A,
+) -> Result<(), Stop>
+    ensures put { Put result (took_line bytes.now) (A.written answers.old) (A.written answers.new) }
+    ensures later { A.faults answers.old ≤ A.faults answers.new }
+    ensures cause { IfErr result (λ stop. HasCause stop ⊥ (Rose (A.faults answers.old) (A.faults answers.new))) }
+{
+    make_took_line(line, bytes)?;
+    match write_all(answers, line) {
+        Ok(()) => Ok(()),
+        Err(_) => Err(Stop::WriteFault),
+    }
+}
+
+// Makes the line that says which bytes a take handed out.
+fn make_took_line(line: &mut Vec<u8>, bytes: &[u8]) -> Result<(), NoMemory>
+    ensures { OnOk result (line.new.items ≡ took_line bytes.now) }
+{
+    line.clear();
+    line.extend_from_slice(b"took ")?;
+    push_taken(line, bytes)?;
+    line.push(b'\n')?;
+    Ok(())
+}
+
+// Appends the digits of the bytes that were taken, or a dash where there are none.
+fn push_taken(line: &mut Vec<u8>, bytes: &[u8]) -> Result<(), NoMemory>
+    ensures { OnOk result (line.new.items ≡ line.old.items ++ taken_text bytes.now) }
+{
+    if bytes.is_empty() {
+        line.push(b'-')?;
+        Ok(())
+    } else {
+        push_digits(line, bytes)
     }
 }
 

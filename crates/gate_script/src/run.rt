@@ -318,6 +318,7 @@ impl Run {
             Call::Write(viewer, text) => {
                 session.write(alloc, viewer, text.as_slice(), bad, answers)
             }
+            Call::Take(most) => session.take(alloc, most, answers),
             Call::Pixel(viewer, x, y) => session.pixel(viewer, x, y, answers),
             Call::Same(one, other) => session.same(one, other, answers),
         }

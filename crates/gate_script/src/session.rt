@@ -9,7 +9,7 @@ use crate::acts::read_acts;
 use crate::playing::{play_text, played};
 use crate::reading::Reading;
 use crate::refused::Refused;
-use crate::report::{refuse, report, say, say_bad, say_dot, show};
+use crate::report::{refuse, report, say, say_bad, say_dot, say_took, show};
 use crate::seeing::{are_same, dot_of};
 use crate::size::Size;
 use crate::stop::Stop;
@@ -40,7 +40,7 @@ impl Session {
     ghost use Rattle.gate_script.specs.declared.reading.Reading.TheVariants.{Whole};
     ghost use Rattle.gate_script.specs.declared.stop.Stop.TheVariants.{ReadFault, WriteFault};
     ghost use Rattle.gate_script.specs.Acts.{IsReading};
-    ghost use Rattle.gate_script.specs.Lines.{Line, start, server, join, read, write, pixel, same, read_untold, acknowledge, done};
+    ghost use Rattle.gate_script.specs.Lines.{Line, start, server, join, read, write, take_up_to, pixel, same, read_untold, acknowledge, done};
     ghost use Rattle.gate_script.specs.Plays.{setup_of};
     ghost use Rattle.gate_script.specs.Told.{frames_line, joined_line, read_told};
     ghost use Rattle.gate_script.specs.Running.{At, Ends, HasCause, PlaysOn, Put, Reported, Told, read_shown, stopped_at};
@@ -136,7 +136,6 @@ impl Session {
             ),
             Err(FeedRefusal::Closed(_)) => refuse(&mut self.line, 523, answers),
             Err(FeedRefusal::Worn { entries }) => Err(Stop::Refused(Refused::Worn(entries))),
-            Err(FeedRefusal::Unbuilt { place }) => Err(Stop::Refused(Refused::Unbuilt(place))),
             Err(FeedRefusal::NoMemory) => Err(Stop::NoMemory),
         }
     }
@@ -396,6 +395,27 @@ impl Session {
             Err(WriteRefusal::Worn { entries }) => Err(Stop::Refused(Refused::Worn(entries))),
             Err(WriteRefusal::NoMemory) => Err(Stop::NoMemory),
         }
+    }
+
+    /// Takes the next bytes that wait for the host, at most so many, and tells them.
+    pub(crate) fn take<A: Sink>(
+        &mut self,
+        alloc: Global,
+        most: u32,
+        answers: &mut A,
+    ) -> Result<(), Stop>
+        ensures step { (lines : List Line) (now : ℕ) (a0 f0 f : Option (List ℕ)) →
+            At lines now self.old a0 f0 (A.written answers.old) f →
+            Ends (take_up_to most ∷ lines) now result self.new a0 f0 (A.written answers.new) f }
+        ensures viewers { self.new.desk.viewers ≡ self.old.desk.viewers }
+        ensures later { A.faults answers.old ≤ A.faults answers.new }
+        ensures cause { IfErr result (λ stop. HasCause stop ⊥ (Rose (A.faults answers.old) (A.faults answers.new))) }
+    {
+        // Bytes enough wait to fill the buffer.
+        let count = self.desk.pending().min(u64::from(most));
+        let mut bytes = vec![in alloc; 0u8; count as usize]?;
+        self.desk.take(&mut bytes)?;
+        say_took(&mut self.line, &bytes, answers)
     }
 
     /// Tells the pixel at `x` and `y` of what the viewer sees.

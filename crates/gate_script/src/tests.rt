@@ -6,28 +6,28 @@ use std::test::Fail;
 
 // What a run ended with.
 #[derive(Drop)]
-struct Ran {
-    status: u8,
-    answers: MemSink,
+pub(crate) struct Ran {
+    pub status: u8,
+    pub answers: MemSink,
     frames: MemSink,
 }
 
 // Where a source or a sink fails: the call's number, counted from 1; 0 for nowhere.
 #[derive(Clone, Copy)]
-struct Faults {
+pub(crate) struct Faults {
     source: u64,
     answers: u64,
     frames: u64,
 }
 
-const NO_FAULT: Faults = Faults {
+pub(crate) const NO_FAULT: Faults = Faults {
     source: 0,
     answers: 0,
     frames: 0,
 };
 
 // Runs the words over the input, of which each read gives at most 7 bytes.
-fn run(alloc: Global, words: &str, input: &[u8], faults: Faults) -> Result<Ran, Fail> {
+pub(crate) fn run(alloc: Global, words: &str, input: &[u8], faults: Faults) -> Result<Ran, Fail> {
     let mut list: Vec<String> = Vec::new(alloc);
     for word in words.split(' ') {
         list.push(word.to_string(alloc)?)?;
@@ -66,18 +66,18 @@ fn the_rows_of_draw_have_their_answers_and_statuses(rt: HostRuntime) -> Result<(
             0,
             "synced 2\nsynced 3\ndone 3\n",
         ),
-        ("draw 1 24", b"A\x07".as_slice(), 9, "unbuilt 1\n"),
+        ("draw 80 24", b"A\x07".as_slice(), 0, "synced 2\ndone 2\n"),
         (
             "draw 1 24",
             b"A\nBC\x07\n".as_slice(),
-            9,
-            "synced 2\nunbuilt 2\n",
+            0,
+            "synced 2\nsynced 3\ndone 3\n",
         ),
         (
             "draw 1 24",
             b"A\n\xff".as_slice(),
-            9,
-            "synced 2\nunbuilt 0\n",
+            0,
+            "synced 2\nsynced 3\ndone 3\n",
         ),
     ];
     for (words, input, status, rest) in table {
@@ -198,7 +198,7 @@ fn a_piece_ends_after_65536_bytes_without_a_line_feed(rt: HostRuntime) -> Result
 }
 
 // Runs a script, and compares its status and its answers.
-fn answers_are(
+pub(crate) fn answers_are(
     alloc: Global,
     words: &str,
     script: &[u8],
@@ -247,8 +247,8 @@ fn the_rows_of_scripts_have_their_answers_and_statuses(rt: HostRuntime) -> Resul
         (
             "script",
             "start 80 24 control\nserver 410a07\n",
-            9,
-            "started 1\nunbuilt 2\n",
+            0,
+            "started 1\nsynced 2\n",
         ),
         ("script", "", 0, ""),
     ];
@@ -574,9 +574,9 @@ fn a_write_to_a_full_session_ends_the_run(rt: HostRuntime) -> Result<(), Fail> {
 }
 
 #[test]
-fn looks_and_writes_have_no_line_of_the_frames(rt: HostRuntime) -> Result<(), Fail> {
+fn looks_writes_and_takes_have_no_line_of_the_frames(rt: HostRuntime) -> Result<(), Fail> {
     let script =
-        b"start 1 1 none\njoin owner\npixel 1 0 0\nsame 1 1\nwrite 1 3.key,2.97,1.1;\nwrite 1 3\nserver 0a\nread 1\n";
+        b"start 1 1 none\njoin owner\npixel 1 0 0\nsame 1 1\nwrite 1 3.key,2.97,1.1;\nwrite 1 3\ntake 9\nserver 0a\nread 1\ntake 9\n";
     let ran = run(rt.alloc(), "script", script, NO_FAULT)?;
     assert_eq!(rt; ran.status, 0);
     assert_eq!(rt; ran.frames.written(), FRAMES);

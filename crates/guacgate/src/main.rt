@@ -30,7 +30,7 @@ The answers go to standard output, the instructions that each frame has, and tho
 given, to standard error.
 
 status: 0 done, 2 faulty words, 3 a line of the script is outside the grammar, 4 reading failed, 5
-writing failed, 6 no memory, 7 the session is full, 9 a byte has no meaning
+writing failed, 6 no memory, 7 the session is full
 ";
 
 fn main(rt: HostRuntime) -> ExitCode {

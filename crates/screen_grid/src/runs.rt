@@ -1,6 +1,5 @@
 ghost use Rattle.std.specs.Prelude.{◌≡◌, ◌≤◌, length, replicate};
-ghost use Rattle.gate_model.specs.Terminal.{blank};
-ghost use Rattle.gate_model.specs.Cells.{moved_left, moved_right};
+ghost use Rattle.gate_model.specs.Cells.{blank, moved_left, moved_right};
 
 use gate_model::Cell;
 

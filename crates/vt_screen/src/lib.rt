@@ -1,15 +1,32 @@
-//! The screen of a session: its cells, its cursor, and what each control function does to them.
+//! The screen of a terminal: its cells, its cursor, and what each control function does to them (ECMA-48;
+//! which functions have an effect, and how far each goes, is this project's own).
 //!
-//! `Screen::apply` is *Screen state*: contracts see a screen as gate_model's `Terminal`, and each call
-//! leaves just the state that `effect` gives (`gate_model/specs/Effects.antt`). `Screen::shown` is
-//! *Picture*'s `shown`. The screen knows of no Telnet and of no pixels.
+//! Contracts see a screen as gate_model's `Terminal` and cite its definitions: `opening_screen` in
+//! `Terminal`, `effect` in `Effects` for the state that `Screen::apply` leaves, `report` in `Reports` for
+//! what it answers, and `shown` in `Screens` for `Screen::shown`. The screen knows of no Telnet, of no
+//! bytes and of no pixels.
 #![tactic(auto)]
 
+mod arguments;
+mod clearing;
+mod cursor;
+mod editing;
+mod modes;
+mod pen;
+mod printing;
 mod reply;
+mod report;
+mod saved;
 mod screen;
+mod scrolling;
+mod showing;
+mod stops;
+mod table;
 
 pub use reply::Reply;
 pub use screen::Screen;
 
 #[cfg(test)]
 mod tests;
+#[cfg(test)]
+mod written;

@@ -4,7 +4,7 @@ ghost use Rattle.std.specs.Prelude.{◌≡◌, ◌+◌, ◌≤◌, ◌^◌, IfEr
 ghost use Rattle.gate_model.specs.History.{History};
 
 use crate::desk::Desk;
-use crate::drawing::{first_unbuilt, next_stamp, redraw};
+use crate::drawing::{next_stamp, redraw};
 use crate::progress::Progress;
 use crate::storing::store_feed;
 use gate_model::{Bytes, FeedRefusal};
@@ -15,8 +15,9 @@ impl Desk {
     ghost use Rattle.desk_core.specs.Desk.{Stands};
     ghost use Rattle.desk_core.specs.Calls.{FeedEnds, IsStillOpen};
 
-    /// Takes 1 to 65,536 bytes of the Telnet host at the moment `now`, and draws a frame, whose stamp it
-    /// answers (this project's own rule).
+    /// Takes 1 to 65,536 bytes of the Telnet host at the moment `now`, draws a frame, whose stamp it
+    /// answers, and lets wait what the bytes are answered: option answers and reports, in the order of
+    /// the bytes that complete their causes (RFC 854 and 855; this project's own rule).
     pub fn feed(&mut self, alloc: Global, bytes: &[u8], now: u64) -> Result<u64, FeedRefusal>
         requires { IsPiece bytes.now }
         ensures step { (h : History) → Stands self.old h → FeedEnds h bytes.now now result self.new }
@@ -31,14 +32,18 @@ impl Desk {
                 entries: self.entries,
             });
         }
-        if let Some(place) = first_unbuilt(bytes) {
-            return Err(FeedRefusal::Unbuilt { place });
-        }
         let stamp = next_stamp(self.latest.stamp, now);
-        let drawn = redraw(alloc, &self.screen, bytes, stamp)?;
+        let term = self.term.as_str();
+        let heard = self.host.hear(alloc, bytes, self.cols, self.rows, term)?;
+        let frame = redraw(alloc, &heard.host.screen, stamp)?;
         let piece = Bytes::of(Vec::from_slice(alloc, bytes)?);
-        store_feed(&mut self.stored, piece, stamp, drawn.frame, &mut self.text)?;
-        self.screen = drawn.screen;
+        let waiting = self.outgoing.len();
+        self.outgoing.append(&heard.replies)?;
+        if store_feed(&mut self.stored, piece, stamp, frame, &mut self.text).is_err() {
+            self.outgoing.truncate(waiting);
+            return Err(FeedRefusal::NoMemory);
+        }
+        self.host = heard.host;
         self.entries += 1;
         self.last = self.latest.bytes;
         self.latest = Progress {

@@ -4,13 +4,14 @@ ghost use Rattle.std.specs.Prelude.{◌≡◌, [], IfOk};
 
 use crate::desk::Desk;
 use crate::drawing::next_stamp;
+use crate::host::Host;
+use crate::outgoing::Outgoing;
 use crate::progress::Progress;
 use crate::storing::store;
 use frame_draw::opening;
-use gate_model::{Entry, NoMemory, Setup};
+use gate_model::{Entry, NoMemory, Setup, Text};
 use guac_instr::texts_of;
 use std::alloc::Global;
-use vt_screen::Screen;
 
 impl Desk {
     ghost use Rattle.gate_model.specs.Calls.{IsSetup};
@@ -33,8 +34,9 @@ impl Desk {
             entries,
         } = setup;
         let stamp = next_stamp(0, now);
-        let screen = Screen::new(alloc, cols, rows)?;
-        let shown = screen.shown(alloc)?;
+        let host = Host::new(alloc, cols, rows)?;
+        let kept_term = Text::of(String::from_str(alloc, term.as_str())?);
+        let shown = host.screen.shown(alloc)?;
         let frame = opening(alloc, &shown, stamp)?;
         let mut text = Vec::new(alloc);
         texts_of(frame.as_slice(), &mut text)?;
@@ -51,10 +53,14 @@ impl Desk {
         };
         store(&mut stored, first)?;
         Ok(Desk {
+            cols,
+            rows,
+            term: kept_term,
             capacity: entries,
             stored,
             entries: 1,
-            screen,
+            host,
+            outgoing: Outgoing::new(alloc),
             text,
             last: 0,
             latest: Progress {

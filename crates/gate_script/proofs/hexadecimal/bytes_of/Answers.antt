@@ -1,5 +1,5 @@
 use Rattle.std.proofs.Common.{◌≡◌, ◌+◌, ◌*◌, List, ℕ, drop, arith, subst, sym}
-use Rattle.gate_script.specs.Grammar.{bytes_of}
+use Rattle.gate_script.specs.Hexadecimal.{bytes_of}
 use Rattle.gate_script.proofs.HexLaws.{join_bytes, odd_is_none, pair_more, pair_none, pairs_done, none_yet}
 use Rattle.gate_script.proofs.hexadecimal.bytes_of.Goals as goal
 

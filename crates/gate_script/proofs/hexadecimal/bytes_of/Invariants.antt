@@ -1,5 +1,5 @@
 use Rattle.std.proofs.Common.{◌≡◌, ◌*◌, drop}
-use Rattle.gate_script.specs.Grammar.{bytes_of}
+use Rattle.gate_script.specs.Hexadecimal.{bytes_of}
 use Rattle.gate_script.proofs.HexLaws.{join_bytes}
 use Rattle.gate_script.proofs.hexadecimal.bytes_of.Given as goal
 

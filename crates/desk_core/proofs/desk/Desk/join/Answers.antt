@@ -13,7 +13,7 @@ use Rattle.desk_core.proofs.desk.Desk.join.Goals as goal
 pub returns-then-self-clause-step : goal.returns-then-self-clause-step
 returns-then-self-clause-step c = λ h stood.
     let i = c.self.inside in
-    let d : DeskState = record { capacity = i.capacity; stored = i.stored.items; entries = i.entries; screen = i.screen; text = i.text.items; last = i.last; latest = i.latest; viewers = i.viewers.items } in
+    let d : DeskState = record { cols = i.cols; rows = i.rows; term = i.term; capacity = i.capacity; stored = i.stored.items; entries = i.entries; host = i.host; outgoing = i.outgoing; text = i.text.items; last = i.last; latest = i.latest; viewers = i.viewers.items } in
     let s : Stands d h = subst (λ (k : DeskState). Stands k h) (sym c.self.view_is) stood in
     let few : length i.viewers.items < 2 ^ 32 - 1 = subst (λ (k : DeskState). length k.viewers < 2 ^ 32 - 1) (sym c.self.view_is) c.requires.few in
     (record { owner = c.requires.owner; few = omega (arith, few, s.joined) }, (join_is_worn d h s (omega (arith, c.if-self.true)), refl))
@@ -21,7 +21,7 @@ returns-then-self-clause-step c = λ h stood.
 pub invariant_of-self-2 : goal.invariant_of-self-2
 invariant_of-self-2 c =
     let i = c.self.inside in
-    let d : DeskState = record { capacity = i.capacity; stored = i.stored.items; entries = i.entries; screen = i.screen; text = i.text.items; last = i.last; latest = i.latest; viewers = i.viewers.items } in
+    let d : DeskState = record { cols = i.cols; rows = i.rows; term = i.term; capacity = i.capacity; stored = i.stored.items; entries = i.entries; host = i.host; outgoing = i.outgoing; text = i.text.items; last = i.last; latest = i.latest; viewers = i.viewers.items } in
     let h = c.self.invariant.0 in
     let s : Stands d h = c.self.invariant.1 in
     let few : length i.viewers.items < 2 ^ 32 - 1 = subst (λ (k : DeskState). length k.viewers < 2 ^ 32 - 1) (sym c.self.view_is) c.requires.few in
@@ -39,7 +39,7 @@ invariant_of-self-2 c =
 pub returns-clause-step : goal.returns-clause-step
 returns-clause-step c = λ h stood.
     let i = c.self.inside in
-    let d : DeskState = record { capacity = i.capacity; stored = i.stored.items; entries = i.entries; screen = i.screen; text = i.text.items; last = i.last; latest = i.latest; viewers = i.viewers.items } in
+    let d : DeskState = record { cols = i.cols; rows = i.rows; term = i.term; capacity = i.capacity; stored = i.stored.items; entries = i.entries; host = i.host; outgoing = i.outgoing; text = i.text.items; last = i.last; latest = i.latest; viewers = i.viewers.items } in
     let s : Stands d h = subst (λ (k : DeskState). Stands k h) (sym c.self.view_is) stood in
     let few : length i.viewers.items < 2 ^ 32 - 1 = subst (λ (k : DeskState). length k.viewers < 2 ^ 32 - 1) (sym c.self.view_is) c.requires.few in
     let number : ℕ = c.len.result + 1 in
@@ -55,5 +55,5 @@ returns-clause-step c = λ h stood.
 pub returns-clause-few : goal.returns-clause-few
 returns-clause-few c =
     let i = c.self.inside in
-    let d : DeskState = record { capacity = i.capacity; stored = i.stored.items; entries = i.entries; screen = i.screen; text = i.text.items; last = i.last; latest = i.latest; viewers = i.viewers.items } in
+    let d : DeskState = record { cols = i.cols; rows = i.rows; term = i.term; capacity = i.capacity; stored = i.stored.items; entries = i.entries; host = i.host; outgoing = i.outgoing; text = i.text.items; last = i.last; latest = i.latest; viewers = i.viewers.items } in
     omega (arith, (small d c.self.invariant.0 c.self.invariant.1).room, c.if-self.false)

@@ -9,14 +9,14 @@ use Rattle.desk_core.proofs.desk.Desk.read.Goals as goal
 pub returns-in_default-clause-step : goal.returns-in_default-clause-step
 returns-in_default-clause-step c = λ h stood.
     let i = c.self.inside in
-    let d : DeskState = record { capacity = i.capacity; stored = i.stored.items; entries = i.entries; screen = i.screen; text = i.text.items; last = i.last; latest = i.latest; viewers = i.viewers.items } in
+    let d : DeskState = record { cols = i.cols; rows = i.rows; term = i.term; capacity = i.capacity; stored = i.stored.items; entries = i.entries; host = i.host; outgoing = i.outgoing; text = i.text.items; last = i.last; latest = i.latest; viewers = i.viewers.items } in
     let s : Stands d h = subst (λ (k : DeskState). Stands k h) (sym c.self.view_is) stood in
     (read_has_no_viewer d h c.args.viewer s (no_place c.args.viewer c.len.result (length i.viewers.items) c.place_of.result c.place_of.ensures (omega (arith, c.len.ensures, i.viewers.ok.0)) c.in_default.not-Some), refl)
 
 pub returns-then-reached-self-clause-step : goal.returns-then-reached-self-clause-step
 returns-then-reached-self-clause-step c = λ h stood.
     let i = c.self.inside in
-    let d : DeskState = record { capacity = i.capacity; stored = i.stored.items; entries = i.entries; screen = i.screen; text = i.text.items; last = i.last; latest = i.latest; viewers = i.viewers.items } in
+    let d : DeskState = record { cols = i.cols; rows = i.rows; term = i.term; capacity = i.capacity; stored = i.stored.items; entries = i.entries; host = i.host; outgoing = i.outgoing; text = i.text.items; last = i.last; latest = i.latest; viewers = i.viewers.items } in
     let s : Stands d h = subst (λ (k : DeskState). Stands k h) (sym c.self.view_is) stood in
     let is = place_at c.args.viewer c.len.result (length i.viewers.items) c.in-Some.place c.place_of.result c.place_of.ensures (omega (arith, c.len.ensures, i.viewers.ok.0)) c.in-Some.is in
     let p : Progress = c.index-reached.result.now in
@@ -26,7 +26,7 @@ returns-then-reached-self-clause-step c = λ h stood.
 pub returns-then-self-clause-step : goal.returns-then-self-clause-step
 returns-then-self-clause-step c = λ h stood.
     let i = c.self.inside in
-    let d : DeskState = record { capacity = i.capacity; stored = i.stored.items; entries = i.entries; screen = i.screen; text = i.text.items; last = i.last; latest = i.latest; viewers = i.viewers.items } in
+    let d : DeskState = record { cols = i.cols; rows = i.rows; term = i.term; capacity = i.capacity; stored = i.stored.items; entries = i.entries; host = i.host; outgoing = i.outgoing; text = i.text.items; last = i.last; latest = i.latest; viewers = i.viewers.items } in
     let s : Stands d h = subst (λ (k : DeskState). Stands k h) (sym c.self.view_is) stood in
     let is = place_at c.args.viewer c.len.result (length i.viewers.items) c.in-Some.place c.place_of.result c.place_of.ensures (omega (arith, c.len.ensures, i.viewers.ok.0)) c.in-Some.is in
     let p : Progress = c.index-reached.result.now in
@@ -36,7 +36,7 @@ returns-then-self-clause-step c = λ h stood.
 pub text_from-lacked-requires : goal.text_from-lacked-requires
 text_from-lacked-requires c =
     let i = c.self.inside in
-    let d : DeskState = record { capacity = i.capacity; stored = i.stored.items; entries = i.entries; screen = i.screen; text = i.text.items; last = i.last; latest = i.latest; viewers = i.viewers.items } in
+    let d : DeskState = record { cols = i.cols; rows = i.rows; term = i.term; capacity = i.capacity; stored = i.stored.items; entries = i.entries; host = i.host; outgoing = i.outgoing; text = i.text.items; last = i.last; latest = i.latest; viewers = i.viewers.items } in
     let h = c.self.invariant.0 in
     let s : Stands d h = c.self.invariant.1 in
     let is = place_at c.args.viewer c.len.result (length i.viewers.items) c.in-Some.place c.place_of.result c.place_of.ensures (omega (arith, c.len.ensures, i.viewers.ok.0)) c.in-Some.is in
@@ -47,7 +47,7 @@ text_from-lacked-requires c =
 pub overflow_sub-self-inside : goal.overflow_sub-self-inside
 overflow_sub-self-inside c =
     let i = c.self.inside in
-    let d : DeskState = record { capacity = i.capacity; stored = i.stored.items; entries = i.entries; screen = i.screen; text = i.text.items; last = i.last; latest = i.latest; viewers = i.viewers.items } in
+    let d : DeskState = record { cols = i.cols; rows = i.rows; term = i.term; capacity = i.capacity; stored = i.stored.items; entries = i.entries; host = i.host; outgoing = i.outgoing; text = i.text.items; last = i.last; latest = i.latest; viewers = i.viewers.items } in
     let h = c.self.invariant.0 in
     let s : Stands d h = c.self.invariant.1 in
     let is = place_at c.args.viewer c.len.result (length i.viewers.items) c.in-Some.place c.place_of.result c.place_of.ensures (omega (arith, c.len.ensures, i.viewers.ok.0)) c.in-Some.is in
@@ -58,7 +58,7 @@ overflow_sub-self-inside c =
 pub invariant_of-self-2 : goal.invariant_of-self-2
 invariant_of-self-2 c =
     let i = c.self.inside in
-    let d : DeskState = record { capacity = i.capacity; stored = i.stored.items; entries = i.entries; screen = i.screen; text = i.text.items; last = i.last; latest = i.latest; viewers = i.viewers.items } in
+    let d : DeskState = record { cols = i.cols; rows = i.rows; term = i.term; capacity = i.capacity; stored = i.stored.items; entries = i.entries; host = i.host; outgoing = i.outgoing; text = i.text.items; last = i.last; latest = i.latest; viewers = i.viewers.items } in
     let h = c.self.invariant.0 in
     let s : Stands d h = c.self.invariant.1 in
     let is = place_at c.args.viewer c.len.result (length i.viewers.items) c.in-Some.place c.place_of.result c.place_of.ensures (omega (arith, c.len.ensures, i.viewers.ok.0)) c.in-Some.is in
@@ -73,7 +73,7 @@ invariant_of-self-2 c =
 pub returns-clause-step : goal.returns-clause-step
 returns-clause-step c = λ h stood.
     let i = c.self.inside in
-    let d : DeskState = record { capacity = i.capacity; stored = i.stored.items; entries = i.entries; screen = i.screen; text = i.text.items; last = i.last; latest = i.latest; viewers = i.viewers.items } in
+    let d : DeskState = record { cols = i.cols; rows = i.rows; term = i.term; capacity = i.capacity; stored = i.stored.items; entries = i.entries; host = i.host; outgoing = i.outgoing; text = i.text.items; last = i.last; latest = i.latest; viewers = i.viewers.items } in
     let s : Stands d h = subst (λ (k : DeskState). Stands k h) (sym c.self.view_is) stood in
     let is = place_at c.args.viewer c.len.result (length i.viewers.items) c.in-Some.place c.place_of.result c.place_of.ensures (omega (arith, c.len.ensures, i.viewers.ok.0)) c.in-Some.is in
     let p : Progress = c.index-reached.result.now in
@@ -86,5 +86,5 @@ returns-clause-step c = λ h stood.
 pub returns-clause-few : goal.returns-clause-few
 returns-clause-few c =
     let i = c.self.inside in
-    let d : DeskState = record { capacity = i.capacity; stored = i.stored.items; entries = i.entries; screen = i.screen; text = i.text.items; last = i.last; latest = i.latest; viewers = i.viewers.items } in
+    let d : DeskState = record { cols = i.cols; rows = i.rows; term = i.term; capacity = i.capacity; stored = i.stored.items; entries = i.entries; host = i.host; outgoing = i.outgoing; text = i.text.items; last = i.last; latest = i.latest; viewers = i.viewers.items } in
     omega (arith, (small d c.self.invariant.0 c.self.invariant.1).room, c.if-self.false)

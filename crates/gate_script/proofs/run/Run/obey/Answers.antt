@@ -2,9 +2,14 @@ use Rattle.std.proofs.Common.{◌∷◌, refl, sym, subst}
 use Rattle.std.specs.Option.{is_some}
 use Rattle.gate_script.specs.declared.run.Run.{Run}
 use Rattle.gate_script.specs.Lines.{Line}
-use Rattle.gate_script.specs.Running.{StoppedIn, LineEnds}
-use Rattle.gate_script.proofs.RunLaws.{stopped_at_bad, in_place-bad, in_place-moment, moment_ends}
+use Rattle.gate_script.specs.Running.{DoesLines, StoppedIn, LineEnds}
+use Rattle.gate_script.proofs.RunLaws.{stopped_at_bad, blank_ends, in_place-blank, in_place-bad, in_place-moment, moment_ends}
 use Rattle.gate_script.proofs.run.Run.obey.Goals as goal
+
+pub returns-in-Blank-clause-step : goal.returns-in-Blank-clause-step
+returns-in-Blank-clause-step g c = λ lines a0 f0 count does.
+    rw c.in-Blank.is (subst (λ (l : Line). DoesLines (l ∷ lines) c.args.self.now a0 f0 (g.A.Sink.written c.args.answers.now) (g.F.Sink.written c.args.frames.now)) (sym (in_place-blank (is_some c.args.self.now.session)))
+    (blank_ends lines c.args.self.now a0 f0 (g.A.Sink.written c.args.answers.now) (g.F.Sink.written c.args.frames.now) does))
 
 pub returns-in-Bad-clause-step : goal.returns-in-Bad-clause-step
 returns-in-Bad-clause-step g c = λ lines a0 f0 count does.

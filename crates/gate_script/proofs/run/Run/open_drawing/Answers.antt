@@ -1,6 +1,9 @@
-use Rattle.std.proofs.Common.{◌≡◌, [], ◌∷◌, refl, ap, sym, ◌∙◌, subst}
-use Rattle.std.specs.Prelude.{Result, Err}
+use Rattle.std.proofs.Common.{◌≡◌, ◌⊎◌, [], ◌∷◌, refl, ap, sym, ◌∙◌, subst, arith}
+use Rattle.std.specs.Prelude.{Result, Err, IfErr, Some}
 use Rattle.std.proofs.lemmas.Result.{err_from_is_err_and}
+use Rattle.gate_outside.specs.Edge.{Rose}
+use Rattle.desk_core.specs.Desk.{DeskState}
+use Rattle.gate_script.specs.declared.form.Form.{Form}
 use Rattle.gate_script.specs.declared.form.Form.TheVariants.{Draw}
 use Rattle.gate_script.specs.declared.stop.Stop.{Stop}
 use Rattle.gate_script.specs.declared.stop.Stop.TheVariants.{NoMemory}
@@ -8,7 +11,8 @@ use Rattle.gate_model.specs.declared.sharing.Share.TheVariants.{Nobody}
 use Rattle.gate_model.specs.declared.sharing.Asked.TheVariants.{Owner}
 use Rattle.gate_model.specs.Limits.{most_entries}
 use Rattle.gate_script.specs.Lines.{start, join, draw_lines}
-use Rattle.gate_script.specs.Running.{PieceEnds}
+use Rattle.gate_script.specs.Running.{HasCause, IsReadyFor, PieceEnds}
+use Rattle.gate_script.proofs.ReportLaws.{cause-more, either-earlier}
 use Rattle.gate_script.proofs.SessionLaws.{play, no_memory}
 use Rattle.gate_script.proofs.RunLaws.{stopped-later, nothing_done}
 use Rattle.gate_script.proofs.run.Run.open_drawing.Goals as goal
@@ -36,6 +40,21 @@ returns-in_err-join-clause-step g c =
     let e : c.from_residual-in_err-join.result ≡ Err stop = p.1 ∙ ap (λ (s : Stop). Err s) p.2 in
     subst (λ (x : Result (Unit {0}) Stop). PieceEnds (Draw c.args.size) [] x c.args.self.now (g.A.Sink.written c.args.answers.now) (g.F.Sink.written c.args.frames.now) (g.A.Sink.written c.join.new.answers) (g.F.Sink.written c.join.new.frames)) (sym e)
     (c.in_err-join.ensures.step (start c.args.size Nobody most_entries ∷ []) 0 (g.A.Sink.written c.args.answers.now) (g.F.Sink.written c.args.frames.now) (c.in_ok-tell_start.ensures.step [] c.args.size Nobody most_entries 0 (g.A.Sink.written c.args.answers.now) (g.F.Sink.written c.args.frames.now) (nothing_done (g.A.Sink.written c.args.answers.now) (g.F.Sink.written c.args.frames.now)) c.in_ok-session.ensures.opened c.in_ok-session.ensures.unseen))
+
+pub returns-in_err-join-clause-cause : goal.returns-in_err-join-clause-cause
+returns-in_err-join-clause-cause g c =
+    let p = err_from_is_err_and c.from_residual-in_err-join.result c.from_residual-in_err-join.ensures.1 in
+    let stop = c.in_err-join.field-0.0 in
+    let e : c.from_residual-in_err-join.result ≡ Err stop = p.1 ∙ ap (λ (s : Stop). Err s) p.2 in
+    let started = c.in_ok-tell_start.ensures in
+    subst (λ (x : Result (Unit {0}) Stop). IfErr x (λ stop. HasCause stop ⊥ (Rose (g.A.Sink.faults c.args.answers.now) (g.A.Sink.faults c.join.new.answers) ⊎ Rose (g.F.Sink.faults c.args.frames.now) (g.F.Sink.faults c.join.new.frames)))) (sym e)
+    (cause-more ⊥ _ ⊥ _ stop (λ none. none) (either-earlier _ _ _ _ _ _ started.later_answers started.later_frames) c.in_err-join.ensures.cause)
+
+pub returns-clause-ready : goal.returns-clause-ready
+returns-clause-ready g c =
+    let one = ap (λ (d : DeskState). d.entries) c.in_ok-tell_start.ensures.same ∙ c.in_ok-session.ensures.one in
+    subst (λ (form : Form). IsReadyFor form (Some c.join.new.self) c.args.self.now.lines c.args.self.now.read) (sym c.requires.form)
+    (omega (arith, c.requires.read), c.in_ok-join.ensures.few (omega (arith, one)))
 
 pub returns-clause-step : goal.returns-clause-step
 returns-clause-step g c = record {

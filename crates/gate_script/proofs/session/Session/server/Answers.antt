@@ -2,9 +2,9 @@ use Rattle.std.proofs.Common.{◌∷◌, refl, subst}
 use Rattle.gate_model.specs.declared.feed_refusal.FeedRefusal.{FeedRefusal}
 use Rattle.desk_core.specs.Calls.{IsStillOpen, FeedEnds}
 use Rattle.std.specs.Prelude.{Err}
-use Rattle.gate_script.specs.declared.refused.Refused.TheVariants.{Worn, Unbuilt}
+use Rattle.gate_script.specs.declared.refused.Refused.TheVariants.{Worn}
 use Rattle.gate_script.specs.Lines.{server}
-use Rattle.gate_script.proofs.SessionLaws.{refuses, out_of_memory, bytes_fed, feed_is_worn, feed_is_unbuilt}
+use Rattle.gate_script.proofs.SessionLaws.{refuses, out_of_memory, bytes_fed, feed_is_worn}
 use Rattle.gate_script.proofs.session.Session.server.Goals as goal
 
 pub returns-in-Ok-clause-step : goal.returns-in-Ok-clause-step
@@ -28,12 +28,6 @@ returns-in-Err-Worn-clause-step g c = λ lines a0 f0 at.
     let step = subst (λ (e : FeedRefusal). FeedEnds at.history c.args.bytes.now c.args.now (Err e) c.feed.new.self) c.in-Err-Worn.field-0-is (c.in-Err-Worn.ensures.step at.history at.stands) in
     refuses lines c.args.now c.args.self.now a0 f0 (g.A.Sink.written c.args.answers.now) (g.F.Sink.written c.args.frames.now) at (server c.args.bytes.now) (Worn c.in-Err-Worn.entries)
     (feed_is_worn lines c.args.now c.args.self.now a0 f0 (g.A.Sink.written c.args.answers.now) (g.F.Sink.written c.args.frames.now) at c.args.bytes.now c.in-Err-Worn.entries step)
-
-pub returns-in-Err-Unbuilt-clause-step : goal.returns-in-Err-Unbuilt-clause-step
-returns-in-Err-Unbuilt-clause-step g c = λ lines a0 f0 at.
-    let step = subst (λ (e : FeedRefusal). FeedEnds at.history c.args.bytes.now c.args.now (Err e) c.feed.new.self) c.in-Err-Unbuilt.field-0-is (c.in-Err-Unbuilt.ensures.step at.history at.stands) in
-    refuses lines c.args.now c.args.self.now a0 f0 (g.A.Sink.written c.args.answers.now) (g.F.Sink.written c.args.frames.now) at (server c.args.bytes.now) (Unbuilt c.in-Err-Unbuilt.place)
-    (feed_is_unbuilt lines c.args.now c.args.self.now a0 f0 (g.A.Sink.written c.args.answers.now) (g.F.Sink.written c.args.frames.now) at c.args.bytes.now c.in-Err-Unbuilt.place step)
 
 pub returns-in-Err-NoMemory-clause-step : goal.returns-in-Err-NoMemory-clause-step
 returns-in-Err-NoMemory-clause-step g c = λ lines a0 f0 at.

@@ -1,0 +1,36 @@
+-- What bytes of a Telnet host are answered: option answers and reports, in the order of the tokens that
+-- cause them (RFC 855; ECMA-48, DSR and DA).
+use Rattle.std.specs.Prelude.{ℕ, List, [], ◌∷◌, ◌++◌, length, drop}
+use Rattle.gate_model.specs.declared.control.Control.{Control}
+use Rattle.gate_model.specs.declared.token.Token.{Token}
+use Rattle.gate_model.specs.Effects.{effect}
+use Rattle.gate_model.specs.OptionAnswers.{all_off, option_answer, switches_from}
+use Rattle.gate_model.specs.Reports.{report}
+use Rattle.gate_model.specs.Screens.{functions}
+use Rattle.gate_model.specs.TelnetTokens.{tokens, doubled}
+use Rattle.gate_model.specs.Terminal.{Terminal, opening_screen}
+
+-- the reports of control functions, from a screen on
+abbrev pub reports_from : Terminal → List Control → List ℕ
+reports_from t [] = []
+reports_from t (c ∷ cs) = report c t ++ reports_from (effect c t) cs
+
+-- the reports of the control functions that tokens complete
+abbrev pub reports : ℕ → ℕ → List Token → List ℕ
+reports cols rows ts = reports_from (opening_screen cols rows) (functions ts)
+
+-- what one token is answered after those before it: its option answer, and the reports of the control
+-- functions that it completes
+abbrev pub reply_to : ℕ → ℕ → List ℕ → List Token → Token → List ℕ
+reply_to cols rows term before t =
+    option_answer cols rows term (switches_from all_off before) t
+    ++ doubled (drop (length (reports cols rows before)) (reports cols rows (before ++ t ∷ [])))
+
+-- what tokens are answered after those before them
+abbrev pub replies_after : ℕ → ℕ → List ℕ → List Token → List Token → List ℕ
+replies_after cols rows term before [] = []
+replies_after cols rows term before (t ∷ ts) = reply_to cols rows term before t ++ replies_after cols rows term (before ++ t ∷ []) ts
+
+-- what bytes are answered, for a screen of so many columns and rows and this terminal type
+abbrev pub replies : ℕ → ℕ → List ℕ → List ℕ → List ℕ
+replies cols rows term bytes = replies_after cols rows term [] (tokens bytes)

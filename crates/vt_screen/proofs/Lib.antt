@@ -1,0 +1,8 @@
+pub mod StopMoves
+pub mod Styles
+pub mod Decimals
+pub mod Ranges
+pub mod Blanking
+pub mod KeyRows
+pub mod Sound
+pub mod PrintedAgain

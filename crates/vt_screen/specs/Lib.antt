@@ -1,0 +1,2 @@
+-- What holds of each screen.
+pub mod Soundness

@@ -1,0 +1,57 @@
+//! Which control functions clear a pending wrap: all but Print, REP, SGR, DSR, DA, HTS and TBC, and those
+//! that have no effect in their case.
+
+ghost use Rattle.std.specs.Prelude.{◌≡◌, ◌≤◌};
+ghost use Rattle.gate_model.specs.Controls.{HasFewParameters};
+ghost use Rattle.gate_model.specs.Effects.{always_clears, clears_wrap, sequence_clears};
+
+use crate::Screen;
+use crate::arguments::{first_choice, listed};
+use crate::modes::names_mode;
+use gate_model::{Control, Params};
+
+impl Screen {
+    // Whether the function clears a pending wrap, by the state before it.
+    pub(crate) fn clears_wrap(&self, control: &Control) -> bool
+        requires { HasFewParameters control.now }
+        ensures { result ≡ clears_wrap control.now self.now }
+    {
+        match control {
+            Control::Print(_) => false,
+            Control::Code(code) => matches!(*code, 0x08..=0x0d),
+            Control::Esc(last) => matches!(*last, b'7' | b'8' | b'E' | b'M' | b'c'),
+            Control::Csi {
+                private,
+                params,
+                last,
+            } => match *private {
+                true => matches!(*last, b'h' | b'l') && names_mode(true, listed(params)),
+                false => self.sequence_clears(params, *last),
+            },
+        }
+    }
+
+    // The same of a control sequence that isn't private.
+    fn sequence_clears(&self, params: &Params, last: u8) -> bool
+        requires { params.now.count ≤ 16 }
+        ensures { result ≡ sequence_clears params.now last self.now }
+    {
+        match last {
+            b'J' | b'K' => first_choice(params) <= 2,
+            b'L' | b'M' => self.is_within(),
+            b'h' | b'l' => names_mode(false, listed(params)),
+            b'r' => self.are_margins(params),
+            _ => always_clears(last),
+        }
+    }
+}
+
+// A cursor movement, or an editing function that always has its effect.
+fn always_clears(last: u8) -> bool
+    ensures { result ≡ always_clears last }
+{
+    matches!(
+        last,
+        b'@'..=b'I' | b'P' | b'S' | b'T' | b'X' | b'Z' | b'd' | b'f'
+    )
+}

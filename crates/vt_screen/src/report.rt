@@ -1,0 +1,59 @@
+//! What a screen reports to the Telnet host.
+
+ghost use Rattle.std.specs.Prelude.{◌≡◌};
+ghost use Rattle.gate_model.specs.Reports.{device_report, position_report, report, sequence_report};
+
+use crate::arguments::first_choice;
+use crate::{Reply, Screen};
+use gate_model::{Control, Params};
+
+// DA: a VT102.
+const DEVICE: &[u8] = b"\x1b[?6c";
+
+impl Screen {
+    // The report of a control function, or none.
+    pub(crate) fn report(&self, control: &Control) -> Reply
+        ensures { result ≡ report control.now self.now }
+    {
+        match control {
+            Control::Csi {
+                private: false,
+                params,
+                last,
+            } => self.sequence_report(params, *last),
+            _ => Reply::none(),
+        }
+    }
+
+    // The same of a control sequence that isn't private: DSR 6, or DA 0.
+    fn sequence_report(&self, params: &Params, last: u8) -> Reply
+        ensures { result ≡ sequence_report params.now last self.now }
+    {
+        match last {
+            b'n' if first_choice(params) == 6 => self.position_report(),
+            b'c' if first_choice(params) == 0 => device_report(),
+            _ => Reply::none(),
+        }
+    }
+
+    // CPR: the cursor's row and column, both counted from 1.
+    fn position_report(&self) -> Reply
+        ensures { result ≡ position_report self.now }
+    {
+        let mut reply = Reply::none();
+        reply.append(b"\x1b[");
+        reply.append_number(self.y + 1);
+        reply.append(b";");
+        reply.append_number(self.x + 1);
+        reply.append(b"R");
+        reply
+    }
+}
+
+fn device_report() -> Reply
+    ensures { result ≡ device_report }
+{
+    let mut reply = Reply::none();
+    reply.append(DEVICE);
+    reply
+}

@@ -1,0 +1,74 @@
+//! What a screen shows.
+
+ghost use Rattle.std.specs.Prelude.{◌≡◌, ◌+◌, ◌*◌, ◌<◌, ◌++◌, IfOk, map, length};
+ghost use Rattle.gate_model.specs.Cells.{rest_of_row};
+ghost use Rattle.gate_model.specs.Screens.{exchanged, face_of, key_of, shown};
+
+use crate::Screen;
+use gate_model::{Cell, Key, NoMemory, Shown};
+use std::alloc::Global;
+
+impl Screen {
+    /// What the screen shows: the key of each place, with ink and paper exchanged at a visible cursor.
+    /// Refused for want of memory alone.
+    pub fn shown(&self, alloc: Global) -> Result<Shown, NoMemory>
+        ensures { IfOk result (λ s. s ≡ shown self.now) }
+    {
+        let mut keys = self.keys(alloc)?;
+        if self.modes.visible {
+            let cursor = self.y as usize * self.columns as usize + self.x as usize;
+            keys[cursor] = exchange(keys[cursor]);
+        }
+        Ok(Shown::new(self.columns, self.rows, keys))
+    }
+
+    // The key of each cell, row by row.
+    fn keys(&self, alloc: Global) -> Result<Vec<Key>, NoMemory>
+        ensures { IfOk result (λ v. v.items ≡ map key_of self.now.grid.cells) }
+    {
+        let count = self.rows as usize * self.columns as usize;
+        let mut keys = Vec::with_capacity(alloc, count)?;
+        for y in 0..self.rows {
+            self.push_row(y, &mut keys)?;
+        }
+        Ok(keys)
+    }
+
+    // Appends the keys of row `y`.
+    fn push_row(&self, y: u16, keys: &mut Vec<Key>) -> Result<(), NoMemory>
+        requires { y < self.now.grid.rows }
+        ensures { IfOk result (λ _. keys.new.items ≡ keys.old.items ++ map key_of (rest_of_row 0 y self.now.grid)) }
+    {
+        for x in 0..self.columns {
+            keys.push(key_of(self.grid.cell(x, y)))?;
+        }
+        Ok(())
+    }
+}
+
+// The key of a cell.
+fn key_of(cell: Cell) -> Key
+    ensures { result ≡ key_of cell }
+{
+    let face = match cell.ch {
+        ' '..='~' => cell.ch,
+        _ => char::REPLACEMENT_CHARACTER,
+    };
+    Key {
+        face,
+        under: cell.under,
+        ink: cell.ink,
+        paper: cell.paper,
+    }
+}
+
+// Ink and paper exchanged.
+fn exchange(key: Key) -> Key
+    ensures { result ≡ exchanged key }
+{
+    Key {
+        ink: key.paper,
+        paper: key.ink,
+        ..key
+    }
+}

@@ -1,0 +1,187 @@
+//! What each control function does: a row for each, after ECMA-48. A function without a row has no
+//! effect.
+
+ghost use Rattle.std.specs.Prelude.{◌≡◌, ◌≤◌};
+ghost use Rattle.gate_model.specs.Controls.{HasFewParameters};
+ghost use Rattle.gate_model.specs.Effects.{act, code_effect, cursor_effect, editing_effect, effect, escape_effect, private_effect, reset, sequence_effect};
+ghost use Rattle.gate_model.specs.Reports.{report};
+
+use crate::arguments::{first_amount, first_choice, listed};
+use crate::modes::Modes;
+use crate::pen::Pen;
+use crate::{Reply, Screen};
+use gate_model::{Control, Params};
+
+impl Screen {
+    /// Does what the control function says, and answers its report, if it has one. The `count` of a
+    /// `Csi` is at most 16 (ECMA-48; the effects are this project's own).
+    pub fn apply(&mut self, control: &Control) -> Reply
+        requires few { HasFewParameters control.now }
+        ensures state { self.new ≡ effect control.now self.old }
+        ensures reply { result ≡ report control.now self.old }
+    {
+        if let Control::Print(ch) = control {
+            self.print(*ch);
+            return Reply::none();
+        }
+        self.apply_any(control)
+    }
+
+    // The same of any function. Apart, so that a character that is printed doesn't pay for it.
+    #[inline(never)]
+    fn apply_any(&mut self, control: &Control) -> Reply
+        requires few { HasFewParameters control.now }
+        ensures state { self.new ≡ effect control.now self.old }
+        ensures reply { result ≡ report control.now self.old }
+    {
+        let clears = self.clears_wrap(control);
+        let reply = self.report(control);
+        self.act(control);
+        if clears {
+            self.pending = false;
+        }
+        reply
+    }
+
+    // What the function does, but for a wrap that is pending.
+    fn act(&mut self, control: &Control)
+        requires { HasFewParameters control.now }
+        ensures { self.new ≡ act control.now self.old }
+    {
+        match control {
+            Control::Print(ch) => self.print(*ch),
+            Control::Code(code) => self.apply_code(*code),
+            Control::Esc(last) => self.apply_escape(*last),
+            Control::Csi {
+                private,
+                params,
+                last,
+            } => match *private {
+                true => self.apply_private(params, *last),
+                false => self.apply_sequence(params, *last),
+            },
+        }
+    }
+
+    // BS, HT, LF, VT, FF and CR.
+    fn apply_code(&mut self, code: u8)
+        ensures { self.new ≡ code_effect code self.old }
+    {
+        match code {
+            0x08 => self.move_back(1),
+            0x09 => self.tab_on(1),
+            0x0a..=0x0c => self.feed_line(),
+            0x0d => self.return_cursor(),
+            _ => {}
+        }
+    }
+
+    // DECSC, DECRC, NEL, HTS, RI and RIS.
+    fn apply_escape(&mut self, last: u8)
+        ensures { self.new ≡ escape_effect last self.old }
+    {
+        match last {
+            b'7' => self.save_cursor(),
+            b'8' => self.restore_cursor(),
+            b'E' => {
+                self.return_cursor();
+                self.feed_line();
+            }
+            b'H' => self.stops.set(self.x),
+            b'M' => self.feed_line_back(),
+            b'c' => self.reset(),
+            _ => {}
+        }
+    }
+
+    // RIS: the state of the start; the lines that were scrolled stay counted.
+    fn reset(&mut self)
+        ensures { self.new ≡ reset self.old }
+    {
+        self.grid.scroll_up(0, self.rows - 1, self.rows);
+        self.x = 0;
+        self.y = 0;
+        self.pending = false;
+        self.top = 0;
+        self.bottom = self.rows - 1;
+        self.stops.reset();
+        self.pen = Pen::plain();
+        self.saved = None;
+        self.last = None;
+        self.modes = Modes::first();
+    }
+
+    // The private modes.
+    fn apply_private(&mut self, params: &Params, last: u8)
+        requires { params.now.count ≤ 16 }
+        ensures { self.new ≡ private_effect params.now last self.old }
+    {
+        match last {
+            b'h' => self.modes.set(true, true, listed(params)),
+            b'l' => self.modes.set(true, false, listed(params)),
+            _ => {}
+        }
+    }
+
+    // REP, TBC, SM, RM, SGR and DECSTBM.
+    fn apply_sequence(&mut self, params: &Params, last: u8)
+        requires { params.now.count ≤ 16 }
+        ensures { self.new ≡ sequence_effect params.now last self.old }
+    {
+        match last {
+            b'b' => self.repeat(first_amount(params)),
+            b'g' => self.stops.clear(first_choice(params), self.x),
+            b'h' => self.modes.set(false, true, listed(params)),
+            b'l' => self.modes.set(false, false, listed(params)),
+            b'm' => self.pen.style(listed(params)),
+            b'r' => self.set_margins(params),
+            _ => self.apply_editing(params, last),
+        }
+    }
+
+    // ICH, ED, EL, IL, DL, DCH, SU, SD and ECH.
+    fn apply_editing(&mut self, params: &Params, last: u8)
+        ensures { self.new ≡ editing_effect params.now last self.old }
+    {
+        let n = first_amount(params);
+        match last {
+            b'@' => self.insert_characters(n),
+            b'J' => self.erase_display(first_choice(params)),
+            b'K' => self.erase_line(first_choice(params)),
+            b'L' => self.insert_lines(n),
+            b'M' => self.delete_lines(n),
+            b'P' => self.delete_characters(n),
+            b'S' => self.scroll_up(n),
+            b'T' => self.scroll_down(n),
+            b'X' => self.erase_characters(n),
+            _ => self.apply_cursor(params, last),
+        }
+    }
+
+    // CUU, CUD, CUF, CUB, CNL, CPL, CHA, CUP, CHT, CBT, VPA and HVP.
+    fn apply_cursor(&mut self, params: &Params, last: u8)
+        ensures { self.new ≡ cursor_effect params.now last self.old }
+    {
+        let n = first_amount(params);
+        match last {
+            b'A' => self.move_up(n),
+            b'B' => self.move_down(n),
+            b'C' => self.move_on(n),
+            b'D' => self.move_back(n),
+            b'E' => {
+                self.move_down(n);
+                self.return_cursor();
+            }
+            b'F' => {
+                self.move_up(n);
+                self.return_cursor();
+            }
+            b'G' => self.move_to_column(n),
+            b'H' | b'f' => self.move_to_place(params),
+            b'I' => self.tab_on(n),
+            b'Z' => self.tab_back(n),
+            b'd' => self.move_to_row(n),
+            _ => {}
+        }
+    }
+}
