@@ -1,0 +1,4 @@
+pub mod Lists
+pub mod Books
+mod Places
+mod BookFacts
