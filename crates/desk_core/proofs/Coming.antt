@@ -6,6 +6,7 @@ use Rattle.std.proofs.lemmas.Bool.Decides.{eqb_tells}
 use Rattle.std.proofs.lemmas.List.{reverse-append, take_all, get_or_append_left, get_or-set_same, get_or-set_other, length-set}
 use Rattle.std.proofs.Math.Seq.{drop-append_seam, get_or-append_seam}
 use Rattle.gate_model.specs.declared.act.Act.{Act}
+use Rattle.gate_model.specs.declared.cause.Cause.{Cause}
 use Rattle.gate_model.specs.declared.how.How.TheVariants.{Suffix}
 use Rattle.gate_model.specs.declared.sharing.Role.{Role}
 use Rattle.gate_model.specs.declared.instr.Instr.{Instr}
@@ -14,16 +15,17 @@ use Rattle.gate_model.specs.declared.entry.Entry.TheVariants.{Start, Feed, Join,
 use Rattle.gate_model.specs.Text.{text, texts}
 use Rattle.gate_model.specs.Entries.{framed}
 use Rattle.gate_model.specs.History.{History, frames, frames_after, instructions, all_frames, newest, joined}
-use Rattle.gate_model.specs.Delivered.{last_sync, closing, delivered, position, handed}
+use Rattle.gate_model.specs.Delivered.{last_sync, position, handed, shown_to}
 use Rattle.gate_model.proofs.Facts.{Facts}
+use Rattle.gate_model.proofs.Truth.{farewell-new}
 use Rattle.gate_model.proofs.Histories.{frames_after-feed}
 use Rattle.desk_core.specs.declared.progress.Progress.{Progress}
-use Rattle.desk_core.specs.Desk.{HasCome}
+use Rattle.desk_core.specs.Viewers.{HasCome}
 use Rattle.desk_core.specs.Stored.{frame_of}
 
 -- how far each of the viewers has come
 abbrev pub AllCome : History → List Progress → Type 0
-AllCome h ps = (i : ℕ) (p : Progress) → i < length ps → HasCome h (delivered h (i + 1)) (get_or ps i p)
+AllCome h ps = (i : ℕ) (p : Progress) → i < length ps → HasCome h (shown_to h (i + 1)) (get_or ps i p)
 
 -- the text of two lists
 pub texts-append : (xs ys : List Instr) → texts (xs ++ ys) ≡ texts xs ++ texts ys
@@ -68,7 +70,7 @@ all-come h p f c = record {
 -- a Feed: the frames go one further, and nobody has come further
 pub viewers-feed : (h : History) (bs : List ℕ) (t : ℕ) (frame : List Instr) (ps : List Progress) → Facts h → newest h < t → AllCome h ps → AllCome (Feed bs t frame ∷ h) ps
 viewers-feed h bs t frame ps f lt all i p small =
-    come-feed h bs t frame (delivered h (i + 1)) (delivered (Feed bs t frame ∷ h) (i + 1)) (get_or ps i p) (omega (arith, f.within (i + 1), lt)) (append-nil (delivered h (i + 1))) (all i p small)
+    come-feed h bs t frame (shown_to h (i + 1)) (shown_to (Feed bs t frame ∷ h) (i + 1)) (get_or ps i p) (omega (arith, f.within (i + 1), f.place (i + 1), lt)) (append-nil (shown_to h (i + 1))) (all i p small)
 
 -- a Join: the new viewer has come as far as the frames go
 pub viewers-join : (h : History) (role : Role) (ps : List Progress) (latest : Progress) → Facts h → length ps ≡ joined h → HasCome h (all_frames h) latest → AllCome h ps
@@ -82,27 +84,23 @@ viewers-join h role ps latest f count last all i p small = cases (eqb_tells (joi
     same = append-nil (frames h)
 
     cases : (((joined h + 1 == i + 1) ≡ true) × (joined h + 1 ≡ i + 1)) ⊎ (((joined h + 1 == i + 1) ≡ false) × (joined h + 1 ≡ i + 1 → ⊥))
-        → HasCome (Join (joined h + 1) role (all_frames h) ∷ h) (delivered (Join (joined h + 1) role (all_frames h) ∷ h) (i + 1)) (get_or (ps ++ latest ∷ []) i p)
+        → HasCome (Join (joined h + 1) role (all_frames h) ∷ h) (shown_to (Join (joined h + 1) role (all_frames h) ∷ h) (i + 1)) (get_or (ps ++ latest ∷ []) i p)
     cases (inl q) =
         let is : i ≡ length ps = omega (arith, q.1, count) in
         let has : get_or (ps ++ latest ∷ []) i p ≡ latest = ap (λ (n : ℕ). get_or (ps ++ latest ∷ []) n p) is ∙ get_or-append_seam ps latest [] p in
         let gives : (if joined h + 1 == i + 1 then all_frames h else []) ≡ all_frames h = rw q.0 refl in
-        let every : delivered h (i + 1) ++ (if joined h + 1 == i + 1 then all_frames h else []) ≡ all_frames h =
-        ap (λ (xs : List Instr). delivered h (i + 1) ++ xs) gives ∙ ap (λ (xs : List Instr). xs ++ all_frames h) (f.not_joined (i + 1) (omega (arith, q.1))) in
-        subst (λ (r : Progress). HasCome (Join (joined h + 1) role (all_frames h) ∷ h) (delivered (Join (joined h + 1) role (all_frames h) ∷ h) (i + 1)) r) (sym has)
-        (come-same h (Join (joined h + 1) role (all_frames h) ∷ h) (all_frames h) (delivered (Join (joined h + 1) role (all_frames h) ∷ h) (i + 1)) latest same every last)
+        let every : shown_to h (i + 1) ++ (if joined h + 1 == i + 1 then all_frames h else []) ≡ all_frames h =
+        ap (λ (xs : List Instr). shown_to h (i + 1) ++ xs) gives ∙ ap (λ (xs : List Instr). xs ++ all_frames h) (farewell-new h f (i + 1) (omega (arith, q.1))).0 in
+        subst (λ (r : Progress). HasCome (Join (joined h + 1) role (all_frames h) ∷ h) (shown_to (Join (joined h + 1) role (all_frames h) ∷ h) (i + 1)) r) (sym has)
+        (come-same h (Join (joined h + 1) role (all_frames h) ∷ h) (all_frames h) (shown_to (Join (joined h + 1) role (all_frames h) ∷ h) (i + 1)) latest same every last)
     cases (inr q) =
         let lt : i < length ps = omega (arith, small, length-append ps (latest ∷ []), q.1, count) in
         let has : get_or (ps ++ latest ∷ []) i p ≡ get_or ps i p = get_or_append_left ps (latest ∷ []) p i lt in
         let gives : (if joined h + 1 == i + 1 then all_frames h else []) ≡ [] = rw q.0 refl in
-        let none : delivered h (i + 1) ++ (if joined h + 1 == i + 1 then all_frames h else []) ≡ delivered h (i + 1) =
-        ap (λ (xs : List Instr). delivered h (i + 1) ++ xs) gives ∙ append-nil (delivered h (i + 1)) in
-        subst (λ (r : Progress). HasCome (Join (joined h + 1) role (all_frames h) ∷ h) (delivered (Join (joined h + 1) role (all_frames h) ∷ h) (i + 1)) r) (sym has)
-        (come-same h (Join (joined h + 1) role (all_frames h) ∷ h) (delivered h (i + 1)) (delivered (Join (joined h + 1) role (all_frames h) ∷ h) (i + 1)) (get_or ps i p) same none (all i p lt))
-
--- what a read gives is all that the viewer lacks
-pub lacked-all : (h : History) (v : ℕ) → Facts h → handed h (position h v) Suffix ++ closing h ≡ instructions (frames_after (position h v) (frames h))
-lacked-all h v f = ap (λ (xs : List Instr). instructions (frames_after (position h v) (frames h)) ++ xs) f.not_closing ∙ append-nil (instructions (frames_after (position h v) (frames h)))
+        let none : shown_to h (i + 1) ++ (if joined h + 1 == i + 1 then all_frames h else []) ≡ shown_to h (i + 1) =
+        ap (λ (xs : List Instr). shown_to h (i + 1) ++ xs) gives ∙ append-nil (shown_to h (i + 1)) in
+        subst (λ (r : Progress). HasCome (Join (joined h + 1) role (all_frames h) ∷ h) (shown_to (Join (joined h + 1) role (all_frames h) ∷ h) (i + 1)) r) (sym has)
+        (come-same h (Join (joined h + 1) role (all_frames h) ∷ h) (shown_to h (i + 1)) (shown_to (Join (joined h + 1) role (all_frames h) ∷ h) (i + 1)) (get_or ps i p) same none (all i p lt))
 
 -- a Read: the viewer has come as far as the frames go
 pub viewers-read : (h : History) (place : ℕ) (ps : List Progress) (latest : Progress) → Facts h → place < length ps → HasCome h (all_frames h) latest → AllCome h ps
@@ -113,47 +111,56 @@ viewers-read h place ps latest f there last all i p small = cases (eqb_tells (pl
     same = append-nil (frames h)
 
     cases : (((place + 1 == i + 1) ≡ true) × (place + 1 ≡ i + 1)) ⊎ (((place + 1 == i + 1) ≡ false) × (place + 1 ≡ i + 1 → ⊥))
-        → HasCome (Read (place + 1) Suffix ∷ h) (delivered (Read (place + 1) Suffix ∷ h) (i + 1)) (get_or (set ps place latest) i p)
+        → HasCome (Read (place + 1) Suffix ∷ h) (shown_to (Read (place + 1) Suffix ∷ h) (i + 1)) (get_or (set ps place latest) i p)
     cases (inl q) =
         let is : i ≡ place = omega (arith, q.1) in
         let has : get_or (set ps place latest) i p ≡ latest = ap (λ (n : ℕ). get_or (set ps place latest) n p) is ∙ get_or-set_same ps place latest p there in
-        let part : List Instr = handed h (position h (i + 1)) Suffix ++ closing h in
-        let gives : (if place + 1 == i + 1 then part else []) ≡ instructions (frames_after (position h (i + 1)) (frames h)) = rw q.0 (lacked-all h (i + 1) f) in
-        let every : delivered h (i + 1) ++ (if place + 1 == i + 1 then part else []) ≡ all_frames h =
-        ap (λ (xs : List Instr). delivered h (i + 1) ++ xs) gives ∙ sym (f.behind (i + 1)) in
-        subst (λ (r : Progress). HasCome (Read (place + 1) Suffix ∷ h) (delivered (Read (place + 1) Suffix ∷ h) (i + 1)) r) (sym has)
-        (come-same h (Read (place + 1) Suffix ∷ h) (all_frames h) (delivered (Read (place + 1) Suffix ∷ h) (i + 1)) latest same every last)
+        let part : List Instr = handed h (position h (i + 1)) Suffix in
+        let gives : (if place + 1 == i + 1 then part else []) ≡ instructions (frames_after (position h (i + 1)) (frames h)) = rw q.0 refl in
+        let every : shown_to h (i + 1) ++ (if place + 1 == i + 1 then part else []) ≡ all_frames h =
+        ap (λ (xs : List Instr). shown_to h (i + 1) ++ xs) gives ∙ sym (f.behind (i + 1)) in
+        subst (λ (r : Progress). HasCome (Read (place + 1) Suffix ∷ h) (shown_to (Read (place + 1) Suffix ∷ h) (i + 1)) r) (sym has)
+        (come-same h (Read (place + 1) Suffix ∷ h) (all_frames h) (shown_to (Read (place + 1) Suffix ∷ h) (i + 1)) latest same every last)
     cases (inr q) =
         let other : i ≢ place = λ is. q.1 (omega (arith, is)) in
         let has : get_or (set ps place latest) i p ≡ get_or ps i p = get_or-set_other ps place i latest p other in
-        let part : List Instr = handed h (position h (i + 1)) Suffix ++ closing h in
+        let part : List Instr = handed h (position h (i + 1)) Suffix in
         let gives : (if place + 1 == i + 1 then part else []) ≡ [] = rw q.0 refl in
-        let none : delivered h (i + 1) ++ (if place + 1 == i + 1 then part else []) ≡ delivered h (i + 1) =
-        ap (λ (xs : List Instr). delivered h (i + 1) ++ xs) gives ∙ append-nil (delivered h (i + 1)) in
-        subst (λ (r : Progress). HasCome (Read (place + 1) Suffix ∷ h) (delivered (Read (place + 1) Suffix ∷ h) (i + 1)) r) (sym has)
-        (come-same h (Read (place + 1) Suffix ∷ h) (delivered h (i + 1)) (delivered (Read (place + 1) Suffix ∷ h) (i + 1)) (get_or ps i p) same none (all i p (omega (arith, small, length-set ps place latest))))
+        let none : shown_to h (i + 1) ++ (if place + 1 == i + 1 then part else []) ≡ shown_to h (i + 1) =
+        ap (λ (xs : List Instr). shown_to h (i + 1) ++ xs) gives ∙ append-nil (shown_to h (i + 1)) in
+        subst (λ (r : Progress). HasCome (Read (place + 1) Suffix ∷ h) (shown_to (Read (place + 1) Suffix ∷ h) (i + 1)) r) (sym has)
+        (come-same h (Read (place + 1) Suffix ∷ h) (shown_to h (i + 1)) (shown_to (Read (place + 1) Suffix ∷ h) (i + 1)) (get_or ps i p) same none (all i p (omega (arith, small, length-set ps place latest))))
 
 -- a Write: nobody has come further
 pub viewers-write : (h : History) (viewer : ℕ) (acts : List Act) (ps : List Progress) → AllCome h ps → AllCome (Write viewer acts ∷ h) ps
 viewers-write h viewer acts ps all i p small =
-    come-same h (Write viewer acts ∷ h) (delivered h (i + 1)) (delivered (Write viewer acts ∷ h) (i + 1)) (get_or ps i p) (append-nil (frames h)) (append-nil (delivered h (i + 1))) (all i p small)
+    come-same h (Write viewer acts ∷ h) (shown_to h (i + 1)) (shown_to (Write viewer acts ∷ h) (i + 1)) (get_or ps i p) (append-nil (frames h)) (append-nil (shown_to h (i + 1))) (all i p small)
 
 -- a Take: nobody has come further
 pub viewers-take : (h : History) (count : ℕ) (ps : List Progress) → AllCome h ps → AllCome (Take count ∷ h) ps
 viewers-take h count ps all i p small =
-    come-same h (Take count ∷ h) (delivered h (i + 1)) (delivered (Take count ∷ h) (i + 1)) (get_or ps i p) (append-nil (frames h)) (append-nil (delivered h (i + 1))) (all i p small)
+    come-same h (Take count ∷ h) (shown_to h (i + 1)) (shown_to (Take count ∷ h) (i + 1)) (get_or ps i p) (append-nil (frames h)) (append-nil (shown_to h (i + 1))) (all i p small)
+
+-- a Leave, and a Close: nobody has come further
+pub viewers-leave : (h : History) (viewer : ℕ) (ps : List Progress) → AllCome h ps → AllCome (Leave viewer ∷ h) ps
+viewers-leave h viewer ps all i p small =
+    come-same h (Leave viewer ∷ h) (shown_to h (i + 1)) (shown_to (Leave viewer ∷ h) (i + 1)) (get_or ps i p) (append-nil (frames h)) (append-nil (shown_to h (i + 1))) (all i p small)
+
+pub viewers-close : (h : History) (cause : Cause) (ps : List Progress) → AllCome h ps → AllCome (Close cause ∷ h) ps
+viewers-close h cause ps all i p small =
+    come-same h (Close cause ∷ h) (shown_to h (i + 1)) (shown_to (Close cause ∷ h) (i + 1)) (get_or ps i p) (append-nil (frames h)) (append-nil (shown_to h (i + 1))) (all i p small)
 
 -- the text past what a viewer was given is the text of what it lacks
-pub text_past : (h : History) (v : ℕ) → Facts h → drop (length (texts (delivered h v))) (texts (all_frames h)) ≡ texts (instructions (frames_after (position h v) (frames h)))
+pub text_past : (h : History) (v : ℕ) → Facts h → drop (length (texts (shown_to h v))) (texts (all_frames h)) ≡ texts (instructions (frames_after (position h v) (frames h)))
 text_past h v f =
     let rest : List Instr = instructions (frames_after (position h v) (frames h)) in
-    ap (λ (xs : List ℕ). drop (length (texts (delivered h v))) xs) (ap texts (f.behind v) ∙ texts-append (delivered h v) rest) ∙ drop-append_seam (texts (delivered h v)) (texts rest)
+    ap (λ (xs : List ℕ). drop (length (texts (shown_to h v))) xs) (ap texts (f.behind v) ∙ texts-append (shown_to h v) rest) ∙ drop-append_seam (texts (shown_to h v)) (texts rest)
 
 -- .. and isn't past the end
-pub text_within : (h : History) (v : ℕ) → Facts h → length (texts (delivered h v)) ≤ length (texts (all_frames h))
+pub text_within : (h : History) (v : ℕ) → Facts h → length (texts (shown_to h v)) ≤ length (texts (all_frames h))
 text_within h v f =
     let rest : List Instr = instructions (frames_after (position h v) (frames h)) in
-    omega (arith, ap length (ap texts (f.behind v) ∙ texts-append (delivered h v) rest), length-append (texts (delivered h v)) (texts rest))
+    omega (arith, ap length (ap texts (f.behind v) ∙ texts-append (shown_to h v) rest), length-append (texts (shown_to h v)) (texts rest))
 
 -- the stored list, with one entry more
 pub reverse_more : (e : Entry) (h : History) → reverse (e ∷ h) ≡ reverse h ++ e ∷ []

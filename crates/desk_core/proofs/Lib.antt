@@ -1,7 +1,10 @@
 pub mod Results
 pub mod Hearing
+pub mod Keying
+pub mod Seating
 pub mod Coming
 pub mod Standing
 pub mod Calling
+pub mod Running
 pub mod Refusing
 pub mod Readables

@@ -1,26 +1,33 @@
 -- What a desk keeps, and the histories that it may stand for: one field for each part that it keeps
 -- (this project's own).
-use Rattle.std.specs.Prelude.{◌≡◌, ℕ, ◌+◌, ◌<◌, ◌≤◌, List, length, drop, reverse, slice_index_or}
+use Rattle.std.specs.Prelude.{◌≡◌, ℕ, ◌+◌, ◌<◌, ◌≤◌, List, length, drop, reverse, slice_index_or, Option}
+use Rattle.gate_model.specs.declared.cause.Cause.{Cause}
 use Rattle.gate_model.specs.declared.entry.Entry.{Entry}
-use Rattle.gate_model.specs.declared.instr.Instr.{Instr}
+use Rattle.gate_model.specs.declared.sharing.Share.{Share}
 use Rattle.gate_model.specs.Text.{texts}
-use Rattle.gate_model.specs.History.{History, bytes, columns, lines, terminal_type, capacity, frames, frames_after, newest_frame, all_frames, joined}
+use Rattle.gate_model.specs.History.{History, bytes, columns, lines, share_mode, terminal_type, capacity, newest_frame, all_frames, joined}
 use Rattle.gate_model.specs.Output.{out, taken, untaken}
-use Rattle.gate_model.specs.Delivered.{last_sync, delivered}
+use Rattle.gate_model.specs.Delivered.{shown_to}
+use Rattle.gate_model.specs.Refusals.{close_cause}
 use Rattle.gate_model.specs.Steps.{Legal}
 use Rattle.gate_model.specs.Truth.{AllDrawn}
 use Rattle.frame_draw.specs.Readable.{AreReadable}
 use Rattle.desk_core.specs.declared.host.Host.{Host}
 use Rattle.desk_core.specs.declared.progress.Progress.{Progress}
+use Rattle.viewer_book.specs.Book.{BookState}
 use Rattle.desk_core.specs.Host.{HasHeard}
+use Rattle.desk_core.specs.Viewers.{HasBook, HasCome}
 
--- `cols`, `rows` and `term` are the size and the terminal type that the host is told; `capacity` is the
--- most entries; `stored` has every entry, the oldest first, and `entries` counts them. `host` is what the
--- host's bytes have left, and `outgoing` what waits for it. `text` is the text of every frame, and the newest frame's begins at `last`. `latest` is how
--- far the frames go, and `viewers` how far each viewer has come, viewer 1 first.
+-- `cols`, `rows` and `term` are the size and the terminal type that the host is told, `mode` is the share
+-- mode, and `capacity` the most entries. `stored` has every entry, the oldest first, and `entries` counts
+-- them. `host` is what the host's bytes have left, and `outgoing` what waits for it. `text` is the text of
+-- every frame, and the newest frame's begins at `last`. `latest` is how far the frames go. `book` has the
+-- live viewers, and `viewers` says how far each that joined has come, viewer 1 first. `cause` is why the
+-- session was closed.
 pub record DeskState : Type 0 where
   pub cols : ℕ
   pub rows : ℕ
+  pub mode : Share
   pub term : List ℕ
   pub capacity : ℕ
   pub stored : List Entry
@@ -30,14 +37,9 @@ pub record DeskState : Type 0 where
   pub text : List ℕ
   pub last : ℕ
   pub latest : Progress
+  pub book : BookState
   pub viewers : List Progress
-
--- how far someone has come who was given these instructions: the last stamp, the number of frames up
--- to it, and the bytes of the text
-pub record HasCome (h : History) (given : List Instr) (p : Progress) : Type 0 where
-  pub stamp : p.stamp ≡ last_sync given
-  pub frames : p.frames + length (frames_after (last_sync given) (frames h)) ≡ length (frames h)
-  pub bytes : p.bytes ≡ length (texts given)
+  pub cause : Option Cause
 
 -- the desk stands for the history
 pub record Stands (d : DeskState) (h : History) : Type 0 where
@@ -46,6 +48,7 @@ pub record Stands (d : DeskState) (h : History) : Type 0 where
   pub readable : AreReadable (all_frames h)
   pub cols : d.cols ≡ columns h
   pub rows : d.rows ≡ lines h
+  pub mode : d.mode ≡ share_mode h
   pub term : d.term ≡ terminal_type h
   pub capacity : d.capacity ≡ capacity h
   pub stored : d.stored ≡ reverse h
@@ -57,8 +60,10 @@ pub record Stands (d : DeskState) (h : History) : Type 0 where
   pub last : drop d.last d.text ≡ texts (newest_frame h)
   pub within : d.last ≤ length d.text
   pub latest : HasCome h (all_frames h) d.latest
+  pub book : HasBook d.book h
   pub joined : length d.viewers ≡ joined h
-  pub viewers : (i : ℕ) (p : Progress) → i < length d.viewers → HasCome h (delivered h (i + 1)) (slice_index_or d.viewers i p)
+  pub viewers : (i : ℕ) (p : Progress) → i < length d.viewers → HasCome h (shown_to h (i + 1)) (slice_index_or d.viewers i p)
+  pub cause : d.cause ≡ close_cause h
 
 -- it stands for some history
 abbrev pub IsKept : DeskState → Type 0

@@ -10,7 +10,13 @@ use std::alloc::Global;
 use std::test::Fail;
 
 /// A desk of a session that nobody shares, with the terminal type `linux`.
-fn opened(alloc: Global, cols: u16, rows: u16, entries: u64, now: u64) -> Result<Desk, NoMemory>
+pub(crate) fn opened(
+    alloc: Global,
+    cols: u16,
+    rows: u16,
+    entries: u64,
+    now: u64,
+) -> Result<Desk, NoMemory>
     requires size { IsScreenSize cols rows }
     requires some { 1 ≤ entries }
     requires few { entries ≤ 2 ^ 40 }
@@ -37,47 +43,51 @@ fn acknowledge(
 }
 
 /// Each stamp follows the clock, which counts no further than 2^53, and rises where the clock falls
-/// back. The owner is given the frames that it lacks, once.
+/// back.
 #[test]
-fn stamps_rise_and_each_frame_is_given_once(rt: HostRuntime) -> Result<(), Fail> {
+fn stamps_follow_the_clock_and_rise(rt: HostRuntime) -> Result<(), Fail> {
     let alloc = rt.alloc();
-    let clear = "4.rect,1.0,1.0,1.0,1.8,2.16;5.cfill,2.14,1.0,3.170,3.170,3.170,3.255;";
     let mut desk = opened(alloc, 1, 1, 100, 1000)?;
     assert_eq!(rt; desk.stamp(), 1000);
+    let late = 9007199254740993;
+    for (now, stamp) in [(10, 1001), (late, 9007199254740992), (late, late)] {
+        assert_eq!(rt; desk.feed(alloc, b"\r", now), Ok(stamp));
+        assert_eq!(rt; desk.stamp(), stamp);
+    }
+    Ok(())
+}
+
+/// The owner is given the opening frame as it joins, then the frames that it lacks, and each once.
+#[test]
+fn each_frame_is_given_once(rt: HostRuntime) -> Result<(), Fail> {
+    let alloc = rt.alloc();
+    let mut desk = opened(alloc, 1, 1, 100, 1000)?;
     let mut given = Vec::new(alloc);
-    let first = format!(in alloc; "4.size,1.0,1.8,2.16;{clear}4.sync,4.1000;")?;
-    assert!(rt; desk.newest_frame() == first.as_bytes());
-    let owner = desk.join(alloc, Asked::Owner, &mut given);
     let joined = Joined {
         viewer: 1,
         role: Role::Control,
         stamp: 1000,
     };
-    assert_eq!(rt; owner, Ok(joined));
-    assert!(rt; given.as_slice() == first.as_bytes());
-    assert_eq!(rt; desk.read(1, &mut given), Ok(ReadAnswer::Empty));
-    assert_eq!(rt; desk.feed(alloc, b"\r", 10), Ok(1001));
-    let late = 9007199254740993;
-    assert_eq!(rt; desk.feed(alloc, b"\r", late), Ok(9007199254740992));
-    assert_eq!(rt; desk.feed(alloc, b"\r", late), Ok(late));
-    assert_eq!(rt; desk.stamp(), late);
-    let newest = format!(in alloc; "{clear}4.sync,16.9007199254740993;")?;
-    assert!(rt; desk.newest_frame() == newest.as_bytes());
-    given.clear();
+    assert_eq!(rt; desk.join(alloc, Asked::Owner, &mut given), Ok(joined));
+    for stamp in [1001, 1002] {
+        assert_eq!(rt; desk.feed(alloc, b"\r", 0), Ok(stamp));
+    }
     let frames = ReadAnswer::Frames {
-        count: 3,
-        stamp: late,
+        count: 2,
+        stamp: 1002,
         closed: false,
     };
-    assert_eq!(rt; desk.read(1, &mut given), Ok(frames));
-    let lacked = format!(in alloc;
-        "{clear}4.sync,4.1001;{clear}4.sync,16.9007199254740992;{newest}"
-    )?;
-    assert!(rt; given.as_slice() == lacked.as_bytes());
-    assert_eq!(rt; desk.read(1, &mut given), Ok(ReadAnswer::Empty));
-    let written = Written { keys: 0, denied: 0 };
-    assert_eq!(rt; acknowledge(&mut desk, alloc, 1, late), Ok(written));
-    assert_eq!(rt; desk.entries(), 7);
+    for answer in [Ok(frames), Ok(ReadAnswer::Empty)] {
+        assert_eq!(rt; desk.read(1, &mut given), answer);
+    }
+    let text = b"4.size,1.0,1.8,2.16;\
+        4.rect,1.0,1.0,1.0,1.8,2.16;5.cfill,2.14,1.0,3.170,3.170,3.170,3.255;4.sync,4.1000;\
+        4.rect,1.0,1.0,1.0,1.8,2.16;5.cfill,2.14,1.0,3.170,3.170,3.170,3.255;4.sync,4.1001;\
+        4.rect,1.0,1.0,1.0,1.8,2.16;5.cfill,2.14,1.0,3.170,3.170,3.170,3.255;4.sync,4.1002;";
+    assert!(rt; given.as_slice() == text.as_slice());
+    let newest =
+        b"4.rect,1.0,1.0,1.0,1.8,2.16;5.cfill,2.14,1.0,3.170,3.170,3.170,3.255;4.sync,4.1002;";
+    assert!(rt; desk.newest_frame() == newest.as_slice());
     Ok(())
 }
 
@@ -152,30 +162,40 @@ fn a_write_counts_its_keys(rt: HostRuntime) -> Result<(), Fail> {
 }
 
 /// The bytes that wait, all of them, as one take hands them out.
-fn all_taken(alloc: Global, desk: &mut Desk) -> Result<Vec<u8>, Fail> {
+pub(crate) fn all_taken(alloc: Global, desk: &mut Desk) -> Result<Vec<u8>, Fail> {
     let mut bytes = vec![in alloc; 0; 100]?;
     let taken = desk.take(&mut bytes)?;
     bytes.truncate(taken.count);
     Ok(bytes)
 }
 
-/// Option answers and reports wait in the order of the bytes that complete their causes, also where the host's bytes
-/// come one by one: a request for the position, DO 31, text, and a request for the position again.
+/// What a host sends that asks for the position, sends DO 31 and text, and asks for the position again.
+const ASKED: [u8; 13] = *b"\x1b[6n\xff\xfd\x1fAB\x1b[6n";
+
+/// What it is answered on a screen of 80 columns and 24 rows.
+const REPLIES: [u8; 24] = *b"\x1b[1;1R\xff\xfb\x1f\xff\xfa\x1f\x00\x50\x00\x18\xff\xf0\x1b[1;3R";
+
+/// Option answers and reports wait in the order of the bytes that complete their causes.
 #[test]
 fn answers_and_reports_wait_in_order(rt: HostRuntime) -> Result<(), Fail> {
     let alloc = rt.alloc();
-    let sent = b"\x1b[6n\xff\xfd\x1fAB\x1b[6n";
-    let replies = b"\x1b[1;1R\xff\xfb\x1f\xff\xfa\x1f\x00\x50\x00\x18\xff\xf0\x1b[1;3R";
-    let mut whole = opened(alloc, 80, 24, 100, 0)?;
-    assert_eq!(rt; whole.feed(alloc, sent, 0), Ok(2));
-    assert_eq!(rt; whole.pending(), 24);
-    assert!(rt; all_taken(alloc, &mut whole)?.as_slice() == replies.as_slice());
-    assert_eq!(rt; whole.pending(), 0);
-    let mut cut = opened(alloc, 80, 24, 100, 0)?;
-    for byte in sent {
-        assert!(rt; cut.feed(alloc, &[*byte], 0).is_ok());
+    let mut desk = opened(alloc, 80, 24, 100, 0)?;
+    assert_eq!(rt; desk.feed(alloc, &ASKED, 0), Ok(2));
+    assert_eq!(rt; desk.pending(), 24);
+    assert!(rt; all_taken(alloc, &mut desk)?.as_slice() == REPLIES.as_slice());
+    assert_eq!(rt; desk.pending(), 0);
+    Ok(())
+}
+
+/// The same answers and reports wait where the host's bytes come one by one.
+#[test]
+fn bytes_that_come_one_by_one_are_answered_alike(rt: HostRuntime) -> Result<(), Fail> {
+    let alloc = rt.alloc();
+    let mut desk = opened(alloc, 80, 24, 100, 0)?;
+    for byte in ASKED {
+        desk.feed(alloc, &[byte], 0)?;
     }
-    assert!(rt; all_taken(alloc, &mut cut)?.as_slice() == replies.as_slice());
+    assert!(rt; all_taken(alloc, &mut desk)?.as_slice() == REPLIES.as_slice());
     Ok(())
 }
 

@@ -1,10 +1,11 @@
 -- What each entry does to the parts of a history, for the proofs above.
-use Rattle.std.proofs.Common.{◌≡◌, ℕ, ◌*◌, ◌<◌, List, [], ◌∷◌, ◌++◌, false, refl, ap, sym, ◌∙◌, append-nil}
+use Rattle.std.proofs.Common.{◌≡◌, ℕ, ◌*◌, ◌<◌, List, [], ◌∷◌, ◌++◌, refl, ap, sym, ◌∙◌, append-nil}
 use Rattle.std.specs.Prelude.{nat_lt}
 use Rattle.std.proofs.lemmas.Grind.{flat_map-append}
 use Rattle.std.proofs.lemmas.List.Elements.{filter-append}
 use Rattle.std.proofs.lemmas.Bool.{lt-ltb}
 use Rattle.gate_model.specs.declared.act.Act.{Act}
+use Rattle.gate_model.specs.declared.cause.Cause.{Cause}
 use Rattle.gate_model.specs.declared.instr.Instr.{Instr}
 use Rattle.gate_model.specs.declared.entry.Entry.{Entry}
 use Rattle.gate_model.specs.declared.entry.Entry.TheVariants.{Start, Feed, Join, Read, Write, Take, Leave, Close}
@@ -17,7 +18,7 @@ use Rattle.gate_model.specs.Screens.{after_controls, functions, shown}
 use Rattle.gate_model.specs.TelnetTokens.{tokens}
 use Rattle.gate_model.specs.Terminal.{opening_screen}
 use Rattle.gate_model.specs.Entries.{fed, framed}
-use Rattle.gate_model.specs.History.{History, at, bytes, columns, lines, frames, frames_after, instructions, all_frames, is_closed}
+use Rattle.gate_model.specs.History.{History, at, bytes, columns, lines, frames, frames_after, instructions, all_frames}
 use Rattle.gate_model.specs.Steps.{IsScreenSize, IsNext, Legal}
 use Rattle.gate_model.specs.Truth.{AllDrawn}
 use Rattle.gate_model.proofs.Drawing.{draw-append}
@@ -52,6 +53,12 @@ plain-write viewer acts = record { no_bytes = refl; no_frame = refl; no_start = 
 pub plain-take : (count : ℕ) → IsPlain (Take count)
 plain-take count = record { no_bytes = refl; no_frame = refl; no_start = λ g. (refl, refl) }
 
+pub plain-leave : (viewer : ℕ) → IsPlain (Leave viewer)
+plain-leave viewer = record { no_bytes = refl; no_frame = refl; no_start = λ g. (refl, refl) }
+
+pub plain-close : (cause : Cause) → IsPlain (Close cause)
+plain-close cause = record { no_bytes = refl; no_frame = refl; no_start = λ g. (refl, refl) }
+
 pub at-plain : (h : History) (e : Entry) → IsPlain e → at (e ∷ h) ≡ at h
 at-plain h e p =
     let b : bytes (e ∷ h) ≡ bytes h = rw p.no_bytes (append-nil (bytes h)) in
@@ -61,25 +68,6 @@ pub all_frames-plain : (h : History) (e : Entry) → IsPlain e → all_frames (e
 all_frames-plain h e p = let f : frames (e ∷ h) ≡ frames h = rw p.no_frame (append-nil (frames h)) in ap instructions f
 
 -- what a legal history has
-pub legal-open : (h : History) → Legal h → is_closed h ≡ false
-legal-open [] l = absurd l
-legal-open (Start cols rows mode term entries stamp frame ∷ []) l = refl
-legal-open (Feed bs stamp frame ∷ []) l = absurd l
-legal-open (Join viewer role first ∷ []) l = absurd l
-legal-open (Read viewer how ∷ []) l = absurd l
-legal-open (Write viewer acts ∷ []) l = absurd l
-legal-open (Take count ∷ []) l = absurd l
-legal-open (Leave viewer ∷ []) l = absurd l
-legal-open (Close cause ∷ []) l = absurd l
-legal-open (Start cols rows mode term entries stamp frame ∷ f ∷ g) l = absurd l.1
-legal-open (Feed bs stamp frame ∷ f ∷ g) l = legal-open (f ∷ g) l.0
-legal-open (Join viewer role first ∷ f ∷ g) l = legal-open (f ∷ g) l.0
-legal-open (Read viewer how ∷ f ∷ g) l = legal-open (f ∷ g) l.0
-legal-open (Write viewer acts ∷ f ∷ g) l = legal-open (f ∷ g) l.0
-legal-open (Take count ∷ f ∷ g) l = legal-open (f ∷ g) l.0
-legal-open (Leave viewer ∷ f ∷ g) l = absurd l.1
-legal-open (Close cause ∷ f ∷ g) l = absurd l.1
-
 pub legal-size : (h : History) → Legal h → IsScreenSize (columns h) (lines h)
 legal-size [] l = absurd l
 legal-size (Start cols rows mode term entries stamp frame ∷ []) l = l.size
@@ -96,8 +84,8 @@ legal-size (Join viewer role first ∷ f ∷ g) l = legal-size (f ∷ g) l.0
 legal-size (Read viewer how ∷ f ∷ g) l = legal-size (f ∷ g) l.0
 legal-size (Write viewer acts ∷ f ∷ g) l = legal-size (f ∷ g) l.0
 legal-size (Take count ∷ f ∷ g) l = legal-size (f ∷ g) l.0
-legal-size (Leave viewer ∷ f ∷ g) l = absurd l.1
-legal-size (Close cause ∷ f ∷ g) l = absurd l.1
+legal-size (Leave viewer ∷ f ∷ g) l = legal-size (f ∷ g) l.0
+legal-size (Close cause ∷ f ∷ g) l = legal-size (f ∷ g) l.0
 
 -- one entry more is legal where it may follow
 pub legal-next : (h : History) (e : Entry) → Legal h → IsNext h e → Legal (e ∷ h)

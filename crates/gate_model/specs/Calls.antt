@@ -1,20 +1,22 @@
 -- Each call of a desk after a history: what it is given, what it answers, and the entry that it adds
 -- (this project's own).
-use Rattle.std.specs.Prelude.{◌≡◌, ℕ, ◌-◌, ◌<◌, ◌≤◌, ◌^◌, min, List, [], ◌∷◌, length, take, ◌==◌, if◌then◌else◌, Bool, true, false, ◌&&◌, nat_le, count_by, Some, None, Result, Ok, Err}
+use Rattle.std.specs.Prelude.{◌≡◌, ℕ, ◌-◌, ◌≤◌, ◌^◌, min, List, [], ◌∷◌, length, take, ◌==◌, if◌then◌else◌, Bool, true, false, ◌&&◌, nat_le, count_by, Some, None, Result, Ok, Err}
 use Rattle.std.specs.List.{list_all}
+use Rattle.gate_model.specs.declared.cause.Cause.{Cause}
+use Rattle.gate_model.specs.declared.closed.Closed.{Closed}
+use Rattle.gate_model.specs.declared.no_viewer.NoViewer.{NoViewer}
 use Rattle.gate_model.specs.declared.act.Act.{Act}
 use Rattle.gate_model.specs.declared.act.Act.TheVariants.{Key as key_act}
 use Rattle.gate_model.specs.declared.how.How.TheVariants.{Suffix}
 use Rattle.gate_model.specs.declared.instr.Instr.{Instr}
 use Rattle.gate_model.specs.declared.sharing.Asked.{Asked}
-use Rattle.gate_model.specs.declared.sharing.Asked.TheVariants.{Owner}
 use Rattle.gate_model.specs.declared.setup.Setup.{Setup}
 use Rattle.gate_model.specs.declared.entry.Entry.{Entry}
-use Rattle.gate_model.specs.declared.entry.Entry.TheVariants.{Start, Feed, Join, Read, Write, Take}
+use Rattle.gate_model.specs.declared.entry.Entry.TheVariants.{Start, Feed, Join, Read, Write, Take, Leave, Close}
 use Rattle.gate_model.specs.declared.event.Event.{Event}
-use Rattle.gate_model.specs.declared.event.Event.TheVariants.{Feed as feed, Join as join, Read as read, Write as write, Take as take_most}
+use Rattle.gate_model.specs.declared.event.Event.TheVariants.{Feed as feed, Join as join, Read as read, Write as write, Take as take_most, Leave as leave, Close as close}
 use Rattle.gate_model.specs.declared.answer.Answer.{Answer}
-use Rattle.gate_model.specs.declared.answer.Answer.TheVariants.{Feed as fed, Join as joined_as, Read as was_read, Write as was_written, Take as was_taken}
+use Rattle.gate_model.specs.declared.answer.Answer.TheVariants.{Feed as fed, Join as joined_as, Read as was_read, Write as was_written, Take as was_taken, Leave as was_left, Close as was_closed}
 use Rattle.gate_model.specs.declared.joined.Joined.{Joined}
 use Rattle.gate_model.specs.declared.written.Written.{Written}
 use Rattle.gate_model.specs.declared.feed_refusal.FeedRefusal.{FeedRefusal}
@@ -24,11 +26,13 @@ use Rattle.gate_model.specs.declared.read_answer.ReadAnswer.TheVariants.{Frames}
 use Rattle.gate_model.specs.declared.read_refusal.ReadRefusal.{ReadRefusal}
 use Rattle.gate_model.specs.declared.write_refusal.WriteRefusal.{WriteRefusal}
 use Rattle.gate_model.specs.Limits.{most_piece, most_entries, most_acts}
-use Rattle.gate_model.specs.History.{History, next_stamp, newest, frames, frames_after, joined, is_closed}
+use Rattle.gate_model.specs.History.{History, next_stamp, newest, frames, frames_after, share_mode, is_closed}
+use Rattle.gate_model.specs.Rights.{may}
+use Rattle.gate_model.specs.Roles.{grant_of}
 use Rattle.gate_model.specs.Delivered.{position}
 use Rattle.gate_model.specs.Output.{untaken}
 use Rattle.gate_model.specs.Steps.{IsScreenSize, Starts, Feeds, Joins, Reads, Writes}
-use Rattle.gate_model.specs.Refusals.{feed_refusal, join_refusal, read_stop, write_refusal}
+use Rattle.gate_model.specs.Refusals.{feed_refusal, join_refusal, read_stop, write_refusal, leave_refusal, close_refusal}
 
 -- a terminal type is 1 to 40 characters from ! to ~
 abbrev pub is_mark : ℕ → Bool
@@ -72,25 +76,18 @@ FeedOutcome h bytes now (Err refusal) added = (feed_refusal h ≡ Some refusal) 
 abbrev pub FeedStep : History → List ℕ → ℕ → Result ℕ FeedRefusal → List Entry → Type 0
 FeedStep h bytes now result added = IsPiece bytes × FeedOutcome h bytes now result added
 
--- in this version an owner joins, and fewer than 2^32 - 1 viewers joined before
-pub record IsJoin (h : History) (asked : Asked) : Type 0 where
-  pub owner : asked ≡ Owner
-  pub few : joined h < 2 ^ 32 - 1
-
--- the Join is added, and the viewer, its role and the newest stamp are answered
-pub record JoinAdds (h : History) (given : Joined) (added : List Entry) : Type 0 where
-  pub allowed : join_refusal h ≡ None
+-- the Join is added, and the viewer, the role that it gets and the newest stamp are answered
+pub record JoinAdds (h : History) (asked : Asked) (given : Joined) (added : List Entry) : Type 0 where
+  pub allowed : join_refusal h asked ≡ None
+  pub granted : grant_of (share_mode h) asked ≡ Ok given.role
   pub first : List Instr
   pub adds : added ≡ Join given.viewer given.role first ∷ []
   pub stamp : given.stamp ≡ newest h
   pub joins : Joins h given.viewer given.role first
 
-abbrev pub JoinOutcome : History → Result Joined JoinRefusal → List Entry → Type 0
-JoinOutcome h (Ok given) added = JoinAdds h given added
-JoinOutcome h (Err refusal) added = (join_refusal h ≡ Some refusal) × (added ≡ [])
-
 abbrev pub JoinStep : History → Asked → Result Joined JoinRefusal → List Entry → Type 0
-JoinStep h asked result added = IsJoin h asked × JoinOutcome h result added
+JoinStep h asked (Ok given) added = JoinAdds h asked given added
+JoinStep h asked (Err refusal) added = (join_refusal h asked ≡ Some refusal) × (added ≡ [])
 
 -- how many frames come after the viewer's position
 abbrev pub lacked : History → ℕ → ℕ
@@ -118,12 +115,12 @@ is_key_act a = false
 pub record IsWrite (acts : List Act) : Type 0 where
   pub few : length acts ≤ most_acts
 
--- the Write is added; every viewer of this version may type, so its key acts count and none is denied
+-- the Write is added; its key acts count where the viewer may type, and are denied where it may not
 pub record WriteAdds (h : History) (viewer : ℕ) (acts : List Act) (counts : Written) (added : List Entry) : Type 0 where
   pub allowed : write_refusal h viewer ≡ None
   pub adds : added ≡ Write viewer acts ∷ []
-  pub keys : counts.keys ≡ count_by is_key_act acts
-  pub denied : counts.denied ≡ 0
+  pub keys : counts.keys ≡ (if may h viewer then count_by is_key_act acts else 0)
+  pub denied : counts.denied ≡ (if may h viewer then 0 else count_by is_key_act acts)
   pub writes : Writes h viewer acts
 
 abbrev pub WriteOutcome : History → ℕ → List Act → Result Written WriteRefusal → List Entry → Type 0
@@ -144,6 +141,16 @@ pub record TakeStep (h : History) (most : ℕ) (bytes : List ℕ) (closed : Bool
   pub closes : closed ≡ is_closed h
   pub adds : added ≡ take_entry (length bytes)
 
+-- the Leave is added, or the viewer isn't there
+abbrev pub LeaveStep : History → ℕ → Result (Unit {0}) NoViewer → List Entry → Type 0
+LeaveStep h viewer (Ok done) added = (leave_refusal h viewer ≡ None) × (added ≡ Leave viewer ∷ [])
+LeaveStep h viewer (Err refusal) added = (leave_refusal h viewer ≡ Some refusal) × (added ≡ [])
+
+-- the Close is added, or the session was closed before
+abbrev pub CloseStep : History → Cause → Result (Unit {0}) Closed → List Entry → Type 0
+CloseStep h cause (Ok done) added = (close_refusal h ≡ None) × (added ≡ Close cause ∷ [])
+CloseStep h cause (Err refusal) added = (close_refusal h ≡ Some refusal) × (added ≡ [])
+
 -- the call answers as its rule says, and adds these entries, none or one
 abbrev pub Step : History → Event → Answer → List Entry → Type 0
 Step h (feed bytes now) (fed result) added = FeedStep h bytes now result added
@@ -151,4 +158,6 @@ Step h (join asked) (joined_as result) added = JoinStep h asked result added
 Step h (read viewer) (was_read result) added = ReadStep h viewer result added
 Step h (write viewer acts) (was_written result) added = WriteStep h viewer acts result added
 Step h (take_most most) (was_taken bytes closed) added = TakeStep h most bytes closed added
+Step h (leave viewer) (was_left result) added = LeaveStep h viewer result added
+Step h (close cause) (was_closed result) added = CloseStep h cause result added
 Step h event answer added = ⊥

@@ -1,11 +1,11 @@
 -- What each control function does to a screen: one row for each, named after ECMA-48 (the effects are this
 -- project's own). A function without a row has no effect.
-use Rattle.std.specs.Prelude.{ℕ, List, Bool, true, false, ◌&&◌, ◌||◌, ◌==◌, nat_le, if◌then◌else◌}
+use Rattle.std.specs.Prelude.{ℕ, Bool, true, false, ◌&&◌, ◌||◌, ◌==◌, nat_le, if◌then◌else◌}
 use Rattle.std.specs.Int.{is_in_range}
 use Rattle.gate_model.specs.declared.control.Control.{Control}
 use Rattle.gate_model.specs.declared.control.Control.TheVariants.{Print, Code, Esc, Csi}
 use Rattle.gate_model.specs.declared.control.Params.{Params}
-use Rattle.gate_model.specs.Arguments.{amount, parameter, first_amount, first_choice, listed}
+use Rattle.gate_model.specs.Arguments.{first_amount, first_choice, listed}
 use Rattle.gate_model.specs.Terminal.{Terminal, opening_screen}
 use Rattle.gate_model.specs.TabStops.{with_stop, stops_cleared}
 use Rattle.gate_model.specs.Cursor.{returned, moved_back, moved_on, moved_up, moved_down, to_column, to_row, to_place, tabbed_on, tabbed_back, saved_cursor, restored_cursor}

@@ -25,6 +25,10 @@ abbrev pub is_join : Entry → Bool
 is_join (Join viewer role first) = true
 is_join e = false
 
+abbrev pub is_leave : Entry → Bool
+is_leave (Leave viewer) = true
+is_leave e = false
+
 abbrev pub is_close : Entry → Bool
 is_close (Close cause) = true
 is_close e = false

@@ -4,6 +4,8 @@ use Rattle.std.specs.List.{list_any}
 use Rattle.gate_model.specs.declared.entry.Entry.{Entry}
 use Rattle.gate_model.specs.declared.entry.Entry.TheVariants.{Start, Feed}
 use Rattle.gate_model.specs.declared.instr.Instr.{Instr}
+use Rattle.gate_model.specs.declared.sharing.Share.{Share}
+use Rattle.gate_model.specs.declared.sharing.Share.TheVariants.{Nobody}
 use Rattle.gate_model.specs.Limits.{most_clock}
 use Rattle.gate_model.specs.Terminal.{Terminal}
 use Rattle.gate_model.specs.Screens.{screen}
@@ -16,7 +18,8 @@ History = List Entry
 abbrev pub next_stamp : ℕ → ℕ → ℕ
 next_stamp last now = max (last + 1) (min now most_clock)
 
--- what Start says: the columns, the rows, the terminal type and the most entries of the session
+-- what Start says: the columns, the rows, the share mode, the terminal type and the most entries of the
+-- session
 abbrev pub columns : History → ℕ
 columns [] = 0
 columns (Start cols rows mode term entries stamp frame ∷ g) = cols
@@ -26,6 +29,11 @@ abbrev pub lines : History → ℕ
 lines [] = 0
 lines (Start cols rows mode term entries stamp frame ∷ g) = rows
 lines (e ∷ g) = lines g
+
+abbrev pub share_mode : History → Share
+share_mode [] = Nobody
+share_mode (Start cols rows mode term entries stamp frame ∷ g) = mode
+share_mode (e ∷ g) = share_mode g
 
 abbrev pub terminal_type : History → List ℕ
 terminal_type [] = []

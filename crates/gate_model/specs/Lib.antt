@@ -43,11 +43,12 @@ pub mod Roles
 pub mod Entries
 pub mod History
 pub mod Delivered
-pub mod Output
 pub mod Rights
+pub mod Output
 pub mod Steps
 pub mod Refusals
 pub mod Calls
+pub mod Runs
 pub mod Truth
 pub mod CellLaws
 pub mod ControlLaws

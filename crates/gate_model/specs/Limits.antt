@@ -27,3 +27,10 @@ most_clock = 2 ^ 53
 -- the most acts of one write
 abbrev pub most_acts : ℕ
 most_acts = 4096
+
+-- the most viewers that are there at once, and the most that ever join
+abbrev pub most_live : ℕ
+most_live = 64
+
+abbrev pub most_joined : ℕ
+most_joined = 1000000

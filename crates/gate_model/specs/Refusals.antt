@@ -1,22 +1,28 @@
 -- Why a call adds nothing: of its conditions, in their order, the first that holds (this project's
 -- own). Want of memory comes after them all, and isn't told here.
-use Rattle.std.specs.Prelude.{ℕ, List, [], ◌∷◌, length, Bool, not, ◌&&◌, ◌==◌, if◌then◌else◌, Option, Some, None, Result, Ok, Err}
+use Rattle.std.specs.Prelude.{ℕ, List, [], ◌∷◌, length, Bool, not, ◌&&◌, ◌||◌, ◌==◌, nat_le, is_err, if◌then◌else◌, Option, Some, None, Result, Ok, Err}
 use Rattle.std.specs.Option.{option_map}
 use Rattle.gate_model.specs.declared.cause.Cause.{Cause}
+use Rattle.gate_model.specs.declared.closed.Closed.{Closed}
+use Rattle.gate_model.specs.declared.no_viewer.NoViewer.{NoViewer}
+use Rattle.gate_model.specs.declared.sharing.Asked.{Asked}
+use Rattle.gate_model.specs.declared.sharing.Share.{Share}
 use Rattle.gate_model.specs.declared.entry.Entry.TheVariants.{Close}
 use Rattle.gate_model.specs.declared.feed_refusal.FeedRefusal.{FeedRefusal}
 use Rattle.gate_model.specs.declared.feed_refusal.FeedRefusal.TheVariants.{Closed as feed_closed, Worn as feed_worn}
 use Rattle.gate_model.specs.declared.join_refusal.JoinRefusal.{JoinRefusal}
-use Rattle.gate_model.specs.declared.join_refusal.JoinRefusal.TheVariants.{Closed as join_closed, Worn as join_worn}
+use Rattle.gate_model.specs.declared.join_refusal.JoinRefusal.TheVariants.{Closed as join_closed, Forbidden as join_forbidden, TooMany as join_too_many, Worn as join_worn}
 use Rattle.gate_model.specs.declared.read_answer.ReadAnswer.{ReadAnswer}
-use Rattle.gate_model.specs.declared.read_answer.ReadAnswer.TheVariants.{Empty}
+use Rattle.gate_model.specs.declared.read_answer.ReadAnswer.TheVariants.{Ended, Empty}
 use Rattle.gate_model.specs.declared.read_refusal.ReadRefusal.{ReadRefusal}
 use Rattle.gate_model.specs.declared.read_refusal.ReadRefusal.TheVariants.{NoViewer as read_no_viewer, Worn as read_worn}
 use Rattle.gate_model.specs.declared.write_refusal.WriteRefusal.{WriteRefusal}
 use Rattle.gate_model.specs.declared.write_refusal.WriteRefusal.TheVariants.{NoViewer as write_no_viewer, Closed as write_closed, Worn as write_worn}
-use Rattle.gate_model.specs.History.{History, newest, is_closed, is_full}
-use Rattle.gate_model.specs.Delivered.{position}
-use Rattle.gate_model.specs.Rights.{is_live}
+use Rattle.gate_model.specs.History.{History, newest, joined, share_mode, is_closed, is_full}
+use Rattle.gate_model.specs.Limits.{most_live, most_joined}
+use Rattle.gate_model.specs.Delivered.{position, ended}
+use Rattle.gate_model.specs.Rights.{is_live, live_count}
+use Rattle.gate_model.specs.Roles.{grant_of}
 
 -- the first that is there
 abbrev pub first_of : {A : Type 0} → List (Option A) → Option A
@@ -41,17 +47,28 @@ feed_refusal h = first_of (
     ∷ only_if (is_full h) (feed_worn (length h))
     ∷ [])
 
--- join: the session is closed, or full
-abbrev pub join_refusal : History → Option JoinRefusal
-join_refusal h = first_of (
+-- join: the session is closed; its share mode doesn't allow what was asked; too many are there, or have
+-- joined; it is full
+abbrev pub is_forbidden : Share → Asked → Bool
+is_forbidden mode asked = is_err (grant_of mode asked)
+
+abbrev pub is_crowded : History → Bool
+is_crowded h = nat_le most_live (live_count h) || nat_le most_joined (joined h)
+
+abbrev pub join_refusal : History → Asked → Option JoinRefusal
+join_refusal h asked = first_of (
     option_map join_closed (close_cause h)
+    ∷ only_if (is_forbidden (share_mode h) asked) join_forbidden
+    ∷ only_if (is_crowded h) (join_too_many (live_count h) (joined h))
     ∷ only_if (is_full h) (join_worn (length h))
     ∷ [])
 
--- read: the viewer isn't there; it has every frame of an open session; an open session is full
+-- read: the viewer isn't there; it was given the closing instruction; it has every frame of an open
+-- session; an open session is full
 abbrev pub read_stop : History → ℕ → Option (Result ReadAnswer ReadRefusal)
 read_stop h viewer = first_of (
     only_if (not (is_live h viewer)) (Err read_no_viewer)
+    ∷ only_if (ended h viewer) (Ok Ended)
     ∷ only_if (not (is_closed h) && position h viewer == newest h) (Ok Empty)
     ∷ only_if (not (is_closed h) && is_full h) (Err (read_worn (length h)))
     ∷ [])
@@ -63,3 +80,11 @@ write_refusal h viewer = first_of (
     ∷ option_map write_closed (close_cause h)
     ∷ only_if (is_full h) (write_worn (length h))
     ∷ [])
+
+-- leave: the viewer isn't there
+abbrev pub leave_refusal : History → ℕ → Option NoViewer
+leave_refusal h viewer = only_if (not (is_live h viewer)) record {}
+
+-- close: the session is closed, with the cause that it keeps
+abbrev pub close_refusal : History → Option Closed
+close_refusal h = option_map (λ kept. record { cause = kept }) (close_cause h)

@@ -1,19 +1,20 @@
 -- Which entry may follow which history: the rules of each call, and the legal histories.
-use Rattle.std.specs.Prelude.{◌≡◌, ℕ, ◌+◌, ◌<◌, ◌≤◌, ◌^◌, List, [], ◌∷◌, length, true, false, ◌==◌}
+use Rattle.std.specs.Prelude.{◌≡◌, ℕ, ◌+◌, ◌<◌, ◌≤◌, List, [], ◌∷◌, length, true, false, ◌==◌, Ok}
 use Rattle.gate_model.specs.declared.act.Act.{Act}
 use Rattle.gate_model.specs.declared.how.How.{How}
 use Rattle.gate_model.specs.declared.how.How.TheVariants.{Suffix}
 use Rattle.gate_model.specs.declared.sharing.Role.{Role}
-use Rattle.gate_model.specs.declared.sharing.Role.TheVariants.{Control}
+use Rattle.gate_model.specs.declared.sharing.Asked.{Asked}
 use Rattle.gate_model.specs.declared.entry.Entry.{Entry}
-use Rattle.gate_model.specs.declared.entry.Entry.TheVariants.{Start, Feed, Join, Read, Write, Take}
+use Rattle.gate_model.specs.declared.entry.Entry.TheVariants.{Start, Feed, Join, Read, Write, Take, Leave, Close}
 use Rattle.gate_model.specs.declared.instr.Instr.{Instr}
-use Rattle.gate_model.specs.Limits.{most_columns, most_rows, most_piece, most_entries, most_acts}
+use Rattle.gate_model.specs.Limits.{most_columns, most_rows, most_piece, most_entries, most_acts, most_live, most_joined}
 use Rattle.gate_model.specs.Shape.{Shape, OpensScreen}
-use Rattle.gate_model.specs.History.{History, next_stamp, columns, lines, newest, frames, instructions, joined, is_closed, is_full}
-use Rattle.gate_model.specs.Delivered.{position}
+use Rattle.gate_model.specs.History.{History, next_stamp, columns, lines, newest, frames, instructions, joined, share_mode, is_closed, is_full}
+use Rattle.gate_model.specs.Delivered.{position, ended}
 use Rattle.gate_model.specs.Output.{out, taken}
-use Rattle.gate_model.specs.Rights.{is_live}
+use Rattle.gate_model.specs.Rights.{is_live, live_count}
+use Rattle.gate_model.specs.Roles.{grant_of}
 
 -- a screen has 1 to 512 columns and 1 to 256 rows
 pub record IsScreenSize (cols rows : ℕ) : Type 0 where
@@ -45,19 +46,23 @@ pub record Feeds (g : History) (bytes : List ℕ) (stamp : ℕ) (frame : List In
   pub is_next : stamp ≡ next_stamp (newest g) now
   pub shape : Shape (columns g) (lines g) frame stamp
 
--- join: the next number, and all that was drawn so far
+-- join: the next number, a role that the share mode grants, and all that was drawn so far
 pub record Joins (g : History) (viewer : ℕ) (role : Role) (first : List Instr) : Type 0 where
   pub is_open : IsOpen g
   pub is_next : viewer ≡ joined g + 1
-  pub few : viewer < 2 ^ 32
-  pub owner : role ≡ Control
+  pub few_live : live_count g < most_live
+  pub few_joined : joined g < most_joined
+  pub asked : Asked
+  pub granted : grant_of (share_mode g) asked ≡ Ok role
   pub everything : first ≡ instructions (frames g)
 
--- read: a viewer who is behind is given every frame that it lacks
+-- read: a viewer is given every frame that it lacks. In an open session it lacks some, and the session
+-- isn't full; in a closed one it wasn't given the closing instruction yet
 pub record Reads (g : History) (viewer : ℕ) (how : How) : Type 0 where
   pub live : is_live g viewer ≡ true
-  pub behind : (position g viewer == newest g) ≡ false
-  pub not_full : is_full g ≡ false
+  pub not_ended : ended g viewer ≡ false
+  pub behind : is_closed g ≡ false → (position g viewer == newest g) ≡ false
+  pub not_full : is_closed g ≡ false → is_full g ≡ false
   pub suffix : how ≡ Suffix
 
 -- write: the acts of a viewer who is there
@@ -83,6 +88,8 @@ IsNext g (Join viewer role first) = Joins g viewer role first
 IsNext g (Read viewer how) = Reads g viewer how
 IsNext g (Write viewer acts) = Writes g viewer acts
 IsNext g (Take count) = Takes g count
+IsNext g (Leave viewer) = is_live g viewer ≡ true
+IsNext g (Close cause) = is_closed g ≡ false
 IsNext g e = ⊥
 
 -- each entry is added by a step after the entries before it

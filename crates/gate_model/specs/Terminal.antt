@@ -1,5 +1,5 @@
 -- The state of a screen and its start (this project's own, after ECMA-48). Places are counted from 0.
-use Rattle.std.specs.Prelude.{◌≡◌, ℕ, ◌-◌, ◌*◌, ◌%◌, ◌<◌, ◌≤◌, List, length, map, ◌&&◌, ◌==◌, nat_lt, Bool, true, false, Option, None}
+use Rattle.std.specs.Prelude.{ℕ, ◌-◌, ◌%◌, ◌<◌, List, map, ◌&&◌, ◌==◌, nat_lt, Bool, true, false, Option, None}
 use Rattle.std.specs.List.{range_with_len}
 use Rattle.gate_model.specs.Cells.{CellGrid, blank_grid}
 

@@ -12,7 +12,7 @@ pub enum Answer {
     Join(Result<Joined, JoinRefusal>),
     /// What the viewer was given.
     Read(Result<ReadAnswer, ReadRefusal>),
-    /// How many keys count.
+    /// How many keys count, and how many were denied.
     Write(Result<Written, WriteRefusal>),
     /// The bytes that were taken, and whether the session is closed.
     Take { bytes: Bytes, closed: bool },

@@ -11,6 +11,7 @@
 mod act;
 mod acts;
 mod answer;
+mod answers;
 mod bytes;
 mod cause;
 mod cell;
@@ -48,6 +49,7 @@ mod written;
 pub use act::Act;
 pub use acts::Acts;
 pub use answer::Answer;
+pub use answers::Answers;
 pub use bytes::Bytes;
 pub use cause::Cause;
 pub use cell::Cell;

@@ -9,7 +9,8 @@ pub enum Share {
     Control,
 }
 
-/// What a joiner asks for. Only a session's creator asks as `Owner`, and only a recorder as `Keep`.
+/// What a joiner asks for. Who calls sees to it that only a session's creator asks as `Owner`, and only a
+/// recorder as `Keep`.
 #[derive(Clone, Copy, Debug, PartialEq, Eq)]
 pub enum Asked {
     Owner,

@@ -226,7 +226,7 @@ few_read r ready = by_form r.form r.session ready
   where
     by_form : (form : Form) (session : Option Session) → IsReadyFor form session r.lines r.read → r.read ≤ 2 ^ 56
     by_form (Draw size) None n = absurd n
-    by_form (Draw size) (Some s) p = omega (arith, p.0, p.1)
+    by_form (Draw size) (Some s) p = omega (arith, p.0, p.1.few)
     by_form (Script entries) session p = omega (arith, p.2)
 
 pub short_piece : (form : Form) (piece : List ℕ) → first_piece (most_of form) piece ≡ None → length piece < 262146

@@ -4,6 +4,7 @@ pub mod ReportLaws
 pub mod ShownLaws
 pub mod TakenLaws
 pub mod SessionLaws
+pub mod OpenLaws
 pub mod PlayingLaws
 pub mod ActsLaws
 pub mod RunLaws

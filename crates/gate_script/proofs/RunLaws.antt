@@ -1,6 +1,6 @@
 -- How the lines of a piece end, from how the session's calls ended.
-use Rattle.std.proofs.Common.{◌≡◌, ℕ, suc, ◌+◌, List, [], ◌∷◌, ◌++◌, length, Bool, true, false, refl, ap, sym, ◌∙◌, subst, append_assoc, arith}
-use Rattle.std.specs.Prelude.{Result, Ok, Err, Option, Some, None, codes}
+use Rattle.std.proofs.Common.{◌≡◌, ℕ, suc, ◌+◌, ◌*◌, List, [], ◌∷◌, ◌++◌, length, Bool, true, false, refl, ap, sym, ◌∙◌, subst, append_assoc, arith}
+use Rattle.std.specs.Prelude.{Result, Ok, Err, OnOk, Option, Some, None, codes}
 use Rattle.std.proofs.Common.{◌≤◌, ◌<◌, ◌⊎◌, inl, inr}
 use Rattle.std.specs.Option.{is_some}
 use Rattle.gate_model.specs.Sequences.{IsLater}
@@ -16,10 +16,10 @@ use Rattle.gate_script.specs.Lines.{Line, blank, bad, moment, server, read_untol
 use Rattle.gate_script.specs.Grammar.{ending, lines_of, script_lines, in_place, judged, line_of, content, most_script, most_line}
 use Rattle.gate_script.specs.Meanings.{call_meant}
 use Rattle.gate_script.specs.declared.line.Call.{Call}
-use Rattle.gate_script.specs.declared.line.Call.TheVariants.{Server, JoinOwner, Read, Write, Take, Pixel, Same}
+use Rattle.gate_script.specs.declared.line.Call.TheVariants.{Server, Join, Read, Write, Take, Leave, Close, Pixel, Same}
 use Rattle.gate_script.specs.Told.{answer_line}
 use Rattle.gate_script.specs.Plays.{Play}
-use Rattle.gate_script.specs.Running.{Told, At, StoppedIn, Ends, Stays, DoesLines, HasDone, IsDrawing, PieceEnds, LineEnds, LastEnds, AllDone, Put, stopped_at}
+use Rattle.gate_script.specs.Running.{Told, At, StoppedIn, Ends, Stays, DoesLines, HasDone, IsDrawing, IsOpenDesk, IsReadyFor, PieceEnds, LineEnds, LastEnds, AllDone, Put, stopped_at}
 use Rattle.gate_script.proofs.ReportLaws.{said_alone}
 use Rattle.gate_script.proofs.SessionLaws.{play, lawful, no_memory, refused_line_ends, told-more, stopped-more}
 use Rattle.std.proofs.lemmas.Bool.{le-leb, lt-leb}
@@ -80,6 +80,18 @@ module _ (pieces : List (List ℕ)) (r r' : Run) (s s' : Session) (a0 f0 a a' f 
       cases (Err stop) e = e
   done_ends (Script entries) d had result ends = absurd d
 
+-- `draw` did a piece, whose entries are few, of a session that is open
+pub draw_ready : (form : Form) (session : Option Session) (s s1 s2 s3 : Session) (lines read size : ℕ) (r : Result (Unit {0}) Stop) → IsDrawing form → IsReadyFor form session lines read → session ≡ Some s → size ≤ 65536
+    → (IsOpenDesk s.desk → s1.desk.entries ≡ s.desk.entries + 1) → (IsOpenDesk s.desk → IsOpenDesk s1.desk) → s1.desk.entries ≤ s2.desk.entries → (IsOpenDesk s1.desk → IsOpenDesk s2.desk)
+    → OnOk r (s2.desk.entries ≤ s3.desk.entries) → (IsOpenDesk s2.desk → OnOk r (IsOpenDesk s3.desk)) → OnOk r (IsReadyFor form (Some s3) lines (read + size))
+draw_ready form session s s1 s2 s3 lines read size (Err stop) draws ready is few counts stays1 grows stays2 grows3 stays3 = tt
+draw_ready (Draw size_) (Some t) s s1 s2 s3 lines read size (Ok u) draws ready is few counts stays1 grows stays2 grows3 stays3 =
+    let same : t ≡ s = cc in
+    let own : (read ≤ 65536 * s.desk.entries) × IsOpenDesk s.desk = subst (λ (x : Session). (read ≤ 65536 * x.desk.entries) × IsOpenDesk x.desk) same ready in
+    (omega (arith, own.0, counts own.1, grows, grows3, few), stays3 (stays2 (stays1 own.1)))
+draw_ready (Draw size_) None s s1 s2 s3 lines read size (Ok u) draws ready is few counts stays1 grows stays2 grows3 stays3 = absurd ready
+draw_ready (Script entries) session s s1 s2 s3 lines read size (Ok u) draws ready is few counts stays1 grows stays2 grows3 stays3 = absurd draws
+
 -- a script has no line after its last piece
 pub script_ends : (form : Form) (entries : ℕ) (pieces : List (List ℕ)) (r : Run) (a0 f0 a f : Option (List ℕ)) → form ≡ Script entries → HasDone form pieces r a0 f0 a f → AllDone (ending form (lines_of form pieces)) a0 f0 a f
 script_ends (Script e) entries pieces r a0 f0 a f is had = all_done (script_lines e pieces) r.moment a0 f0 a f r.session had.does.stays
@@ -101,10 +113,12 @@ in_place-bad false = refl
 -- a call of the session before `start`
 pub call-unopened : (call : Call) → in_place false (call_meant call) ≡ bad
 call-unopened (Server bytes) = refl
-call-unopened JoinOwner = refl
+call-unopened (Join asked) = refl
 call-unopened (Read viewer) = refl
 call-unopened (Write viewer text) = refl
 call-unopened (Take most) = refl
+call-unopened (Leave viewer) = refl
+call-unopened Close = refl
 call-unopened (Pixel viewer x y) = refl
 call-unopened (Same one other) = refl
 

@@ -1,22 +1,25 @@
 -- One line more: what it tells, and how a call ends that stopped in it.
-use Rattle.std.proofs.Common.{◌≡◌, ℕ, List, [], ◌∷◌, ◌++◌, length, take, drop, arith, length-take, length-drop, ◌≤◌, ◌-◌, ◌+◌, Bool, true, false, inl, inr, slice_index_or, refl, ap, sym, ◌∙◌, subst, append_assoc, append-nil}
-use Rattle.std.specs.Prelude.{Result, Ok, Err, Option, Some, min, codes, not, ◌&&◌, ◌==◌, if◌then◌else◌, IsTrue, ◌↔◌}
-use Rattle.std.proofs.lemmas.Bool.{eq-eqb}
+use Rattle.std.proofs.Common.{◌≡◌, ℕ, List, [], ◌∷◌, ◌++◌, length, take, drop, arith, length-take, length-drop, ◌-◌, ◌+◌, Bool, true, false, inl, inr, refl, ap, sym, ◌∙◌, subst, append_assoc, append-nil}
+use Rattle.std.specs.Prelude.{Result, Ok, Err, Option, Some, IfSome, min, codes, not, ◌&&◌, ◌==◌, if◌then◌else◌, IsTrue, ◌↔◌}
+use Rattle.std.specs.Option.{is_some}
 use Rattle.std.proofs.lemmas.List.{take_min}
 use Rattle.std.proofs.Math.ListN.{drop_of_length-le}
 use Rattle.gate_model.specs.declared.act.Act.{Act}
 use Rattle.gate_model.specs.declared.act.Act.TheVariants.{Sync as act_sync}
 use Rattle.gate_model.specs.declared.answer.Answer.{Answer}
-use Rattle.gate_model.specs.declared.answer.Answer.TheVariants.{Feed as fed, Join as joined_as, Read as was_read, Write as was_written, Take as was_taken}
+use Rattle.gate_model.specs.declared.answer.Answer.TheVariants.{Feed as fed, Join as joined_as, Read as was_read, Write as was_written, Take as was_taken, Leave as was_left, Close as was_closed}
 use Rattle.gate_model.specs.declared.how.How.TheVariants.{Suffix}
 use Rattle.gate_model.specs.declared.instr.Instr.{Instr}
-use Rattle.gate_model.specs.declared.sharing.Asked.TheVariants.{Owner}
+use Rattle.gate_model.specs.declared.cause.Cause.TheVariants.{Stopped}
+use Rattle.gate_model.specs.declared.closed.Closed.{Closed}
+use Rattle.gate_model.specs.declared.no_viewer.NoViewer.{NoViewer}
+use Rattle.gate_model.specs.declared.sharing.Asked.{Asked}
 use Rattle.gate_model.specs.declared.sharing.Role.{Role}
 use Rattle.gate_model.specs.declared.sharing.Share.{Share}
 use Rattle.gate_model.specs.declared.entry.Entry.{Entry}
-use Rattle.gate_model.specs.declared.entry.Entry.TheVariants.{Start, Feed, Join, Read, Write, Take}
+use Rattle.gate_model.specs.declared.entry.Entry.TheVariants.{Start, Feed, Join, Read, Write, Take, Leave, Close}
 use Rattle.gate_model.specs.declared.event.Event.{Event}
-use Rattle.gate_model.specs.declared.event.Event.TheVariants.{Feed as feed, Join as join_in, Read as read_as, Write as write_acts}
+use Rattle.gate_model.specs.declared.event.Event.TheVariants.{Feed as feed, Join as join_in, Read as read_as, Write as write_acts, Leave as leave_as, Close as close_for}
 use Rattle.gate_model.specs.declared.joined.Joined.{Joined}
 use Rattle.gate_model.specs.declared.taken.Taken.{Taken}
 use Rattle.gate_model.specs.declared.written.Written.{Written}
@@ -31,7 +34,7 @@ use Rattle.gate_model.specs.declared.write_refusal.WriteRefusal.TheVariants.{Wor
 use Rattle.gate_model.specs.Sequences.{BeginsWith}
 use Rattle.gate_model.specs.Text.{texts}
 use Rattle.gate_model.specs.History.{History, joined, newest, newest_frame, next_stamp, is_closed, is_full}
-use Rattle.gate_model.specs.Delivered.{delivered, given, position}
+use Rattle.gate_model.specs.Delivered.{delivered, given, position, ended}
 use Rattle.gate_model.specs.Output.{out, taken, untaken}
 use Rattle.gate_model.specs.Rights.{is_live}
 use Rattle.gate_model.specs.Refusals.{first_of, only_if, read_stop}
@@ -40,24 +43,24 @@ use Rattle.gate_model.proofs.Truth.{faithful}
 use Rattle.gate_outside.specs.Edge.{gained}
 use Rattle.gate_outside.proofs.Moved.{gained-none, gained-gained}
 use Rattle.desk_core.specs.Desk.{DeskState, Stands}
-use Rattle.desk_core.specs.Calls.{Opened, FeedEnds, JoinEnds, ReadEnds, WriteEnds, Hands, OnNothing}
+use Rattle.desk_core.specs.Calls.{Opened, FeedEnds, JoinEnds, ReadEnds, WriteEnds, LeaveEnds, CloseEnds, Hands, OnNothing}
 use Rattle.gate_script.specs.declared.refused.Refused.{Refused as Refusal}
 use Rattle.gate_script.specs.declared.refused.Refused.TheVariants.{BadLine, Worn}
 use Rattle.gate_script.specs.declared.size.Size.{Size}
 use Rattle.gate_script.specs.declared.stop.Stop.{Stop}
 use Rattle.gate_script.specs.declared.stop.Stop.TheVariants.{ReadFault, WriteFault, NoMemory, Refused}
-use Rattle.gate_script.specs.Lines.{Line, start, server, join, read, write, take_up_to, read_untold, acknowledge, done}
+use Rattle.gate_script.specs.Lines.{Line, start, server, join, read, write, take_up_to, leave, close, read_untold, acknowledge, done}
 use Rattle.gate_script.specs.Told.{answer_line, answer_to, frames_line, framings, joined_line, read_told, refused_line, written_line, write_answer, pixel_line, same_line, differ_line, took_line}
 use Rattle.gate_script.specs.Plays.{Play, Plays, Does, Calls, Answers, Untold, IsLawful, setup_of, seen, pixel_answer, Compares}
 use Rattle.gate_script.specs.Outcomes.{IsRefused}
-use Rattle.gate_script.specs.Running.{Told, At, AreShown, PlaysOn, ShortOf, StoppedIn, Ends, Fronts, Reported, Put, read_shown, stopped_at}
+use Rattle.gate_script.specs.Seeing.{Canvases, AreShown, PlaysOn, TakesAway, canvas_at}
+use Rattle.gate_script.specs.Running.{Told, At, ShortOf, StoppedIn, Ends, Fronts, Reported, Put, read_shown, stopped_at}
 use Rattle.gate_script.proofs.ReportLaws.{said_alone, shown_alone, whole}
 use Rattle.gate_script.proofs.TakenLaws.{printed, tells}
-use Rattle.gate_script.proofs.ShownLaws.{shown_none, shown_plain, shown_join, shown_read, shown_still, given_by_join, there, both, numbered, canvas_shows}
+use Rattle.gate_script.proofs.ShownLaws.{shown_none, shown_plain, shown_join, shown_read, shown_still, shown_leave, given_by_join}
 use Rattle.canvas.specs.Kept.{KeptLayer}
 use Rattle.canvas.specs.Standing.{Stands as stands_for, dot_at}
 use Rattle.canvas.specs.declared.dot.Dot.{Dot}
-use Rattle.desk_core.specs.Places.{is_there}
 use Rattle.gate_script.specs.declared.reading.Reading.TheVariants.{Whole, TooMany}
 use Rattle.gate_script.specs.Acts.{IsReading}
 use Rattle.frame_draw.specs.Readable.{AreReadable}
@@ -145,7 +148,7 @@ pub line_ends : (line : Line) (lines : List Line) (p : Play) (now : ℕ) (h : Hi
 line_ends line lines p now h n a0 f0 a a' f f' answer shown t does stands canvases (Ok u) w = record { history = h; told = told-more line lines p a0 f0 a f t (play now h) answer shown a' f' does w.0 w.1; stands = stands; shown = canvases }
 line_ends line lines p now h n a0 f0 a a' f f' answer shown t does stands canvases (Err stop) w = stopped-more line lines p a0 f0 a f t (play now h) answer shown a' f' stop does (lawful n.desk h stands) w
 
-only : {A : Type 0} (x y : A) → x ∷ [] ≡ y ∷ [] → x ≡ y
+pub only : {A : Type 0} (x y : A) → x ∷ [] ≡ y ∷ [] → x ≡ y
 only x y e = cc
 
 same_items : (n m : Session) → n.canvases ≡ m.canvases → n.canvases.items ≡ m.canvases.items
@@ -162,7 +165,7 @@ framed-start : (e : Entry) (cols rows : ℕ) (mode : Share) (term : List ℕ) (e
 framed-start e cols rows mode term entries stamp frame is = rw is (sym (append-nil (frames_line 0 (texts frame))))
 
 framed-join : (h : History) (e : Entry) (v : ℕ) (role : Role) (first : List Instr) → e ≡ Join v role first → frames_line v (texts (given h (delivered h v) v e)) ≡ framings h (e ∷ [])
-framed-join h e v role first is = rw is (ap (λ (b : Bool). frames_line v (texts (if b then first else []))) (eq-eqb v v refl) ∙ sym (append-nil (frames_line v (texts first))))
+framed-join h e v role first is = rw is (ap (λ (l : List Instr). frames_line v (texts l)) (given_by_join h (Join v role first) v role first refl) ∙ sym (append-nil (frames_line v (texts first))))
 
 framed-read : (h : History) (e : Entry) (v : ℕ) → e ≡ Read v Suffix → frames_line v (texts (given h (delivered h v) v e)) ≡ framings h (e ∷ [])
 framed-read h e v is = rw is (sym (append-nil (frames_line v (texts (given h (delivered h v) v (Read v Suffix))))))
@@ -171,12 +174,23 @@ framed-take : (h : History) (count : ℕ) (none : Bool) → [] ≡ framings h (i
 framed-take h count true = refl
 framed-take h count false = refl
 
-shown-take : (cs : List (List KeptLayer)) (h : History) (count : ℕ) (none : Bool) → AreShown cs h → AreShown cs ((if none then [] else Take count ∷ []) ++ h)
+shown-take : (cs : Canvases) (h : History) (count : ℕ) (none : Bool) → AreShown cs h → AreShown cs ((if none then [] else Take count ∷ []) ++ h)
 shown-take cs h count true a = a
-shown-take cs h count false a = shown_plain cs h (Take count) a refl (λ v. refl)
+shown-take cs h count false a = shown_plain cs h (Take count) a refl (λ v. refl) (λ v. refl) (λ v. refl)
 
 framed-write : (h : History) (e : Entry) (v : ℕ) (acts : List Act) → e ≡ Write v acts → [] ≡ framings h (e ∷ [])
 framed-write h e v acts is = rw is refl
+
+-- a read that gives nothing never answers Fresh
+pub not_fresh : (h : History) (viewer stamp : ℕ) (closed : Bool) → read_stop h viewer ≡ Some (Ok (Fresh stamp closed)) → ⊥
+not_fresh h viewer stamp closed e = cases (is_live h viewer) (ended h viewer) (not (is_closed h) && position h viewer == newest h) (not (is_closed h) && is_full h) (read_worn (length h)) e
+  where
+    cases : (there over one two : Bool) (worn : ReadRefusal) → first_of (only_if (not there) (Err read_no_viewer) ∷ only_if over (Ok Ended) ∷ only_if one (Ok Empty) ∷ only_if two (Err worn) ∷ []) ≡ Some (Ok (Fresh stamp closed)) → ⊥
+    cases false over one two worn q = cc
+    cases true true one two worn q = cc
+    cases true false true two worn q = cc
+    cases true false false true worn q = cc
+    cases true false false false worn q = cc
 
 -- the session has started
 pub started : (lines : List Line) (size : Size) (mode : Share) (entries now : ℕ) (s : Session) (a0 f0 a a' f f' : Option (List ℕ)) → Told lines (play now []) a0 f0 a f → (o : Opened (setup_of size mode entries) now s.desk) → s.canvases.items ≡ []
@@ -193,17 +207,17 @@ started lines size mode entries now s a0 f0 a a' f f' t o none stamp text stamp_
       after_it = refl;
       answered = ap (λ (s : ℕ). answer_line (codes "started") (s ∷ [])) (stamp_is ∙ newest_is);
       framed = ap (frames_line 0) text_is ∙ framed-start o.entry size.cols size.rows mode (codes "linux") entries (next_stamp 0 now) o.step.0 is;
-    }) o.stands (shown_none s.canvases.items (o.entry ∷ []) none (ap (λ (e : Entry). joined (e ∷ [])) is)) r w
+    }) o.stands (shown_none s.canvases.items (o.entry ∷ []) none (ap (λ (e : Entry). joined (e ∷ [])) is) (λ v. ap (λ (e : Entry). is_live (e ∷ []) v) is)) r w
 
 module _ (lines : List Line) (now : ℕ) (s : Session) (a0 f0 a f : Option (List ℕ)) (at : At lines now s a0 f0 a f) where
   abbrev pub p : Play
   p = play now at.history
 
   -- the call was refused, or gave nothing, and that was told
-  pub nothing_added : (line : Line) (event : Event) (result : Answer) (answer : List ℕ) (n : Session) (a' : Option (List ℕ)) → Step at.history event result [] → answer_to result ≡ Some answer
+  pub nothing_added : (line : Line) (event : Event) (result : Answer) (answer : List ℕ) (n : Session) (a' : Option (List ℕ)) → Step at.history event result [] → answer_to result event ≡ Some answer
       → (Calls event p p answer [] → Does line p p answer []) → n.desk ≡ s.desk → n.canvases.items ≡ s.canvases.items → (r : Result (Unit {0}) Stop) → Put r answer a a' → Ends (line ∷ lines) now r n a0 f0 a' f
   nothing_added line event result answer n a' step told does same seen_same r put =
-      line_ends line lines p now at.history n a0 f0 a a' f f answer [] at.told (does (record { result = result; added = []; step = step; told = told; after_it = refl; framed = refl })) (subst (λ (k : DeskState). Stands k at.history) (sym same) at.stands) (subst (λ (cs : List (List KeptLayer)). AreShown cs at.history) (sym seen_same) at.shown) r (said_alone answer a a' f r put)
+      line_ends line lines p now at.history n a0 f0 a a' f f answer [] at.told (does (record { result = result; added = []; step = step; told = told; after_it = refl; framed = refl })) (subst (λ (k : DeskState). Stands k at.history) (sym same) at.stands) (subst (λ (cs : Canvases). AreShown cs at.history) (sym seen_same) at.shown) r (said_alone answer a a' f r put)
 
   -- the line ends the run
   pub refuses : (line : Line) (refused : Refusal) → IsRefused refused line lines p → StoppedIn (line ∷ lines) (Refused refused) a0 f0 a f
@@ -220,77 +234,61 @@ module _ (lines : List Line) (now : ℕ) (s : Session) (a0 f0 a f : Option (List
       let is = only ends.entry (Feed bytes stamp adds.frame) adds.adds in
       line_ends (server bytes) lines p now (ends.entry ∷ at.history) n a0 f0 a a' f f' (answer_line (codes "synced") (stamp ∷ [])) (frames_line 0 text) at.told
       (record { result = fed (Ok stamp); added = ends.entry ∷ []; step = ends.step; told = refl; after_it = refl; framed = ap (frames_line 0) text_is ∙ framed-feed at.history ends.entry bytes stamp adds.frame is }) ends.stands
-      (subst (λ (cs : List (List KeptLayer)). AreShown cs (ends.entry ∷ at.history)) (sym same) (subst (λ (e : Entry). AreShown s.canvases.items (e ∷ at.history)) (sym is) (shown_plain s.canvases.items at.history (Feed bytes stamp adds.frame) at.shown refl (λ v. refl)))) r w
+      (subst (λ (cs : Canvases). AreShown cs (ends.entry ∷ at.history)) (sym same) (subst (λ (e : Entry). AreShown s.canvases.items (e ∷ at.history)) (sym is) (shown_plain s.canvases.items at.history (Feed bytes stamp adds.frame) at.shown refl (λ v. refl) (λ v. refl) (λ v. refl)))) r w
 
   pub feed_is_worn : (bytes : List ℕ) (entries : ℕ) → FeedStep at.history bytes now (Err (feed_worn entries)) [] → IsRefused (Worn entries) (server bytes) lines p
   feed_is_worn bytes entries step = (fed (Err (feed_worn entries)), record { event = feed bytes now; makes = refl; step = step }, refl)
 
-  -- the owner joined
-  pub owner_joined : (given_ : Joined) (n : Session) (before text : List ℕ) (canvas : List KeptLayer) → before ≡ [] → JoinEnds at.history Owner (Ok given_) n.desk before text → ((is : List Instr) → AreReadable is → text ≡ texts is → stands_for canvas (draw nothing is)) → n.canvases.items ≡ s.canvases.items ++ canvas ∷ [] → (a' f' : Option (List ℕ)) (r : Result (Unit {0}) Stop)
-      → Reported r (joined_line given_) (frames_line given_.viewer text) a a' f f' → Ends (join Owner ∷ lines) now r n a0 f0 a' f'
-  owner_joined given_ n before text canvas none ends plays grown a' f' r w =
-      let adds = ends.step.1 in
+  -- a viewer joined
+  pub viewer_joined : (asked : Asked) (given_ : Joined) (n : Session) (before text : List ℕ) (canvas : List KeptLayer) → before ≡ [] → JoinEnds at.history asked (Ok given_) n.desk before text → ((is : List Instr) → AreReadable is → text ≡ texts is → stands_for canvas (draw nothing is)) → n.canvases.items ≡ s.canvases.items ++ Some canvas ∷ [] → (a' f' : Option (List ℕ)) (r : Result (Unit {0}) Stop)
+      → Reported r (joined_line given_) (frames_line given_.viewer text) a a' f f' → Ends (join asked ∷ lines) now r n a0 f0 a' f'
+  viewer_joined asked given_ n before text canvas none ends plays grown a' f' r w =
+      let adds = ends.step in
       let is = only ends.entry (Join given_.viewer given_.role adds.first) adds.adds in
       let text_is : text ≡ texts (given at.history (delivered at.history given_.viewer) given_.viewer ends.entry) = ends.appended ∙ ap (λ (l : List ℕ). l ++ texts (given at.history (delivered at.history given_.viewer) given_.viewer ends.entry)) none in
-      line_ends (join Owner) lines p now (ends.entry ∷ at.history) n a0 f0 a a' f f' (joined_line given_) (frames_line given_.viewer text) at.told
+      line_ends (join asked) lines p now (ends.entry ∷ at.history) n a0 f0 a a' f f' (joined_line given_) (frames_line given_.viewer text) at.told
       (record { result = joined_as (Ok given_); added = ends.entry ∷ []; step = ends.step; told = refl; after_it = refl; framed = ap (frames_line given_.viewer) text_is ∙ framed-join at.history ends.entry given_.viewer given_.role adds.first is }) ends.stands
-      (subst (λ (cs : List (List KeptLayer)). AreShown cs (ends.entry ∷ at.history)) (sym grown) (shown_join s.canvases.items at.history ends.entry given_.viewer given_.role adds.first canvas n.desk s.desk is adds.joins.is_next at.stands ends.stands at.shown
+      (subst (λ (cs : Canvases). AreShown cs (ends.entry ∷ at.history)) (sym grown) (shown_join s.canvases.items at.history ends.entry given_.viewer given_.role adds.first canvas n.desk s.desk is adds.joins.is_next at.stands ends.stands at.shown
       (λ readable. plays adds.first readable (text_is ∙ ap texts (given_by_join at.history ends.entry given_.viewer given_.role adds.first is))))) r w
 
-  pub join_is_worn : (entries : ℕ) → JoinStep at.history Owner (Err (join_worn entries)) [] → IsRefused (Worn entries) (join Owner) lines p
-  join_is_worn entries step = (joined_as (Err (join_worn entries)), record { event = join_in Owner; makes = refl; step = step }, refl)
+  pub join_is_worn : (asked : Asked) (entries : ℕ) → JoinStep at.history asked (Err (join_worn entries)) [] → IsRefused (Worn entries) (join asked) lines p
+  join_is_worn asked entries step = (joined_as (Err (join_worn entries)), record { event = join_in asked; makes = refl; step = step }, refl)
 
   -- what a read did that was answered: its call, and that the canvases go on to show what was given
   pub record HasReadLine (viewer : ℕ) (answer : ReadAnswer) (n : DeskState) (text : List ℕ) : Type 0 where
     pub history : History
     pub calls : Calls (read_as viewer) p (play now history) (read_told answer) (read_shown viewer text answer)
     pub stands : Stands n history
-    pub number : (1 ≤ viewer) × (viewer ≤ length s.canvases.items)
-    pub shown : (cs : List (List KeptLayer)) → PlaysOn s.canvases.items cs (viewer - 1) text → AreShown cs history
+    pub shown : (cs : Canvases) → PlaysOn s.canvases.items cs viewer text → AreShown cs history
 
-  -- of an open session a read that gives nothing answers Empty, and its viewer is there
-  only_empty : (viewer : ℕ) (answer : ReadAnswer) → read_stop at.history viewer ≡ Some (Ok answer) → (answer ≡ Empty) × (is_live at.history viewer ≡ true)
-  only_empty viewer answer e = cases (is_live at.history viewer) (not (is_closed at.history) && position at.history viewer == newest at.history) (not (is_closed at.history) && is_full at.history) (read_worn (length at.history)) e
-    where
-      cases : (there one two : Bool) (worn : ReadRefusal) → first_of (only_if (not there) (Err read_no_viewer) ∷ only_if one (Ok Empty) ∷ only_if two (Err worn) ∷ []) ≡ Some (Ok answer) → (answer ≡ Empty) × (there ≡ true)
-      cases false one two worn q = cc
-      cases true true two worn q = (cc, refl)
-      cases true false true worn q = cc
-      cases true false false worn q = cc
-
-  gave_nothing : (viewer : ℕ) (answer : ReadAnswer) (n : DeskState) (text : List ℕ) → ReadStep at.history viewer (Ok answer) [] → answer ≡ Empty → is_live at.history viewer ≡ true → n ≡ s.desk → text ≡ [] → HasReadLine viewer answer n text
-  gave_nothing viewer answer n text step is_empty is_there_ same none =
-      let number_ = numbered s.canvases.items at.history s.desk viewer at.stands at.shown is_there_ in
-      rw is_empty (record {
-        history = at.history;
-        calls = record { result = was_read (Ok Empty); added = []; step = subst (λ (a : ReadAnswer). ReadStep at.history viewer (Ok a) []) is_empty step; told = refl; after_it = refl; framed = refl };
-        stands = subst (λ (k : DeskState). Stands k at.history) (sym same) at.stands;
-        number = number_;
-        shown = λ cs plays. shown_still s.canvases.items cs at.history viewer text none number_.0 number_.1 at.shown plays;
-      })
+  gave_nothing : (viewer : ℕ) (answer : ReadAnswer) (n : DeskState) (text : List ℕ) → ReadStep at.history viewer (Ok answer) [] → read_shown viewer text answer ≡ [] → n ≡ s.desk → text ≡ [] → HasReadLine viewer answer n text
+  gave_nothing viewer answer n text step unshown same none = record {
+    history = at.history;
+    calls = record { result = was_read (Ok answer); added = []; step = step; told = refl; after_it = refl; framed = unshown };
+    stands = subst (λ (k : DeskState). Stands k at.history) (sym same) at.stands;
+    shown = λ cs plays. shown_still s.canvases.items cs at.history viewer text none at.shown plays;
+  }
 
   pub was_answered : (viewer : ℕ) (answer : ReadAnswer) (n : DeskState) (before text : List ℕ) → before ≡ [] → ReadEnds at.history viewer (Ok answer) n before text → OnNothing (Ok answer) (n ≡ s.desk) → OnNothing (Ok answer) (text ≡ before) → HasReadLine viewer answer n text
   was_answered viewer (Frames count stamp closed) n before text none ends same kept =
       let is = only ends.entry (Read viewer Suffix) ends.step.adds in
       let text_is : text ≡ texts (given at.history (delivered at.history viewer) viewer ends.entry) = ends.appended ∙ ap (λ (l : List ℕ). l ++ texts (given at.history (delivered at.history viewer) viewer ends.entry)) none in
-      let number_ = numbered s.canvases.items at.history s.desk viewer at.stands at.shown ends.step.reads.live in
       record {
         history = ends.entry ∷ at.history;
         calls = record { result = was_read (Ok (Frames count stamp closed)); added = ends.entry ∷ []; step = ends.step; told = refl; after_it = refl; framed = ap (frames_line viewer) text_is ∙ framed-read at.history ends.entry viewer is };
         stands = ends.stands;
-        number = number_;
-        shown = λ cs plays. shown_read s.canvases.items cs at.history ends.entry viewer Suffix text n is number_.0 number_.1 ends.stands at.shown text_is plays;
+        shown = λ cs plays. shown_read s.canvases.items cs at.history ends.entry viewer Suffix text n is ends.stands at.shown text_is plays;
       }
-  was_answered viewer (Fresh stamp closed) n before text none ends same kept = let o = only_empty viewer (Fresh stamp closed) ends.0 in absurd (let w : Fresh stamp closed ≡ Empty = o.0 in cc)
-  was_answered viewer Ended n before text none ends same kept = let o = only_empty viewer Ended ends.0 in gave_nothing viewer Ended n text ends o.0 o.1 same (kept ∙ none)
-  was_answered viewer Empty n before text none ends same kept = let o = only_empty viewer Empty ends.0 in gave_nothing viewer Empty n text ends o.0 o.1 same (kept ∙ none)
-  was_answered viewer (Hold waiting) n before text none ends same kept = let o = only_empty viewer (Hold waiting) ends.0 in gave_nothing viewer (Hold waiting) n text ends o.0 o.1 same (kept ∙ none)
+  was_answered viewer (Fresh stamp closed) n before text none ends same kept = absurd (not_fresh at.history viewer stamp closed ends.0)
+  was_answered viewer Ended n before text none ends same kept = gave_nothing viewer Ended n text ends refl same (kept ∙ none)
+  was_answered viewer Empty n before text none ends same kept = gave_nothing viewer Empty n text ends refl same (kept ∙ none)
+  was_answered viewer (Hold waiting) n before text none ends same kept = gave_nothing viewer (Hold waiting) n text ends refl same (kept ∙ none)
 
-  pub read_line : (viewer : ℕ) (answer : ReadAnswer) (n : Session) (text : List ℕ) → (did : HasReadLine viewer answer n.desk text) → PlaysOn s.canvases.items n.canvases.items (viewer - 1) text → (a' f' : Option (List ℕ)) (r : Result (Unit {0}) Stop)
+  pub read_line : (viewer : ℕ) (answer : ReadAnswer) (n : Session) (text : List ℕ) → (did : HasReadLine viewer answer n.desk text) → PlaysOn s.canvases.items n.canvases.items viewer text → (a' f' : Option (List ℕ)) (r : Result (Unit {0}) Stop)
       → Reported r (read_told answer) (read_shown viewer text answer) a a' f f' → Ends (read viewer ∷ lines) now r n a0 f0 a' f'
   read_line viewer answer n text did plays a' f' r w = line_ends (read viewer) lines p now did.history n a0 f0 a a' f f' (read_told answer) (read_shown viewer text answer) at.told did.calls did.stands (did.shown n.canvases.items plays) r w
 
-  pub untold_line : (viewer : ℕ) (answer : ReadAnswer) (n : Session) (text : List ℕ) → (did : HasReadLine viewer answer n.desk text) → PlaysOn s.canvases.items n.canvases.items (viewer - 1) text → (f' : Option (List ℕ)) (r : Result (Unit {0}) Stop)
+  pub untold_line : (viewer : ℕ) (answer : ReadAnswer) (n : Session) (text : List ℕ) → (did : HasReadLine viewer answer n.desk text) → PlaysOn s.canvases.items n.canvases.items viewer text → (f' : Option (List ℕ)) (r : Result (Unit {0}) Stop)
       → Put r (read_shown viewer text answer) f f' → Ends (read_untold viewer ∷ lines) now r n a0 f0 a f'
   untold_line viewer answer n text did plays f' r put = line_ends (read_untold viewer) lines p now did.history n a0 f0 a a f f' [] (read_shown viewer text answer) at.told (record { answer = read_told answer; calls = did.calls; nothing_told = refl }) did.stands (did.shown n.canvases.items plays) r (shown_alone (read_shown viewer text answer) a f f' r put)
 
@@ -301,10 +299,10 @@ module _ (lines : List Line) (now : ℕ) (s : Session) (a0 f0 a f : Option (List
   untold_is_worn viewer entries step = (was_read (Err (read_worn entries)), record { event = read_as viewer; makes = refl; step = step }, refl)
 
   -- nothing was added by a call whose answer isn't told
-  pub untold_nothing : (line : Line) (event : Event) (result : Answer) (answer : List ℕ) (n : Session) → Step at.history event result [] → answer_to result ≡ Some answer
+  pub untold_nothing : (line : Line) (event : Event) (result : Answer) (answer : List ℕ) (n : Session) → Step at.history event result [] → answer_to result event ≡ Some answer
       → (Untold event p p [] [] → Does line p p [] []) → n.desk ≡ s.desk → n.canvases.items ≡ s.canvases.items → Ends (line ∷ lines) now (Ok tt) n a0 f0 a f
   untold_nothing line event result answer n step told does same seen_same =
-      line_ends line lines p now at.history n a0 f0 a a f f [] [] at.told (does (record { answer = answer; calls = record { result = result; added = []; step = step; told = told; after_it = refl; framed = refl }; nothing_told = refl })) (subst (λ (k : DeskState). Stands k at.history) (sym same) at.stands) (subst (λ (cs : List (List KeptLayer)). AreShown cs at.history) (sym seen_same) at.shown) (Ok tt) (sym (gained-none a), sym (gained-none f))
+      line_ends line lines p now at.history n a0 f0 a a f f [] [] at.told (does (record { answer = answer; calls = record { result = result; added = []; step = step; told = told; after_it = refl; framed = refl }; nothing_told = refl })) (subst (λ (k : DeskState). Stands k at.history) (sym same) at.stands) (subst (λ (cs : Canvases). AreShown cs at.history) (sym seen_same) at.shown) (Ok tt) (sym (gained-none a), sym (gained-none f))
 
   -- viewer 1 acknowledged
   pub acknowledged : (stamp : ℕ) → stamp ≡ newest at.history → (counts : Written) (n : Session) → WriteEnds at.history 1 (act_sync stamp ∷ []) (Ok counts) n.desk → n.canvases.items ≡ s.canvases.items → Ends (acknowledge 1 ∷ lines) now (Ok tt) n a0 f0 a f
@@ -315,10 +313,10 @@ module _ (lines : List Line) (now : ℕ) (s : Session) (a0 f0 a f : Option (List
           let entry_is = only e.entry (Write 1 (act_sync (newest at.history) ∷ [])) e.step.1.adds in
           line_ends (acknowledge 1) lines p now (e.entry ∷ at.history) n a0 f0 a a f f [] [] at.told
           (record { answer = answer_line (codes "written") (counts.keys ∷ counts.denied ∷ []); calls = record { result = was_written (Ok counts); added = e.entry ∷ []; step = e.step; told = refl; after_it = refl; framed = framed-write at.history e.entry 1 (act_sync (newest at.history) ∷ []) entry_is }; nothing_told = refl })
-          e.stands (subst (λ (cs : List (List KeptLayer)). AreShown cs (e.entry ∷ at.history)) (sym same) (subst (λ (x : Entry). AreShown s.canvases.items (x ∷ at.history)) (sym entry_is) (shown_plain s.canvases.items at.history (Write 1 (act_sync (newest at.history) ∷ [])) at.shown refl (λ v. refl)))) (Ok tt) (sym (gained-none a), sym (gained-none f))
+          e.stands (subst (λ (cs : Canvases). AreShown cs (e.entry ∷ at.history)) (sym same) (subst (λ (x : Entry). AreShown s.canvases.items (x ∷ at.history)) (sym entry_is) (shown_plain s.canvases.items at.history (Write 1 (act_sync (newest at.history) ∷ [])) at.shown refl (λ v. refl) (λ v. refl) (λ v. refl)))) (Ok tt) (sym (gained-none a), sym (gained-none f))
 
   -- the write was refused, which isn't told
-  pub write_refused : (stamp : ℕ) → stamp ≡ newest at.history → (refusal : WriteRefusal) (answer : List ℕ) (n : Session) → WriteStep at.history 1 (act_sync stamp ∷ []) (Err refusal) [] → answer_to (was_written (Err refusal)) ≡ Some answer → n.desk ≡ s.desk → n.canvases.items ≡ s.canvases.items
+  pub write_refused : (stamp : ℕ) → stamp ≡ newest at.history → (refusal : WriteRefusal) (answer : List ℕ) (n : Session) → WriteStep at.history 1 (act_sync stamp ∷ []) (Err refusal) [] → write_answer (Err refusal) ≡ Some answer → n.desk ≡ s.desk → n.canvases.items ≡ s.canvases.items
       → Ends (acknowledge 1 ∷ lines) now (Ok tt) n a0 f0 a f
   write_refused stamp is refusal answer n step told same seen_same =
       untold_nothing (acknowledge 1) (write_acts 1 (act_sync (newest at.history) ∷ [])) (was_written (Err refusal)) answer n (subst (λ (t : ℕ). WriteStep at.history 1 (act_sync t ∷ []) (Err refusal) []) is step) told (λ untold. untold) same seen_same
@@ -329,13 +327,13 @@ module _ (lines : List Line) (now : ℕ) (s : Session) (a0 f0 a f : Option (List
   -- the newest stamp was told
   pub all_told : (stamp : ℕ) → stamp ≡ newest at.history → (a' : Option (List ℕ)) (n : Session) → n.desk ≡ s.desk → n.canvases.items ≡ s.canvases.items → (r : Result (Unit {0}) Stop) → Put r (answer_line (codes "done") (stamp ∷ [])) a a' → Ends (done ∷ lines) now r n a0 f0 a' f
   all_told stamp is a' n same seen_same r put =
-      line_ends done lines p now at.history n a0 f0 a a' f f (answer_line (codes "done") (stamp ∷ [])) [] at.told (record { same = refl; answered = ap (λ (t : ℕ). answer_line (codes "done") (t ∷ [])) is; framed = refl }) (subst (λ (k : DeskState). Stands k at.history) (sym same) at.stands) (subst (λ (cs : List (List KeptLayer)). AreShown cs at.history) (sym seen_same) at.shown) r (said_alone (answer_line (codes "done") (stamp ∷ [])) a a' f r put)
+      line_ends done lines p now at.history n a0 f0 a a' f f (answer_line (codes "done") (stamp ∷ [])) [] at.told (record { same = refl; answered = ap (λ (t : ℕ). answer_line (codes "done") (t ∷ [])) is; framed = refl }) (subst (λ (k : DeskState). Stands k at.history) (sym same) at.stands) (subst (λ (cs : Canvases). AreShown cs at.history) (sym seen_same) at.shown) r (said_alone (answer_line (codes "done") (stamp ∷ [])) a a' f r put)
 
-  -- the owner joined, and its canvas was pushed
-  pub join_done : (given_ : Joined) (m n : Session) (before : List ℕ) (canvas : List KeptLayer) → before ≡ [] → JoinEnds at.history Owner (Ok given_) m.desk before m.given.items → ((is : List Instr) → AreReadable is → m.given.items ≡ texts is → stands_for canvas (draw nothing is)) → m.canvases.items ≡ s.canvases.items ++ canvas ∷ []
-      → n.desk ≡ m.desk → n.canvases ≡ m.canvases → (a' f' : Option (List ℕ)) (r : Result (Unit {0}) Stop) → Reported r (joined_line given_) (frames_line given_.viewer m.given.items) a a' f f' → Ends (join Owner ∷ lines) now r n a0 f0 a' f'
-  join_done given_ m n before canvas none ends plays grown desk_is canvases_are a' f' r w =
-      owner_joined given_ n before m.given.items canvas none (subst (λ (d : DeskState). JoinEnds at.history Owner (Ok given_) d before m.given.items) (sym desk_is) ends) plays (same_items n m canvases_are ∙ grown) a' f' r w
+  -- a viewer joined, and its canvas was pushed
+  pub join_done : (asked : Asked) (given_ : Joined) (m n : Session) (before : List ℕ) (canvas : List KeptLayer) → before ≡ [] → JoinEnds at.history asked (Ok given_) m.desk before m.given.items → ((is : List Instr) → AreReadable is → m.given.items ≡ texts is → stands_for canvas (draw nothing is)) → m.canvases.items ≡ s.canvases.items ++ Some canvas ∷ []
+      → n.desk ≡ m.desk → n.canvases ≡ m.canvases → (a' f' : Option (List ℕ)) (r : Result (Unit {0}) Stop) → Reported r (joined_line given_) (frames_line given_.viewer m.given.items) a a' f f' → Ends (join asked ∷ lines) now r n a0 f0 a' f'
+  join_done asked given_ m n before canvas none ends plays grown desk_is canvases_are a' f' r w =
+      viewer_joined asked given_ n before m.given.items canvas none (subst (λ (d : DeskState). JoinEnds at.history asked (Ok given_) d before m.given.items) (sym desk_is) ends) plays (same_items n m canvases_are ∙ grown) a' f' r w
 
   -- the session b after a viewer's read, m after what was given was played
   pub record ReadThenPlayed (viewer : ℕ) (answer : ReadAnswer) (b m n : Session) (before : List ℕ) : Type 0 where
@@ -343,7 +341,7 @@ module _ (lines : List Line) (now : ℕ) (s : Session) (a0 f0 a f : Option (List
     pub ends : ReadEnds at.history viewer (Ok answer) b.desk before b.given.items
     pub unchanged : OnNothing (Ok answer) (b.desk ≡ s.desk)
     pub buffer : OnNothing (Ok answer) (b.given.items ≡ before)
-    pub played : 1 ≤ viewer → viewer ≤ length s.canvases.items → PlaysOn s.canvases.items m.canvases.items (viewer - 1) b.given.items
+    pub played : PlaysOn s.canvases.items m.canvases.items viewer b.given.items
     pub same_desk : m.desk ≡ b.desk
     pub same_text : m.given ≡ b.given
     pub desk_is : n.desk ≡ m.desk
@@ -352,10 +350,8 @@ module _ (lines : List Line) (now : ℕ) (s : Session) (a0 f0 a f : Option (List
   did_read : (viewer : ℕ) (answer : ReadAnswer) (b m n : Session) (before : List ℕ) → ReadThenPlayed viewer answer b m n before → HasReadLine viewer answer n.desk b.given.items
   did_read viewer answer b m n before t = subst (λ (d : DeskState). HasReadLine viewer answer d b.given.items) (sym (t.desk_is ∙ t.same_desk)) (was_answered viewer answer b.desk before b.given.items t.none t.ends t.unchanged t.buffer)
 
-  did_play : (viewer : ℕ) (answer : ReadAnswer) (b m n : Session) (before : List ℕ) → ReadThenPlayed viewer answer b m n before → PlaysOn s.canvases.items n.canvases.items (viewer - 1) b.given.items
-  did_play viewer answer b m n before t =
-      let did = did_read viewer answer b m n before t in
-      subst (λ (cs : List (List KeptLayer)). PlaysOn s.canvases.items cs (viewer - 1) b.given.items) (sym (same_items n m t.canvases_are)) (t.played did.number.0 did.number.1)
+  did_play : (viewer : ℕ) (answer : ReadAnswer) (b m n : Session) (before : List ℕ) → ReadThenPlayed viewer answer b m n before → PlaysOn s.canvases.items n.canvases.items viewer b.given.items
+  did_play viewer answer b m n before t = subst (λ (cs : Canvases). PlaysOn s.canvases.items cs viewer b.given.items) (sym (same_items n m t.canvases_are)) t.played
 
   pub read_done : (viewer : ℕ) (answer : ReadAnswer) (b m n : Session) (before : List ℕ) → ReadThenPlayed viewer answer b m n before → (a' f' : Option (List ℕ)) (r : Result (Unit {0}) Stop)
       → Reported r (read_told answer) (read_shown viewer m.given.items answer) a a' f f' → Ends (read viewer ∷ lines) now r n a0 f0 a' f'
@@ -372,7 +368,7 @@ module _ (lines : List Line) (now : ℕ) (s : Session) (a0 f0 a f : Option (List
   -- something was told, and nothing changed
   pub told_alone : (line : Line) (answer : List ℕ) (n : Session) (a' : Option (List ℕ)) → (Answers p p answer answer [] → Does line p p answer []) → n.desk ≡ s.desk → n.canvases.items ≡ s.canvases.items → (r : Result (Unit {0}) Stop) → Put r answer a a' → Ends (line ∷ lines) now r n a0 f0 a' f
   told_alone line answer n a' does same seen_same r put =
-      line_ends line lines p now at.history n a0 f0 a a' f f answer [] at.told (does (record { same = refl; answered = refl; framed = refl })) (subst (λ (k : DeskState). Stands k at.history) (sym same) at.stands) (subst (λ (cs : List (List KeptLayer)). AreShown cs at.history) (sym seen_same) at.shown) r (said_alone answer a a' f r put)
+      line_ends line lines p now at.history n a0 f0 a a' f f answer [] at.told (does (record { same = refl; answered = refl; framed = refl })) (subst (λ (k : DeskState). Stands k at.history) (sym same) at.stands) (subst (λ (cs : Canvases). AreShown cs at.history) (sym seen_same) at.shown) r (said_alone answer a a' f r put)
 
   -- the acts of a text were written
   pub acts_written : (viewer : ℕ) (text : List ℕ) (acts : List Act) (passed : ℕ) → IsReading text (Whole acts passed) → (counts : Written) (n : Session) → WriteEnds at.history viewer acts (Ok counts) n.desk → n.canvases.items ≡ s.canvases.items
@@ -382,7 +378,7 @@ module _ (lines : List Line) (now : ℕ) (s : Session) (a0 f0 a f : Option (List
       let line_is : answer_line (codes "written") (keys ∷ denied ∷ others ∷ []) ≡ written_line counts passed = rw (keys_is, denied_is, others_is) refl in
       line_ends (write viewer text) lines p now (e.entry ∷ at.history) n a0 f0 a a' f f (written_line counts passed) [] at.told
       (Whole acts passed, is_reading, record { result = Ok counts; added = e.entry ∷ []; step = e.step; told = refl; after_it = refl; framed = framed-write at.history e.entry viewer acts entry_is })
-      e.stands (subst (λ (cs : List (List KeptLayer)). AreShown cs (e.entry ∷ at.history)) (sym same) (subst (λ (x : Entry). AreShown s.canvases.items (x ∷ at.history)) (sym entry_is) (shown_plain s.canvases.items at.history (Write viewer acts) at.shown refl (λ v. refl)))) r
+      e.stands (subst (λ (cs : Canvases). AreShown cs (e.entry ∷ at.history)) (sym same) (subst (λ (x : Entry). AreShown s.canvases.items (x ∷ at.history)) (sym entry_is) (shown_plain s.canvases.items at.history (Write viewer acts) at.shown refl (λ v. refl) (λ v. refl) (λ v. refl)))) r
       (said_alone (written_line counts passed) a a' f r (subst (λ (text_ : List ℕ). Put r text_ a a') line_is put))
 
   -- they were refused
@@ -391,7 +387,7 @@ module _ (lines : List Line) (now : ℕ) (s : Session) (a0 f0 a f : Option (List
   acts_refused viewer text acts passed is_reading refusal answer n step told same seen_same a' r put =
       line_ends (write viewer text) lines p now at.history n a0 f0 a a' f f answer [] at.told
       (Whole acts passed, is_reading, record { result = Err refusal; added = []; step = step; told = told; after_it = refl; framed = refl })
-      (subst (λ (k : DeskState). Stands k at.history) (sym same) at.stands) (subst (λ (cs : List (List KeptLayer)). AreShown cs at.history) (sym seen_same) at.shown) r (said_alone answer a a' f r put)
+      (subst (λ (k : DeskState). Stands k at.history) (sym same) at.stands) (subst (λ (cs : Canvases). AreShown cs at.history) (sym seen_same) at.shown) r (said_alone answer a a' f r put)
 
   pub acts_are_worn : (viewer : ℕ) (text : List ℕ) (acts : List Act) (passed : ℕ) → IsReading text (Whole acts passed) → (entries : ℕ) → WriteStep at.history viewer acts (Err (write_worn entries)) [] → IsRefused (Worn entries) (write viewer text) lines p
   acts_are_worn viewer text acts passed is_reading entries step = (was_written (Err (write_worn entries)), record { event = write_acts viewer acts; makes = (acts, passed, is_reading, refl); step = step }, refl)
@@ -420,48 +416,73 @@ module _ (lines : List Line) (now : ℕ) (s : Session) (a0 f0 a f : Option (List
         framed = subst (λ (es : List Entry). [] ≡ framings at.history es) (sym hands.step.adds) (framed-take at.history (length hands.bytes) none);
       })
       hands.stands
-      (subst (λ (cs : List (List KeptLayer)). AreShown cs (hands.added ++ at.history)) (sym same) (subst (λ (es : List Entry). AreShown s.canvases.items (es ++ at.history)) (sym hands.step.adds) (shown-take s.canvases.items at.history (length hands.bytes) none at.shown))) r
+      (subst (λ (cs : Canvases). AreShown cs (hands.added ++ at.history)) (sym same) (subst (λ (es : List Entry). AreShown s.canvases.items (es ++ at.history)) (sym hands.step.adds) (shown-take s.canvases.items at.history (length hands.bytes) none at.shown))) r
       (said_alone (took_line after) a a' f r put)
 
+  -- the viewer left, and its canvas was taken away
+  pub viewer_left : (viewer : ℕ) (u : Unit {0}) (old : DeskState) (m n : Session) → LeaveEnds at.history viewer (Ok (Ok u)) old m.desk → TakesAway s.canvases.items m.canvases.items viewer → n.desk ≡ m.desk → n.canvases.items ≡ m.canvases.items
+      → (a' : Option (List ℕ)) (r : Result (Unit {0}) Stop) → Put r (answer_line (codes "left") (viewer ∷ [])) a a' → Ends (leave viewer ∷ lines) now r n a0 f0 a' f
+  viewer_left viewer u old m n ends taken_away desk_is canvases_are a' r put =
+      let entry_is = only ends.entry (Leave viewer) ends.step.1 in
+      line_ends (leave viewer) lines p now (ends.entry ∷ at.history) n a0 f0 a a' f f (answer_line (codes "left") (viewer ∷ [])) [] at.told
+      (record { result = was_left (Ok u); added = ends.entry ∷ []; step = ends.step; told = refl; after_it = refl; framed = rw entry_is refl })
+      (subst (λ (d : DeskState). Stands d (ends.entry ∷ at.history)) (sym desk_is) ends.stands)
+      (subst (λ (cs : Canvases). AreShown cs (ends.entry ∷ at.history)) (sym canvases_are) (shown_leave s.canvases.items m.canvases.items at.history ends.entry viewer entry_is at.shown taken_away)) r
+      (said_alone (answer_line (codes "left") (viewer ∷ [])) a a' f r put)
+
+  pub leave_refused : (viewer : ℕ) (refusal : NoViewer) (n : Session) → LeaveEnds at.history viewer (Ok (Err refusal)) s.desk n.desk → n.canvases.items ≡ s.canvases.items
+      → (a' : Option (List ℕ)) (r : Result (Unit {0}) Stop) → Put r (refused_line 516) a a' → Ends (leave viewer ∷ lines) now r n a0 f0 a' f
+  leave_refused viewer refusal n ends same a' r put = nothing_added (leave viewer) (leave_as viewer) (was_left (Err refusal)) (refused_line 516) n a' ends.0 refl (λ calls. calls) ends.1 same r put
+
+  -- the session was closed
+  pub session_closed : (u : Unit {0}) (old : DeskState) (n : Session) → CloseEnds at.history Stopped (Ok (Ok u)) old n.desk → n.canvases.items ≡ s.canvases.items
+      → (a' : Option (List ℕ)) (r : Result (Unit {0}) Stop) → Put r (answer_line (codes "closed") []) a a' → Ends (close ∷ lines) now r n a0 f0 a' f
+  session_closed u old n ends same a' r put =
+      let entry_is = only ends.entry (Close Stopped) ends.step.1 in
+      line_ends close lines p now (ends.entry ∷ at.history) n a0 f0 a a' f f (answer_line (codes "closed") []) [] at.told
+      (record { result = was_closed (Ok u); added = ends.entry ∷ []; step = ends.step; told = refl; after_it = refl; framed = rw entry_is refl })
+      ends.stands
+      (subst (λ (cs : Canvases). AreShown cs (ends.entry ∷ at.history)) (sym same) (subst (λ (x : Entry). AreShown s.canvases.items (x ∷ at.history)) (sym entry_is) (shown_plain s.canvases.items at.history (Close Stopped) at.shown refl (λ v. refl) (λ v. refl) (λ v. refl)))) r
+      (said_alone (answer_line (codes "closed") []) a a' f r put)
+
+  pub close_refused : (refusal : Closed) (n : Session) → CloseEnds at.history Stopped (Ok (Err refusal)) s.desk n.desk → n.canvases.items ≡ s.canvases.items
+      → (a' : Option (List ℕ)) (r : Result (Unit {0}) Stop) → Put r (refused_line 523) a a' → Ends (close ∷ lines) now r n a0 f0 a' f
+  close_refused refusal n ends same a' r put = nothing_added close (close_for Stopped) (was_closed (Err refusal)) (refused_line 523) n a' ends.0 refl (λ calls. calls) ends.1 same r put
+
+  -- who is there has a canvas
+  live_is : (viewer : ℕ) (cs : Canvases) (b : Bool) → cs ≡ s.canvases.items → b ≡ is_some (canvas_at cs viewer) → is_live at.history viewer ≡ b
+  live_is viewer cs b cs_are is = sym (at.shown.there viewer) ∙ (ap (λ (l : Canvases). is_some (canvas_at l viewer)) (sym cs_are) ∙ sym is)
+
   -- what a viewer who is there sees at a place
-  pub pixel_told : (viewer x y : ℕ) (dot : Dot) (cs : List (List KeptLayer)) → cs ≡ s.canvases.items → true ≡ is_there viewer (length cs) → ((m : Layers) → stands_for (slice_index_or cs (viewer - 1) []) m → dot ≡ dot_at (m visible) x y) → pixel_line dot ≡ pixel_answer at.history viewer x y
+  pub pixel_told : (viewer x y : ℕ) (dot : Dot) (cs : Canvases) → cs ≡ s.canvases.items → true ≡ is_some (canvas_at cs viewer) → ((m : Layers) → IfSome (canvas_at cs viewer) (λ canvas. stands_for canvas m) → dot ≡ dot_at (m visible) x y) → pixel_line dot ≡ pixel_answer at.history viewer x y
   pixel_told viewer x y dot cs cs_are is dots =
-      let live_ : is_live at.history viewer ≡ true = there s.canvases.items at.history s.desk viewer at.stands at.shown ∙ (ap (λ (l : List (List KeptLayer)). is_there viewer (length l)) (sym cs_are) ∙ sym is) in
-      let number_ = numbered s.canvases.items at.history s.desk viewer at.stands at.shown live_ in
-      let shows_ : stands_for (slice_index_or cs (viewer - 1) []) (seen at.history viewer) = rw cs_are (canvas_shows s.canvases.items at.history viewer number_.0 number_.1 at.shown) in
-      ap pixel_line (dots (seen at.history viewer) shows_) ∙ sym (ap (λ (b : Bool). if b then pixel_line (dot_at (seen at.history viewer visible) x y) else refused_line 516) live_)
+      let shows_ : IfSome (canvas_at cs viewer) (λ canvas. stands_for canvas (seen at.history viewer)) = rw cs_are (at.shown.shows viewer) in
+      ap pixel_line (dots (seen at.history viewer) shows_) ∙ sym (ap (λ (b : Bool). if b then pixel_line (dot_at (seen at.history viewer visible) x y) else refused_line 516) (live_is viewer cs true cs_are is))
 
-  pub no_pixel : (viewer x y : ℕ) (cs : List (List KeptLayer)) → cs ≡ s.canvases.items → false ≡ is_there viewer (length cs) → refused_line 516 ≡ pixel_answer at.history viewer x y
-  no_pixel viewer x y cs cs_are is =
-      let live_ : is_live at.history viewer ≡ false = there s.canvases.items at.history s.desk viewer at.stands at.shown ∙ (ap (λ (l : List (List KeptLayer)). is_there viewer (length l)) (sym cs_are) ∙ sym is) in
-      sym (ap (λ (b : Bool). if b then pixel_line (dot_at (seen at.history viewer visible) x y) else refused_line 516) live_)
+  pub no_pixel : (viewer x y : ℕ) (cs : Canvases) → cs ≡ s.canvases.items → false ≡ is_some (canvas_at cs viewer) → refused_line 516 ≡ pixel_answer at.history viewer x y
+  no_pixel viewer x y cs cs_are is = sym (ap (λ (b : Bool). if b then pixel_line (dot_at (seen at.history viewer visible) x y) else refused_line 516) (live_is viewer cs false cs_are is))
 
-  both_live : (one other : ℕ) (cs : List (List KeptLayer)) (b : Bool) → cs ≡ s.canvases.items → b ≡ (is_there one (length cs) && is_there other (length cs)) → (is_live at.history one && is_live at.history other) ≡ b
+  both_live : (one other : ℕ) (cs : Canvases) (b : Bool) → cs ≡ s.canvases.items → b ≡ (is_some (canvas_at cs one) && is_some (canvas_at cs other)) → (is_live at.history one && is_live at.history other) ≡ b
   both_live one other cs b cs_are is =
-      let first : is_live at.history one ≡ is_there one (length cs) = there s.canvases.items at.history s.desk one at.stands at.shown ∙ ap (λ (l : List (List KeptLayer)). is_there one (length l)) (sym cs_are) in
-      let second : is_live at.history other ≡ is_there other (length cs) = there s.canvases.items at.history s.desk other at.stands at.shown ∙ ap (λ (l : List (List KeptLayer)). is_there other (length l)) (sym cs_are) in
+      let first : is_live at.history one ≡ is_some (canvas_at cs one) = live_is one cs (is_some (canvas_at cs one)) cs_are refl in
+      let second : is_live at.history other ≡ is_some (canvas_at cs other) = live_is other cs (is_some (canvas_at cs other)) cs_are refl in
       rw (first, second) (sym is)
 
   -- whether two viewers who are there see the same
-  pub compared : (one other : ℕ) (same_ : Bool) (cs : List (List KeptLayer)) → cs ≡ s.canvases.items → true ≡ (is_there one (length cs) && is_there other (length cs)) → ((m n : Layers) → stands_for (slice_index_or cs (one - 1) []) m → stands_for (slice_index_or cs (other - 1) []) n → IsTrue same_ ↔ Same m n)
+  pub compared : (one other : ℕ) (same_ : Bool) (cs : Canvases) → cs ≡ s.canvases.items → true ≡ (is_some (canvas_at cs one) && is_some (canvas_at cs other))
+      → ((m n : Layers) → IfSome (canvas_at cs one) (λ canvas. stands_for canvas m) → IfSome (canvas_at cs other) (λ canvas. stands_for canvas n) → IsTrue same_ ↔ Same m n)
       → Compares at.history one other (if same_ then same_line else differ_line)
-  compared one other same_ cs cs_are is tells = told_of same_ (tells (seen at.history one) (seen at.history other) (shows_ one one_live) (shows_ other other_live))
+  compared one other same_ cs cs_are is tells = told_of same_ (tells (seen at.history one) (seen at.history other) (shows_ one) (shows_ other))
     where
       is_both : (is_live at.history one && is_live at.history other) ≡ true
       is_both = both_live one other cs true cs_are is
 
-      one_live : is_live at.history one ≡ true
-      one_live = (both (is_live at.history one) (is_live at.history other) is_both).0
-
-      other_live : is_live at.history other ≡ true
-      other_live = (both (is_live at.history one) (is_live at.history other) is_both).1
-
-      shows_ : (v : ℕ) → is_live at.history v ≡ true → stands_for (slice_index_or cs (v - 1) []) (seen at.history v)
-      shows_ v live_ = let number_ = numbered s.canvases.items at.history s.desk v at.stands at.shown live_ in rw cs_are (canvas_shows s.canvases.items at.history v number_.0 number_.1 at.shown)
+      shows_ : (v : ℕ) → IfSome (canvas_at cs v) (λ canvas. stands_for canvas (seen at.history v))
+      shows_ v = rw cs_are (at.shown.shows v)
 
       told_of : (b : Bool) → IsTrue b ↔ Same (seen at.history one) (seen at.history other) → Compares at.history one other (if b then same_line else differ_line)
       told_of true t = inr (is_both, inl (t.0 refl, refl))
       told_of false t = inr (is_both, inr (λ alike. let w : false ≡ true = t.1 alike in cc, refl))
 
-  pub not_compared : (one other : ℕ) (cs : List (List KeptLayer)) → cs ≡ s.canvases.items → false ≡ (is_there one (length cs) && is_there other (length cs)) → Compares at.history one other (refused_line 516)
+  pub not_compared : (one other : ℕ) (cs : Canvases) → cs ≡ s.canvases.items → false ≡ (is_some (canvas_at cs one) && is_some (canvas_at cs other)) → Compares at.history one other (refused_line 516)
   not_compared one other cs cs_are is = inl (both_live one other cs false cs_are is, refl)

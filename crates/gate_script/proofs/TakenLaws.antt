@@ -7,12 +7,16 @@ use Rattle.std.proofs.lemmas.List.{append_cancel_left, take-append-le, take_min}
 use Rattle.std.proofs.lemmas.Bool.Decides.{nat_tests}
 use Rattle.gate_model.specs.declared.act.Act.{Act}
 use Rattle.gate_model.specs.declared.act.Act.TheVariants.{Sync as act_sync}
+use Rattle.gate_model.specs.declared.cause.Cause.{Cause}
+use Rattle.gate_model.specs.declared.cause.Cause.TheVariants.{Stopped}
+use Rattle.gate_model.specs.declared.closed.Closed.{Closed}
+use Rattle.gate_model.specs.declared.no_viewer.NoViewer.{NoViewer}
 use Rattle.gate_model.specs.declared.answer.Answer.{Answer}
-use Rattle.gate_model.specs.declared.answer.Answer.TheVariants.{Feed as fed, Join as joined_as, Read as was_read, Write as was_written, Take as was_taken}
+use Rattle.gate_model.specs.declared.answer.Answer.TheVariants.{Feed as fed, Join as joined_as, Read as was_read, Write as was_written, Take as was_taken, Leave as was_left, Close as was_closed}
 use Rattle.gate_model.specs.declared.entry.Entry.{Entry}
-use Rattle.gate_model.specs.declared.entry.Entry.TheVariants.{Feed, Join, Read, Write, Take}
+use Rattle.gate_model.specs.declared.entry.Entry.TheVariants.{Feed, Join, Read, Write, Take, Leave, Close}
 use Rattle.gate_model.specs.declared.event.Event.{Event}
-use Rattle.gate_model.specs.declared.event.Event.TheVariants.{Feed as feed, Join as join_in, Read as read_as, Write as write_acts, Take as take_most}
+use Rattle.gate_model.specs.declared.event.Event.TheVariants.{Feed as feed, Join as join_in, Read as read_as, Write as write_acts, Take as take_most, Leave as leave_as, Close as close_for}
 use Rattle.gate_model.specs.declared.feed_refusal.FeedRefusal.{FeedRefusal}
 use Rattle.gate_model.specs.declared.how.How.TheVariants.{Suffix}
 use Rattle.gate_model.specs.declared.join_refusal.JoinRefusal.{JoinRefusal}
@@ -27,11 +31,11 @@ use Rattle.gate_model.specs.declared.written.Written.{Written}
 use Rattle.gate_model.specs.Entries.{taken_by}
 use Rattle.gate_model.specs.History.{History, newest}
 use Rattle.gate_model.specs.Output.{out, sent, taken, untaken}
-use Rattle.gate_model.specs.Calls.{FeedStep, JoinStep, ReadStep, WriteStep, Step, take_entry}
+use Rattle.gate_model.specs.Calls.{FeedStep, JoinStep, ReadStep, WriteStep, LeaveStep, CloseStep, Step, take_entry}
 use Rattle.gate_script.specs.declared.reading.Reading.{Reading}
 use Rattle.gate_script.specs.declared.reading.Reading.TheVariants.{Whole, Cut, Bad, TooMany}
 use Rattle.gate_script.specs.Hexadecimal.{digits_of, lower_digit}
-use Rattle.gate_script.specs.Lines.{Line, blank, bad, moment, start, server, join, read, write, take_up_to, pixel, same, read_untold, acknowledge, done}
+use Rattle.gate_script.specs.Lines.{Line, blank, bad, moment, start, server, join, read, write, take_up_to, leave, close, pixel, same, read_untold, acknowledge, done}
 use Rattle.gate_script.specs.Told.{answer_to, taken_text, took_line}
 use Rattle.gate_script.specs.Plays.{Play, Plays, Does, DoesReading, Begins, Calls, Answers, Prints, IsLawful, Tells}
 
@@ -76,7 +80,7 @@ took-is xs ys e = texts-are xs ys (append_cancel_left (codes "took ") (taken_tex
 pub printed : (line : Line) (p q : Play) (a f : List ℕ) → Does line p q a f → (bytes : List ℕ) × Prints line a bytes
 printed (take_up_to most) p q a f calls = by_answer calls.result calls.step calls.told
   where
-    by_answer : (r : Answer) → Step p.history (take_most most) r calls.added → answer_to r ≡ Some a → (bytes : List ℕ) × (a ≡ took_line bytes)
+    by_answer : (r : Answer) → Step p.history (take_most most) r calls.added → answer_to r (take_most most) ≡ Some a → (bytes : List ℕ) × (a ≡ took_line bytes)
     by_answer (was_taken bytes closed) step told = (bytes, cc)
     by_answer r step told = absurd step
 printed line p q a f does = ([], refl)
@@ -128,8 +132,8 @@ feed_takes h bytes now (Ok stamp) added s = inr (Feed bytes stamp s.1.frame, s.1
 feed_takes h bytes now (Err refusal) added s = inl s.1.1
 
 join_takes : (h : History) (asked : Asked) (result : Result Joined JoinRefusal) (added : List Entry) → JoinStep h asked result added → TakesNone added
-join_takes h asked (Ok given) added s = inr (Join given.viewer given.role s.1.first, s.1.adds, refl)
-join_takes h asked (Err refusal) added s = inl s.1.1
+join_takes h asked (Ok given) added s = inr (Join given.viewer given.role s.first, s.adds, refl)
+join_takes h asked (Err refusal) added s = inl s.1
 
 read_takes : (h : History) (viewer : ℕ) (result : Result ReadAnswer ReadRefusal) (added : List Entry) → ReadStep h viewer result added → TakesNone added
 read_takes h viewer (Ok (Frames count stamp closed)) added s = inr (Read viewer Suffix, s.adds, refl)
@@ -143,6 +147,14 @@ write_takes : (h : History) (viewer : ℕ) (acts : List Act) (result : Result Wr
 write_takes h viewer acts (Ok counts) added s = inr (Write viewer acts, s.1.adds, refl)
 write_takes h viewer acts (Err refusal) added s = inl s.1.1
 
+leave_takes : (h : History) (viewer : ℕ) (result : Result (Unit {0}) NoViewer) (added : List Entry) → LeaveStep h viewer result added → TakesNone added
+leave_takes h viewer (Ok u) added s = inr (Leave viewer, s.1, refl)
+leave_takes h viewer (Err refusal) added s = inl s.1
+
+close_takes : (h : History) (cause : Cause) (result : Result (Unit {0}) Closed) (added : List Entry) → CloseStep h cause result added → TakesNone added
+close_takes h cause (Ok u) added s = inr (Close cause, s.1, refl)
+close_takes h cause (Err refusal) added s = inl s.1
+
 abbrev IsNoTake : Event → Type 0
 IsNoTake (take_most most) = ⊥
 IsNoTake event = Unit {0}
@@ -152,6 +164,8 @@ takes_none h (feed bytes now) (fed result) added other s = feed_takes h bytes no
 takes_none h (join_in asked) (joined_as result) added other s = join_takes h asked result added s
 takes_none h (read_as viewer) (was_read result) added other s = read_takes h viewer result added s
 takes_none h (write_acts viewer acts) (was_written result) added other s = write_takes h viewer acts result added s
+takes_none h (leave_as viewer) (was_left result) added other s = leave_takes h viewer result added s
+takes_none h (close_for cause) (was_closed result) added other s = close_takes h cause result added s
 takes_none h (take_most most) r added other s = absurd other
 takes_none h event r added other s = absurd s
 
@@ -188,7 +202,7 @@ module _ (bytes own : List ℕ) where
   take_sends : (most : ℕ) (p q : Play) (a f : List ℕ) → Calls (take_most most) p q a f → a ≡ took_line own → AreSent p.history bytes → AreSent q.history (bytes ++ own)
   take_sends most p q a f calls prints s = subst (λ (k : Play). AreSent k.history (bytes ++ own)) (sym calls.after_it) (by_answer calls.result calls.step calls.told)
     where
-      by_answer : (r : Answer) → Step p.history (take_most most) r calls.added → answer_to r ≡ Some a → AreSent (calls.added ++ p.history) (bytes ++ own)
+      by_answer : (r : Answer) → Step p.history (take_most most) r calls.added → answer_to r (take_most most) ≡ Some a → AreSent (calls.added ++ p.history) (bytes ++ own)
       by_answer (was_taken given closed) step told =
           let line_is : took_line given ≡ a = cc in
           let is : given ≡ own = took-is given own (line_is ∙ prints) in
@@ -207,6 +221,8 @@ module _ (bytes own : List ℕ) where
   line_sends (read viewer) p q a f does none s = calls_send (read_as viewer) p q a f tt does none s
   line_sends (write viewer text) p q a f does none s = writes_send does.0 viewer p q a f does.2 none s
   line_sends (take_up_to most) p q a f does prints s = take_sends most p q a f does prints s
+  line_sends (leave viewer) p q a f does none s = calls_send (leave_as viewer) p q a f tt does none s
+  line_sends close p q a f does none s = calls_send (close_for Stopped) p q a f tt does none s
   line_sends (pixel viewer x y) p q a f does none s = subst (λ (k : Play). AreSent k.history (bytes ++ own)) (sym does.same) (none_printed p.history none s)
   line_sends (same one other) p q a f does none s = answers_send p q does.0 a f does.2 none s
   line_sends (read_untold viewer) p q a f does none s = calls_send (read_as viewer) p q does.answer f tt does.calls none s

@@ -2,7 +2,8 @@
 -- a tab.
 use Rattle.std.specs.Prelude.{ℕ, ◌+◌, ◌-◌, ◌^◌, List, [], ◌∷◌, length, take, drop, Bool, true, false, ◌&&◌, ◌||◌, ◌==◌, nat_le, nat_lt, if◌then◌else◌, Option, Some, None, option_and_then, codes, bytes_eq}
 use Rattle.std.specs.List.{position_or_len, list_any, ends_with}
-use Rattle.gate_model.specs.declared.sharing.Asked.TheVariants.{Owner}
+use Rattle.gate_model.specs.declared.sharing.Asked.{Asked}
+use Rattle.gate_model.specs.declared.sharing.Asked.TheVariants.{Owner, Control as ask_control, View as ask_view, Keep}
 use Rattle.gate_model.specs.declared.sharing.Share.{Share}
 use Rattle.gate_model.specs.declared.sharing.Share.TheVariants.{Nobody, View, Control}
 use Rattle.gate_model.specs.Limits.{most_piece}
@@ -13,7 +14,7 @@ use Rattle.gate_script.specs.Numbers.{number_up_to}
 use Rattle.gate_script.specs.Hexadecimal.{bytes_of}
 use Rattle.gate_script.specs.Words.{size_of}
 use Rattle.gate_script.specs.Pieces.{whole_pieces, all_pieces}
-use Rattle.gate_script.specs.Lines.{Line, blank, bad, moment, start, server, join, read, write, take_up_to, pixel, same, done, draw_lines}
+use Rattle.gate_script.specs.Lines.{Line, blank, bad, moment, start, server, join, read, write, take_up_to, leave, close, pixel, same, done, draw_lines}
 use Rattle.std.specs.Prelude.{reverse}
 
 -- the most bytes of a line without its end, and of a script
@@ -60,6 +61,11 @@ abbrev pub taking : Option ℕ → Line
 taking None = bad
 taking (Some most) = take_up_to most
 
+-- `leave N`
+abbrev pub leaving : Option ℕ → Line
+leaving None = bad
+leaving (Some viewer) = leave viewer
+
 -- `pixel N X Y`
 abbrev pub looking : Option ℕ → Option ℕ → Option ℕ → Line
 looking (Some viewer) (Some x) (Some y) = pixel viewer x y
@@ -74,8 +80,17 @@ abbrev pub comparing : Option ℕ → Option ℕ → Line
 comparing (Some one) (Some other) = same one other
 comparing one other = bad
 
-abbrev pub joining : List ℕ → Line
-joining word = if bytes_eq word (codes "owner") then join Owner else bad
+-- `join ASKED`
+abbrev pub asked_of : List ℕ → Option Asked
+asked_of word =
+    if bytes_eq word (codes "owner") then Some Owner else (
+    if bytes_eq word (codes "control") then Some ask_control else (
+    if bytes_eq word (codes "view") then Some ask_view else (
+    if bytes_eq word (codes "keep") then Some Keep else None)))
+
+abbrev pub joining : Option Asked → Line
+joining None = bad
+joining (Some asked) = join asked
 
 abbrev pub mode_of : List ℕ → Option Share
 mode_of word =
@@ -102,15 +117,20 @@ meant entries name text =
     if bytes_eq name (codes "at") then moved (number_up_to (2 ^ 64 - 1) text) else (
     if bytes_eq name (codes "start") then start_rows entries (first_word text) (behind_word text) else (
     if bytes_eq name (codes "server") then served (bytes_of text) else (
-    if bytes_eq name (codes "join") then joining text else (
+    if bytes_eq name (codes "join") then joining (asked_of text) else (
     if bytes_eq name (codes "read") then reading (number_up_to (2 ^ 32 - 1) text) else (
     if bytes_eq name (codes "write") then writing (number_up_to (2 ^ 32 - 1) (first_word text)) (behind_word text) else (
     if bytes_eq name (codes "take") then taking (number_up_to most_taken text) else (
+    if bytes_eq name (codes "leave") then leaving (number_up_to (2 ^ 32 - 1) text) else (
     if bytes_eq name (codes "pixel") then pixel_place (first_word text) (behind_word text) else (
-    if bytes_eq name (codes "same") then comparing (number_up_to (2 ^ 32 - 1) (first_word text)) (option_and_then (number_up_to (2 ^ 32 - 1)) (behind_word text)) else bad))))))))
+    if bytes_eq name (codes "same") then comparing (number_up_to (2 ^ 32 - 1) (first_word text)) (option_and_then (number_up_to (2 ^ 32 - 1)) (behind_word text)) else bad)))))))))
+
+-- a line of one word
+abbrev pub alone : List ℕ → Line
+alone word = if bytes_eq word (codes "close") then close else bad
 
 abbrev pub by_word : ℕ → List ℕ → Option (List ℕ) → Line
-by_word entries name None = bad
+by_word entries name None = alone name
 by_word entries name (Some text) = meant entries name text
 
 -- an empty line and one that begins with `#` have no effect
@@ -137,6 +157,8 @@ in_place false (join asked) = bad
 in_place false (read viewer) = bad
 in_place false (write viewer text) = bad
 in_place false (take_up_to most) = bad
+in_place false (leave viewer) = bad
+in_place false close = bad
 in_place false (pixel viewer x y) = bad
 in_place false (same one other) = bad
 in_place opened line = line

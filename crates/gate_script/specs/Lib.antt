@@ -1,5 +1,5 @@
 -- In reading order: numbers, the words, the pieces of the input, hexadecimal digits, a script's line, what
--- lines do and tell, how a run ends.
+-- lines do and tell, how a run ends, what viewers see.
 pub mod Numbers
 pub mod Words
 pub mod Pieces
@@ -12,4 +12,5 @@ pub mod Meanings
 pub mod Plays
 pub mod Outcomes
 pub mod Playing
+pub mod Seeing
 pub mod Running

@@ -9,8 +9,8 @@ use Rattle.gate_script.specs.declared.size.Size.{Size}
 
 -- `start` has the screen's size, the share mode and the most entries, `write` a viewer and a text,
 -- `take_up_to` the most bytes that are taken for the host, `pixel` a viewer and a place, and `same` two
--- viewers. `read_untold` is a read whose answer isn't told, and `acknowledge` a write that acknowledges the
--- newest stamp; `done` tells it.
+-- viewers. `close` closes the session. `read_untold` is a read whose answer isn't told, and `acknowledge` a
+-- write that acknowledges the newest stamp; `done` tells it.
 pub data Line : Type 0 where
   blank : Line
   bad : Line
@@ -21,6 +21,8 @@ pub data Line : Type 0 where
   read : ℕ → Line
   write : ℕ → List ℕ → Line
   take_up_to : ℕ → Line
+  leave : ℕ → Line
+  close : Line
   pixel : ℕ → ℕ → ℕ → Line
   same : ℕ → ℕ → Line
   read_untold : ℕ → Line

@@ -2,19 +2,20 @@
 use Rattle.std.specs.Prelude.{ℕ, ◌≤◌, length}
 use Rattle.gate_model.specs.Limits.{most_piece}
 use Rattle.gate_model.specs.Steps.{IsScreenSize}
-use Rattle.gate_model.specs.declared.sharing.Asked.TheVariants.{Owner}
 use Rattle.gate_script.specs.declared.line.Call.{Call}
-use Rattle.gate_script.specs.declared.line.Call.TheVariants.{Server, JoinOwner, Read, Write, Take, Pixel, Same}
+use Rattle.gate_script.specs.declared.line.Call.TheVariants.{Server, Join, Read, Write, Take, Leave, Close, Pixel, Same}
 use Rattle.gate_script.specs.declared.line.Line.{Line as Said}
 use Rattle.gate_script.specs.declared.line.Line.TheVariants.{Blank, Bad, At, Start, Call as Calls}
-use Rattle.gate_script.specs.Lines.{Line, blank, bad, moment, start, server, join, read, write, take_up_to, pixel, same}
+use Rattle.gate_script.specs.Lines.{Line, blank, bad, moment, start, server, join, read, write, take_up_to, leave, close, pixel, same}
 
 abbrev pub call_meant : Call → Line
 call_meant (Server bytes) = server bytes
-call_meant JoinOwner = join Owner
+call_meant (Join asked) = join asked
 call_meant (Read viewer) = read viewer
 call_meant (Write viewer text) = write viewer text
 call_meant (Take most) = take_up_to most
+call_meant (Leave viewer) = leave viewer
+call_meant Close = close
 call_meant (Pixel viewer x y) = pixel viewer x y
 call_meant (Same one other) = same one other
 

@@ -3,9 +3,10 @@
 use Rattle.std.specs.Prelude.{◌≡◌, ℕ, List, [], ◌∷◌, ◌++◌, take, true, false, ◌&&◌, if◌then◌else◌, ◌⊎◌, codes, Option, Some, None, Result}
 use Rattle.gate_model.specs.declared.act.Act.TheVariants.{Sync as act_sync}
 use Rattle.gate_model.specs.declared.answer.Answer.{Answer}
+use Rattle.gate_model.specs.declared.cause.Cause.TheVariants.{Stopped}
 use Rattle.gate_model.specs.declared.entry.Entry.{Entry}
 use Rattle.gate_model.specs.declared.event.Event.{Event}
-use Rattle.gate_model.specs.declared.event.Event.TheVariants.{Feed as feed, Join as join_in, Read as read_as, Write as write_acts, Take as take_most}
+use Rattle.gate_model.specs.declared.event.Event.TheVariants.{Feed as feed, Join as join_in, Read as read_as, Write as write_acts, Take as take_most, Leave as leave_as, Close as close_for}
 use Rattle.gate_model.specs.declared.setup.Setup.{Setup}
 use Rattle.gate_model.specs.declared.sharing.Share.{Share}
 use Rattle.gate_model.specs.declared.act.Act.{Act}
@@ -24,7 +25,7 @@ use Rattle.gate_model.specs.Steps.{Legal}
 use Rattle.gate_model.specs.Calls.{StartStep, Step, WriteStep}
 use Rattle.gate_model.specs.Truth.{Faithful}
 use Rattle.gate_script.specs.declared.size.Size.{Size}
-use Rattle.gate_script.specs.Lines.{Line, blank, bad, moment, start, server, join, read, write, take_up_to, pixel, same, read_untold, acknowledge, done}
+use Rattle.gate_script.specs.Lines.{Line, blank, bad, moment, start, server, join, read, write, take_up_to, leave, close, pixel, same, read_untold, acknowledge, done}
 use Rattle.gate_script.specs.Told.{answer_line, answer_to, framings, refused_line, text_answer, cut_line, bad_text_line, pixel_line, same_line, differ_line, took_line}
 
 pub record Play : Type 0 where
@@ -53,7 +54,7 @@ pub record Calls (event : Event) (p q : Play) (answer f : List ℕ) : Type 0 whe
   pub result : Answer
   pub added : List Entry
   pub step : Step p.history event result added
-  pub told : answer_to result ≡ Some answer
+  pub told : answer_to result event ≡ Some answer
   pub after_it : q ≡ record { now = p.now; history = added ++ p.history }
   pub framed : f ≡ framings p.history added
 
@@ -99,6 +100,8 @@ event_of (server bytes) p = Some (feed bytes p.now)
 event_of (join asked) p = Some (join_in asked)
 event_of (read viewer) p = Some (read_as viewer)
 event_of (take_up_to most) p = Some (take_most most)
+event_of (leave viewer) p = Some (leave_as viewer)
+event_of close p = Some (close_for Stopped)
 event_of (read_untold viewer) p = Some (read_as viewer)
 event_of (acknowledge viewer) p = Some (write_acts viewer (act_sync (newest p.history) ∷ []))
 event_of line p = None
@@ -120,6 +123,8 @@ Does (join asked) p q a f = Calls (join_in asked) p q a f
 Does (read viewer) p q a f = Calls (read_as viewer) p q a f
 Does (write viewer text) p q a f = (reading : Reading) × IsReading text reading × DoesReading reading viewer p q a f
 Does (take_up_to most) p q a f = Calls (take_most most) p q a f
+Does (leave viewer) p q a f = Calls (leave_as viewer) p q a f
+Does close p q a f = Calls (close_for Stopped) p q a f
 Does (pixel viewer x y) p q a f = Answers p q (pixel_answer p.history viewer x y) a f
 Does (same one other) p q a f = (answer : List ℕ) × Compares p.history one other answer × Answers p q answer a f
 Does (read_untold viewer) p q a f = Untold (read_as viewer) p q a f

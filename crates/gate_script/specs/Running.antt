@@ -1,22 +1,16 @@
 -- Where a run stands, and how each of its calls ends. Four optional texts say what the answers' sink and
 -- the frames' sink held when the run began, and what they hold.
-use Rattle.std.specs.Prelude.{◌+◌, ◌<◌, slice_index_or, slice_set, ◌≡◌, ℕ, ◌*◌, ◌≤◌, Bool, List, [], ◌∷◌, ◌++◌, length, take, reverse, true, false, Result, Ok, Err, Option, Some, None, ◌⊎◌}
+use Rattle.std.specs.Prelude.{◌≡◌, ℕ, ◌*◌, ◌≤◌, Bool, List, [], ◌∷◌, ◌++◌, length, take, reverse, true, false, Result, Ok, Err, Option, Some, None, ◌⊎◌}
 use Rattle.std.specs.List.{list_any}
 use Rattle.std.specs.Option.{is_some}
 use Rattle.gate_model.specs.Sequences.{IsLater, BeginsWith}
 use Rattle.gate_model.specs.Reading.{read as read_stream}
 use Rattle.gate_model.specs.declared.read_answer.ReadAnswer.{ReadAnswer}
 use Rattle.gate_model.specs.declared.read_answer.ReadAnswer.TheVariants.{Frames, Fresh}
-use Rattle.gate_model.specs.History.{History, joined}
+use Rattle.gate_model.specs.History.{History}
 use Rattle.gate_model.specs.Limits.{most_entries}
 use Rattle.gate_outside.specs.Edge.{AtEnd, came, gained, GainedFront}
-use Rattle.desk_core.specs.Desk.{Stands}
-use Rattle.gate_model.specs.declared.instr.Instr.{Instr}
-use Rattle.gate_model.specs.Text.{texts}
-use Rattle.gate_model.specs.Layers.{Layers, draw}
-use Rattle.frame_draw.specs.Readable.{AreReadable}
-use Rattle.canvas.specs.Kept.{KeptLayer}
-use Rattle.canvas.specs.Standing.{Stands as stands_for}
+use Rattle.desk_core.specs.Desk.{DeskState, IsKept, Stands}
 use Rattle.gate_script.specs.declared.form.Form.{Form}
 use Rattle.gate_script.specs.declared.form.Form.TheVariants.{Draw, Script}
 use Rattle.gate_script.specs.declared.refused.Refused.{Refused as Refusal}
@@ -31,7 +25,8 @@ use Rattle.gate_script.specs.Pieces.{first_piece}
 use Rattle.gate_script.specs.Lines.{Line, draw_lines}
 use Rattle.gate_script.specs.Grammar.{most_script, total, is_start, script_lines, lines_of, most_of, whole_lines, all_lines}
 use Rattle.gate_script.specs.Told.{frames_line}
-use Rattle.gate_script.specs.Plays.{Play, Plays, IsLawful, Tells, seen}
+use Rattle.gate_script.specs.Plays.{Play, Plays, IsLawful, Tells}
+use Rattle.gate_script.specs.Seeing.{AreShown}
 use Rattle.gate_script.specs.Outcomes.{IsRefused, last_line}
 
 -- the lines were done, and the sinks gained all that they tell
@@ -42,17 +37,6 @@ pub record Told (lines : List Line) (p : Play) (a0 f0 a f : Option (List ℕ)) :
   pub plays : Plays lines p answers framings bytes
   pub answered : a ≡ gained a0 answers
   pub framed : f ≡ gained f0 framings
-
--- each viewer's canvas shows what the viewer was given
-pub record AreShown (canvases : List (List KeptLayer)) (h : History) : Type 0 where
-  pub count : length canvases ≡ joined h
-  pub shows : (i : ℕ) → i < length canvases → stands_for (slice_index_or canvases i []) (seen h (i + 1))
-
--- the text was played on one canvas, and the others are as before
-pub record PlaysOn (old new : List (List KeptLayer)) (place : ℕ) (text : List ℕ) : Type 0 where
-  pub canvas : List KeptLayer
-  pub set : new ≡ slice_set old place canvas
-  pub plays : (is : List Instr) (m : Layers) → AreReadable is → text ≡ texts is → stands_for (slice_index_or old place []) m → stands_for canvas (draw m is)
 
 -- besides, the session's desk stands for the history, and its canvases show it
 pub record At (lines : List Line) (now : ℕ) (s : Session) (a0 f0 a f : Option (List ℕ)) : Type 0 where
@@ -163,16 +147,17 @@ abbrev pub IsDrawing : Form → Type 0
 IsDrawing (Draw size) = Unit {0}
 IsDrawing (Script entries) = ⊥
 
--- no more viewers joined than this
-abbrev pub ViewersUpTo : ℕ → Option Session → Type 0
-ViewersUpTo n None = Unit {0}
-ViewersUpTo n (Some session) = length session.desk.viewers ≤ n
+-- a desk whose session is open, with no more entries than a session may have
+pub record IsOpenDesk (d : DeskState) : Type 0 where
+  pub kept : IsKept d
+  pub not_closed : d.cause ≡ None
+  pub few : d.entries ≤ most_entries
 
 -- `draw` has started, and what a run keeps is small, so that its numbers fit and its input ends
 abbrev pub IsReadyFor : Form → Option Session → ℕ → ℕ → Type 0
 IsReadyFor (Draw size) None lines read = ⊥
-IsReadyFor (Draw size) (Some session) lines read = (read ≤ 65536 * session.desk.entries) × (session.desk.entries ≤ most_entries)
-IsReadyFor (Script entries) session lines read = IsForm (Script entries) × (lines ≤ read) × (read ≤ most_script) × ViewersUpTo lines session
+IsReadyFor (Draw size) (Some session) lines read = (read ≤ 65536 * session.desk.entries) × IsOpenDesk session.desk
+IsReadyFor (Script entries) session lines read = IsForm (Script entries) × (lines ≤ read) × (read ≤ most_script)
 
 abbrev pub IsReady : Run → Type 0
 IsReady r = IsReadyFor r.form r.session r.lines r.read

@@ -1,14 +1,18 @@
 -- What is printed: the answers to calls, and the frames (this project's own).
-use Rattle.std.specs.Prelude.{ℕ, List, [], ◌∷◌, ◌++◌, codes, decimal, flat_map, Option, Some, None, Result, Ok, Err}
+use Rattle.std.specs.Prelude.{ℕ, Bool, if◌then◌else◌, List, [], ◌∷◌, ◌++◌, codes, decimal, flat_map, Option, Some, None, Result, Ok, Err}
 use Rattle.gate_model.specs.declared.answer.Answer.{Answer}
-use Rattle.gate_model.specs.declared.answer.Answer.TheVariants.{Feed as fed, Join as joined_as, Read as was_read, Write as was_written, Take as was_taken}
+use Rattle.gate_model.specs.declared.answer.Answer.TheVariants.{Feed as fed, Join as joined_as, Read as was_read, Write as was_written, Take as was_taken, Leave as was_left, Close as was_closed}
+use Rattle.gate_model.specs.declared.closed.Closed.{Closed}
 use Rattle.gate_model.specs.declared.entry.Entry.{Entry}
 use Rattle.gate_model.specs.declared.entry.Entry.TheVariants.{Start, Feed, Join, Read}
+use Rattle.gate_model.specs.declared.event.Event.{Event}
+use Rattle.gate_model.specs.declared.event.Event.TheVariants.{Leave as leave_as}
 use Rattle.gate_model.specs.declared.feed_refusal.FeedRefusal.{FeedRefusal}
 use Rattle.gate_model.specs.declared.feed_refusal.FeedRefusal.TheVariants.{Closed as feed_closed, Worn as feed_worn}
 use Rattle.gate_model.specs.declared.join_refusal.JoinRefusal.{JoinRefusal}
 use Rattle.gate_model.specs.declared.join_refusal.JoinRefusal.TheVariants.{Closed as join_closed, Worn as join_worn, Forbidden, TooMany as too_many_viewers}
 use Rattle.gate_model.specs.declared.joined.Joined.{Joined}
+use Rattle.gate_model.specs.declared.no_viewer.NoViewer.{NoViewer}
 use Rattle.gate_model.specs.declared.read_answer.ReadAnswer.{ReadAnswer}
 use Rattle.gate_model.specs.declared.read_answer.ReadAnswer.TheVariants.{Frames, Fresh, Ended, Empty, Hold}
 use Rattle.gate_model.specs.declared.read_refusal.ReadRefusal.{ReadRefusal}
@@ -56,10 +60,13 @@ join_answer (Err Forbidden) = Some (refused_line 771)
 join_answer (Err (too_many_viewers live joined)) = Some (refused_line 797)
 join_answer (Err refusal) = None
 
--- in this version no session is closed
+-- an answer to a read that gave something, and whether it ended with the closing instruction
+unfoldable pub given_line : List ℕ → List ℕ → Bool → List ℕ
+given_line word ns closed = word ++ flat_map blank_and ns ++ (if closed then codes " closed" else []) ++ 10 ∷ []
+
 abbrev pub read_told : ReadAnswer → List ℕ
-read_told (Frames count stamp closed) = answer_line (codes "frames") (count ∷ stamp ∷ [])
-read_told (Fresh stamp closed) = answer_line (codes "fresh") (stamp ∷ [])
+read_told (Frames count stamp closed) = given_line (codes "frames") (count ∷ stamp ∷ []) closed
+read_told (Fresh stamp closed) = given_line (codes "fresh") (stamp ∷ []) closed
 read_told Ended = answer_line (codes "ended") []
 read_told Empty = answer_line (codes "empty") []
 read_told (Hold waiting) = answer_line (codes "hold") []
@@ -83,13 +90,23 @@ taken_text (b ∷ bytes) = digits_of (b ∷ bytes)
 abbrev pub took_line : List ℕ → List ℕ
 took_line bytes = codes "took " ++ taken_text bytes ++ 10 ∷ []
 
-abbrev pub answer_to : Answer → Option (List ℕ)
-answer_to (fed result) = feed_answer result
-answer_to (joined_as result) = join_answer result
-answer_to (was_read result) = read_answer result
-answer_to (was_written result) = write_answer result
-answer_to (was_taken bytes closed) = Some (took_line bytes)
-answer_to answer = None
+abbrev pub leave_answer : ℕ → Result (Unit {0}) NoViewer → Option (List ℕ)
+leave_answer viewer (Ok done) = Some (answer_line (codes "left") (viewer ∷ []))
+leave_answer viewer (Err refusal) = Some (refused_line 516)
+
+abbrev pub close_answer : Result (Unit {0}) Closed → Option (List ℕ)
+close_answer (Ok done) = Some (answer_line (codes "closed") [])
+close_answer (Err refusal) = Some (refused_line 523)
+
+abbrev pub answer_to : Answer → Event → Option (List ℕ)
+answer_to (fed result) event = feed_answer result
+answer_to (joined_as result) event = join_answer result
+answer_to (was_read result) event = read_answer result
+answer_to (was_written result) event = write_answer result
+answer_to (was_taken bytes closed) event = Some (took_line bytes)
+answer_to (was_left result) (leave_as viewer) = leave_answer viewer result
+answer_to (was_closed result) event = close_answer result
+answer_to answer event = None
 
 -- how many entries a full session has, where the call was refused for that
 abbrev pub worn_by : Answer → Option ℕ

@@ -2,7 +2,7 @@
 
 ghost use Rattle.std.specs.Prelude.{◌≡◌, ◌≤◌, ◌-◌, ◌^◌, ℕ, length, position, option_and_then, IfOk, bytes_eq};
 ghost use Rattle.std.specs.Option.{option_map};
-ghost use Rattle.gate_script.specs.Grammar.{behind_word, comparing, content, end_length, first_word, is_blank, joining, line_of, looking, meant, mode_of, most_taken, moved, pixel_place, reading, served, start_mode, start_rows, taking, writing};
+ghost use Rattle.gate_script.specs.Grammar.{alone, asked_of, behind_word, comparing, content, end_length, first_word, is_blank, joining, leaving, line_of, looking, meant, mode_of, most_taken, moved, pixel_place, reading, served, start_mode, start_rows, taking, writing};
 ghost use Rattle.gate_script.specs.Hexadecimal.{bytes_of};
 ghost use Rattle.gate_script.specs.Numbers.{number_up_to};
 ghost use Rattle.gate_script.specs.Meanings.{IsInRange, line_meant};
@@ -11,7 +11,7 @@ use crate::hexadecimal::bytes_of;
 use crate::line::{Call, Line};
 use crate::numbers::{number, number_of_32_bits, number_of_64_bits};
 use crate::words::size_of;
-use gate_model::{Bytes, NoMemory, Share};
+use gate_model::{Asked, Bytes, NoMemory, Share};
 use std::alloc::Global;
 
 /// The most bytes that the host sends at once.
@@ -31,7 +31,7 @@ pub(crate) fn line_of(alloc: Global, text: &[u8]) -> Result<Line, NoMemory>
     let words = split(text);
     match words.behind {
         Some(behind) => meant(alloc, words.first, behind),
-        None => Ok(Line::Bad),
+        None => Ok(alone(words.first)),
     }
 }
 
@@ -86,6 +86,18 @@ fn is(text: &[u8], word: &str) -> bool
     text == word.as_bytes()
 }
 
+// A line of one word.
+fn alone(word: &[u8]) -> Line
+    ensures says { (entries : ℕ) → line_meant entries result ≡ alone word.now }
+    ensures in_range { IsInRange result }
+{
+    if is(word, "close") {
+        Line::Call(Call::Close)
+    } else {
+        Line::Bad
+    }
+}
+
 // A line by its first word, and what stands behind it.
 fn meant(alloc: Global, name: &[u8], text: &[u8]) -> Result<Line, NoMemory>
     ensures says { (entries : ℕ) → IfOk result (λ l. line_meant entries l ≡ meant entries name.now text.now) }
@@ -111,6 +123,9 @@ fn meant(alloc: Global, name: &[u8], text: &[u8]) -> Result<Line, NoMemory>
     }
     if is(name, "take") {
         return Ok(take(text));
+    }
+    if is(name, "leave") {
+        return Ok(leave(text));
     }
     if is(name, "pixel") {
         return Ok(pixel(text));
@@ -188,15 +203,31 @@ fn server(alloc: Global, text: &[u8]) -> Result<Line, NoMemory>
     }
 }
 
-// `join owner`
+// `join ASKED`
 fn join(text: &[u8]) -> Line
-    ensures says { (entries : ℕ) → line_meant entries result ≡ joining text.now }
+    ensures says { (entries : ℕ) → line_meant entries result ≡ joining (asked_of text.now) }
     ensures in_range { IsInRange result }
 {
-    if is(text, "owner") {
-        Line::Call(Call::JoinOwner)
+    match asked_of(text) {
+        Some(asked) => Line::Call(Call::Join(asked)),
+        None => Line::Bad,
+    }
+}
+
+// What a viewer asks for by this name.
+fn asked_of(word: &[u8]) -> Option<Asked>
+    ensures { result ≡ asked_of word.now }
+{
+    if is(word, "owner") {
+        Some(Asked::Owner)
+    } else if is(word, "control") {
+        Some(Asked::Control)
+    } else if is(word, "view") {
+        Some(Asked::View)
+    } else if is(word, "keep") {
+        Some(Asked::Keep)
     } else {
-        Line::Bad
+        None
     }
 }
 
@@ -234,6 +265,17 @@ fn take(text: &[u8]) -> Line
     match number(text) {
         Some(most) if most <= MOST_TAKEN => Line::Call(Call::Take(most as u32)),
         _ => Line::Bad,
+    }
+}
+
+// `leave VIEWER`
+fn leave(text: &[u8]) -> Line
+    ensures says { (entries : ℕ) → line_meant entries result ≡ leaving (number_up_to (2 ^ 32 - 1) text.now) }
+    ensures in_range { IsInRange result }
+{
+    match number_of_32_bits(text) {
+        Some(viewer) => Line::Call(Call::Leave(viewer)),
+        None => Line::Bad,
     }
 }
 

@@ -5,7 +5,7 @@ use std::alloc::Global;
 use std::test::Fail;
 
 // Runs a script that ends well, and compares its answers.
-fn ends_well(alloc: Global, script: &str, answers: &str) -> Result<bool, Fail> {
+pub(crate) fn ends_well(alloc: Global, script: &str, answers: &str) -> Result<bool, Fail> {
     answers_are(alloc, "script", script.as_bytes(), 0, answers)
 }
 

@@ -31,6 +31,8 @@ mod size;
 mod stop;
 #[cfg(test)]
 mod tests;
+#[cfg(test)]
+mod viewer_tests;
 mod words;
 
 pub use commands::command;

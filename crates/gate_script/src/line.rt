@@ -1,5 +1,5 @@
 use crate::size::Size;
-use gate_model::{Bytes, Share};
+use gate_model::{Asked, Bytes, Share};
 
 /// What a script's line says.
 #[derive(Drop)]
@@ -21,14 +21,18 @@ pub(crate) enum Line {
 pub(crate) enum Call {
     /// The host sends 1 to 65,536 bytes.
     Server(Bytes),
-    /// The owner joins.
-    JoinOwner,
+    /// A viewer joins, and asks for this.
+    Join(Asked),
     /// The viewer reads.
     Read(u32),
     /// The viewer writes a text of instructions.
     Write(u32, Bytes),
     /// At most so many bytes are taken for the host.
     Take(u32),
+    /// The viewer leaves.
+    Leave(u32),
+    /// The session is closed.
+    Close,
     /// The pixel at x and y of what the viewer sees.
     Pixel(u32, u64, u64),
     /// Whether two viewers see the same.

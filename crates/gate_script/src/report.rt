@@ -1,14 +1,14 @@
 //! The lines that are written to the two sinks.
 
-ghost use Rattle.std.specs.Prelude.{◌≡◌, ◌≤◌, ◌⊎◌, [], ◌∷◌, ◌++◌, codes, decimal, OnOk, IfErr};
+ghost use Rattle.std.specs.Prelude.{◌≡◌, ◌≤◌, ◌⊎◌, [], ◌∷◌, ◌++◌, codes, decimal, flat_map, OnOk, IfErr};
 ghost use Rattle.gate_outside.specs.Edge.{Rose};
-ghost use Rattle.gate_script.specs.Told.{answer_line, bad_text_line, frames_line, kind_word, pixel_line, refused_line, taken_text, took_line};
+ghost use Rattle.gate_script.specs.Told.{answer_line, bad_text_line, blank_and, frames_line, given_line, kind_word, pixel_line, read_told, refused_line, taken_text, took_line};
 ghost use Rattle.gate_script.specs.Running.{HasCause, Put, Reported};
 
 use crate::hexadecimal::push_digits;
 use crate::stop::Stop;
 use canvas::Dot;
-use gate_model::{Colour, NoMemory};
+use gate_model::{Colour, NoMemory, ReadAnswer};
 use gate_outside::{Sink, write_all};
 use guac_framing::{BadAt, BadKind};
 use itoa::Buffer;
@@ -65,6 +65,51 @@ pub(crate) fn say<A: Sink>(
     ensures cause { IfErr result (λ stop. HasCause stop ⊥ (Rose (A.faults answers.old) (A.faults answers.new))) }
 {
     make_answer_line(line, word, numbers)?;
+    match write_all(answers, line) {
+        Ok(()) => Ok(()),
+        Err(_) => Err(Stop::WriteFault),
+    }
+}
+
+/// Writes the answer to a read.
+pub(crate) fn say_read<A: Sink>(
+    line: &mut Vec<u8>,
+    answer: ReadAnswer,
+    answers: &mut A,
+) -> Result<(), Stop>
+    ensures put { Put result (read_told answer) (A.written answers.old) (A.written answers.new) }
+    ensures later { A.faults answers.old ≤ A.faults answers.new }
+    ensures cause { IfErr result (λ stop. HasCause stop ⊥ (Rose (A.faults answers.old) (A.faults answers.new))) }
+{
+    match answer {
+        ReadAnswer::Frames {
+            count,
+            stamp,
+            closed,
+        } => {
+            let numbers = [u64::from(count), stamp];
+            say_given(line, "frames", &numbers, closed, answers)
+        }
+        ReadAnswer::Fresh { stamp, closed } => say_given(line, "fresh", &[stamp], closed, answers),
+        ReadAnswer::Ended => say(line, "ended", &[], answers),
+        ReadAnswer::Empty => say(line, "empty", &[], answers),
+        ReadAnswer::Hold { .. } => say(line, "hold", &[], answers),
+    }
+}
+
+// Writes the answer to a read that gave something, and whether it ended with the closing instruction.
+fn say_given<A: Sink>(
+    line: &mut Vec<u8>,
+    word: &str,
+    numbers: &[u64],
+    closed: bool,
+    answers: &mut A,
+) -> Result<(), Stop>
+    ensures put { Put result (given_line word.now numbers.now closed) (A.written answers.old) (A.written answers.new) }
+    ensures later { A.faults answers.old ≤ A.faults answers.new }
+    ensures cause { IfErr result (λ stop. HasCause stop ⊥ (Rose (A.faults answers.old) (A.faults answers.new))) }
+{
+    make_given_line(line, word, numbers, closed)?;
     match write_all(answers, line) {
         Ok(()) => Ok(()),
         Err(_) => Err(Stop::WriteFault),
@@ -196,6 +241,33 @@ fn make_frames_line(line: &mut Vec<u8>, viewer: u32, text: &[u8]) -> Result<(), 
 fn make_answer_line(line: &mut Vec<u8>, word: &str, numbers: &[u64]) -> Result<(), NoMemory>
     ensures { OnOk result (line.new.items ≡ answer_line word.now numbers.now) }
 {
+    begin_answer(line, word, numbers)?;
+    line.push(b'\n')?;
+    Ok(())
+}
+
+// Makes the answer to a read that gave something.
+#[tactic(auto, unfolding(crate::specs::Told::given_line))]
+fn make_given_line(
+    line: &mut Vec<u8>,
+    word: &str,
+    numbers: &[u64],
+    closed: bool,
+) -> Result<(), NoMemory>
+    ensures { OnOk result (line.new.items ≡ given_line word.now numbers.now closed) }
+{
+    begin_answer(line, word, numbers)?;
+    if closed {
+        line.extend_from_slice(b" closed")?;
+    }
+    line.push(b'\n')?;
+    Ok(())
+}
+
+// Makes a word, and numbers with a blank before each.
+fn begin_answer(line: &mut Vec<u8>, word: &str, numbers: &[u64]) -> Result<(), NoMemory>
+    ensures { OnOk result (line.new.items ≡ word.now ++ flat_map blank_and numbers.now) }
+{
     line.clear();
     line.extend_from_slice(word.as_bytes())?;
     for number in numbers {
@@ -203,6 +275,5 @@ fn make_answer_line(line: &mut Vec<u8>, word: &str, numbers: &[u64]) -> Result<(
         line.push(b' ')?;
         line.extend_from_slice(buffer.format(*number).as_bytes())?;
     }
-    line.push(b'\n')?;
     Ok(())
 }

@@ -13,7 +13,7 @@ use crate::report::say;
 use crate::session::Session;
 use crate::size::Size;
 use crate::stop::Stop;
-use gate_model::Share;
+use gate_model::{Asked, Share};
 use gate_outside::Sink;
 use std::alloc::Global;
 
@@ -44,7 +44,7 @@ impl Run {
     ghost use Rattle.gate_script.specs.Lines.{Line as LineDone, start};
     ghost use Rattle.gate_script.specs.Grammar.{ending, in_place, lines_of, most_of, most_script, script_lines};
     ghost use Rattle.gate_script.specs.Meanings.{IsCallInRange, IsInRange, call_meant, line_meant};
-    ghost use Rattle.gate_script.specs.Running.{DoesLines, HasCause, HasDone, IsDrawing, IsReady, IsReadyFor, LastEnds, LineEnds, PieceEnds, StoppedIn, ViewersUpTo, stopped_at};
+    ghost use Rattle.gate_script.specs.Running.{DoesLines, HasCause, HasDone, IsDrawing, IsReady, IsReadyFor, LastEnds, LineEnds, PieceEnds, StoppedIn, stopped_at};
 
     /// The most bytes of a piece: of a longer line of a script only the front is read, which tells that
     /// it is too long.
@@ -123,7 +123,7 @@ impl Run {
     {
         let mut session = Session::start(alloc, size, Share::Nobody, MOST_ENTRIES, 0)?;
         session.tell_start(answers, frames)?;
-        session.join(alloc, answers, frames)?;
+        session.join(alloc, Asked::Owner, answers, frames)?;
         self.session = Some(session);
         Ok(())
     }
@@ -229,11 +229,9 @@ impl Run {
     ) -> Result<(), Stop>
         requires entries { IsForm (Script entries) }
         requires lines { self.old.lines ≤ most_script }
-        requires viewers { ViewersUpTo self.old.lines self.old.session }
         requires pieces { IsInRange line }
         ensures step { (lines : List LineDone) (a0 f0 : Option (List ℕ)) → length lines ≡ self.old.lines → DoesLines lines self.old a0 f0 (A.written answers.old) (F.written frames.old) →
             LineEnds (in_place (is_some self.old.session) (line_meant entries line) ∷ lines) result self.new a0 f0 (A.written answers.new) (F.written frames.new) }
-        ensures viewers { OnOk result (ViewersUpTo (self.old.lines + 1) self.new.session) }
         ensures form { self.new.form ≡ self.old.form }
         ensures read { self.new.read ≡ self.old.read }
         ensures lines { self.new.lines ≡ self.old.lines }
@@ -268,7 +266,6 @@ impl Run {
         requires lines { self.old.lines ≤ most_script }
         ensures step { (lines : List LineDone) (a0 f0 : Option (List ℕ)) → length lines ≡ self.old.lines → DoesLines lines self.old a0 f0 (A.written answers.old) (F.written frames.old) →
             LineEnds (in_place (is_some self.old.session) (start size mode entries) ∷ lines) result self.new a0 f0 (A.written answers.new) (F.written frames.new) }
-        ensures viewers { OnOk result (ViewersUpTo (self.old.lines + 1) self.new.session) }
         ensures form { self.new.form ≡ self.old.form }
         ensures read { self.new.read ≡ self.old.read }
         ensures lines { self.new.lines ≡ self.old.lines }
@@ -294,11 +291,9 @@ impl Run {
         frames: &mut F,
     ) -> Result<(), Stop>
         requires lines { self.old.lines ≤ most_script }
-        requires viewers { ViewersUpTo self.old.lines self.old.session }
         requires range { IsCallInRange call }
         ensures step { (lines : List LineDone) (a0 f0 : Option (List ℕ)) → length lines ≡ self.old.lines → DoesLines lines self.old a0 f0 (A.written answers.old) (F.written frames.old) →
             LineEnds (in_place (is_some self.old.session) (call_meant call) ∷ lines) result self.new a0 f0 (A.written answers.new) (F.written frames.new) }
-        ensures viewers { OnOk result (ViewersUpTo (self.old.lines + 1) self.new.session) }
         ensures form { self.new.form ≡ self.old.form }
         ensures read { self.new.read ≡ self.old.read }
         ensures lines { self.new.lines ≡ self.old.lines }
@@ -313,12 +308,14 @@ impl Run {
         };
         match call {
             Call::Server(bytes) => session.server(alloc, bytes.as_slice(), now, answers, frames),
-            Call::JoinOwner => session.join(alloc, answers, frames),
+            Call::Join(asked) => session.join(alloc, asked, answers, frames),
             Call::Read(viewer) => session.read(viewer, answers, frames),
             Call::Write(viewer, text) => {
                 session.write(alloc, viewer, text.as_slice(), bad, answers)
             }
             Call::Take(most) => session.take(alloc, most, answers),
+            Call::Leave(viewer) => session.leave(viewer, answers),
+            Call::Close => session.close(answers),
             Call::Pixel(viewer, x, y) => session.pixel(viewer, x, y, answers),
             Call::Same(one, other) => session.same(one, other, answers),
         }

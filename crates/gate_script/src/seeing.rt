@@ -1,40 +1,39 @@
-//! What viewers see, by their canvases: viewer 1's stands first.
+//! What viewers see, by their canvases: viewer 1's stands first, and one that has left has none.
 
-ghost use Rattle.std.specs.Prelude.{◌≡◌, ◌-◌, ◌&&◌, ◌↔◌, [], IfSome, IsTrue, length, slice_index_or};
-ghost use Rattle.std.specs.Option.{is_some};
+ghost use Rattle.std.specs.Prelude.{◌≡◌, ◌&&◌, ◌↔◌, IfSome, IsTrue};
+ghost use Rattle.std.specs.Option.{is_some, option_map};
 ghost use Rattle.gate_model.specs.Layers.{Layers, Same, visible};
 ghost use Rattle.canvas.specs.Standing.{Stands, dot_at};
-ghost use Rattle.desk_core.specs.Places.{is_there};
+ghost use Rattle.gate_script.specs.Seeing.{canvas_at};
 
 use canvas::{Canvas, Dot};
 
-/// What a place of layer 0 of the viewer's canvas shows, if the viewer is there.
-pub(crate) fn dot_of(canvases: &[Canvas], viewer: u32, x: u64, y: u64) -> Option<Dot>
-    ensures there { is_some result ≡ is_there viewer (length canvases.now) }
-    ensures dot { (m : Layers) → Stands (slice_index_or canvases.now (viewer - 1) []) m → IfSome result (λ d. d ≡ dot_at (m visible) x y) }
+/// What a place of layer 0 of the viewer's canvas shows, if the viewer has one.
+pub(crate) fn dot_of(canvases: &[Option<Canvas>], viewer: u32, x: u64, y: u64) -> Option<Dot>
+    ensures there { is_some result ≡ is_some (canvas_at canvases.now viewer) }
+    ensures dot { (m : Layers) → IfSome (canvas_at canvases.now viewer) (λ c. Stands c m) → IfSome result (λ d. d ≡ dot_at (m visible) x y) }
 {
     let canvas = canvas_of(canvases, viewer)?;
     Some(dot_in(canvas, x, y))
 }
 
-/// Whether two viewers' canvases are the same in every layer, if both viewers are there.
-pub(crate) fn are_same(canvases: &[Canvas], one: u32, other: u32) -> Option<bool>
-    ensures there { is_some result ≡ (is_there one (length canvases.now) && is_there other (length canvases.now)) }
-    ensures same { (m n : Layers) → Stands (slice_index_or canvases.now (one - 1) []) m → Stands (slice_index_or canvases.now (other - 1) []) n → IfSome result (λ b. IsTrue b ↔ Same m n) }
+/// Whether two viewers' canvases are the same in every layer, if both viewers have one.
+pub(crate) fn are_same(canvases: &[Option<Canvas>], one: u32, other: u32) -> Option<bool>
+    ensures there { is_some result ≡ (is_some (canvas_at canvases.now one) && is_some (canvas_at canvases.now other)) }
+    ensures same { (m n : Layers) → IfSome (canvas_at canvases.now one) (λ c. Stands c m) → IfSome (canvas_at canvases.now other) (λ c. Stands c n) → IfSome result (λ b. IsTrue b ↔ Same m n) }
 {
     let one = canvas_of(canvases, one)?;
     let other = canvas_of(canvases, other)?;
     Some(one.same(other))
 }
 
-// The canvas of a viewer, if the viewer is there.
-fn canvas_of(canvases: &[Canvas], viewer: u32) -> Option<&Canvas>
-    ensures there { is_some result ≡ is_there viewer (length canvases.now) }
-    ensures canvas { IfSome result (λ c. c.now ≡ slice_index_or canvases.now (viewer - 1) []) }
+// The canvas of a viewer, if the viewer has one.
+fn canvas_of(canvases: &[Option<Canvas>], viewer: u32) -> Option<&Canvas>
+    ensures { option_map (λ c. c.now) result ≡ canvas_at canvases.now viewer }
 {
     let place = viewer as usize;
     if 1 <= place && place <= canvases.len() {
-        Some(&canvases[place - 1])
+        canvases[place - 1].as_ref()
     } else {
         None
     }

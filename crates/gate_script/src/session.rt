@@ -1,6 +1,6 @@
 //! A session: its desk, and what each of its lines tells.
 
-ghost use Rattle.std.specs.Prelude.{◌≡◌, ◌≢◌, ◌+◌, ◌-◌, ◌<◌, ◌^◌, ◌≤◌, ◌⊎◌, [], ◌∷◌, ℕ, List, Option, length, IfOk, IfErr, OnOk};
+ghost use Rattle.std.specs.Prelude.{◌≡◌, ◌≢◌, ◌+◌, ◌≤◌, ◌⊎◌, [], ◌∷◌, ℕ, List, Option, length, IfOk, IfErr, OnOk};
 ghost use Rattle.gate_model.specs.Limits.{most_entries};
 ghost use Rattle.gate_model.specs.Steps.{IsScreenSize};
 ghost use Rattle.gate_outside.specs.Edge.{Rose};
@@ -9,7 +9,7 @@ use crate::acts::read_acts;
 use crate::playing::{play_text, played};
 use crate::reading::Reading;
 use crate::refused::Refused;
-use crate::report::{refuse, report, say, say_bad, say_dot, say_took, show};
+use crate::report::{refuse, report, say, say_bad, say_dot, say_read, say_took, show};
 use crate::seeing::{are_same, dot_of};
 use crate::size::Size;
 use crate::stop::Stop;
@@ -18,32 +18,33 @@ use desk_core::{
     Desk, FeedRefusal, JoinRefusal, Joined, NoMemory, ReadAnswer, ReadRefusal, Setup, WriteRefusal,
     Written,
 };
-use gate_model::{Act, Asked, Share, Text};
+use gate_model::{Act, Asked, Cause, Share, Text};
 use gate_outside::Sink;
 use std::alloc::Global;
 
-/// A desk, a canvas for each viewer, what a viewer is given, and the line that is written next.
+/// A desk, a place for each viewer that joined, with the canvas of one that is there, what a viewer is
+/// given, and the line that is written next.
 #[derive(Drop)]
 pub(crate) struct Session {
     pub desk: Desk,
-    pub canvases: Vec<Canvas>,
+    pub canvases: Vec<Option<Canvas>>,
     given: Vec<u8>,
     line: Vec<u8>,
 }
 
 impl Session {
     ghost use Rattle.gate_model.specs.declared.sharing.Share.{Share as Shared};
-    ghost use Rattle.gate_model.specs.declared.sharing.Asked.TheVariants.{Owner};
     ghost use Rattle.desk_core.specs.Calls.{Opened};
     ghost use Rattle.gate_script.specs.declared.size.Size.{Size as Sized};
     ghost use Rattle.gate_model.specs.Calls.{IsWrite};
     ghost use Rattle.gate_script.specs.declared.reading.Reading.TheVariants.{Whole};
     ghost use Rattle.gate_script.specs.declared.stop.Stop.TheVariants.{ReadFault, WriteFault};
     ghost use Rattle.gate_script.specs.Acts.{IsReading};
-    ghost use Rattle.gate_script.specs.Lines.{Line, start, server, join, read, write, take_up_to, pixel, same, read_untold, acknowledge, done};
+    ghost use Rattle.gate_script.specs.Lines.{Line, start, server, join, read, write, take_up_to, leave, close, pixel, same, read_untold, acknowledge, done};
     ghost use Rattle.gate_script.specs.Plays.{setup_of};
     ghost use Rattle.gate_script.specs.Told.{frames_line, joined_line, read_told};
-    ghost use Rattle.gate_script.specs.Running.{At, Ends, HasCause, PlaysOn, Put, Reported, Told, read_shown, stopped_at};
+    ghost use Rattle.gate_script.specs.Running.{At, Ends, HasCause, IsOpenDesk, Put, Reported, Told, read_shown, stopped_at};
+    ghost use Rattle.gate_script.specs.Seeing.{PlaysOn, TakesAway};
 
     /// Opens a session at the moment `now`, of at most `entries` entries.
     pub(crate) fn start(
@@ -57,9 +58,8 @@ impl Session {
         requires some { 1 ≤ entries }
         requires few { entries ≤ most_entries }
         ensures opened { IfOk result (λ s. Opened (setup_of size mode entries) now s.desk) }
-        ensures nobody { IfOk result (λ s. s.desk.viewers ≡ []) }
         ensures unseen { IfOk result (λ s. s.canvases.items ≡ []) }
-        ensures one { IfOk result (λ s. s.desk.entries ≡ 1) }
+        ensures still_open { IfOk result (λ s. IsOpenDesk s.desk) }
     {
         let setup = Setup {
             cols: size.cols,
@@ -117,9 +117,8 @@ impl Session {
         ensures step { (lines : List Line) (a0 f0 : Option (List ℕ)) →
             At lines now self.old a0 f0 (A.written answers.old) (F.written frames.old) →
             Ends (server bytes.now ∷ lines) now result self.new a0 f0 (A.written answers.new) (F.written frames.new) }
-        ensures counts { OnOk result (self.new.desk.entries ≡ self.old.desk.entries + 1) }
-        ensures few { OnOk result (self.new.desk.entries ≤ 2 ^ 40) }
-        ensures viewers { self.new.desk.viewers ≡ self.old.desk.viewers }
+        ensures counts { IsOpenDesk self.old.desk → OnOk result (self.new.desk.entries ≡ self.old.desk.entries + 1) }
+        ensures still_open { IsOpenDesk self.old.desk → OnOk result (IsOpenDesk self.new.desk) }
         ensures later_answers { A.faults answers.old ≤ A.faults answers.new }
         ensures later_frames { F.faults frames.old ≤ F.faults frames.new }
         ensures cause { IfErr result (λ stop. HasCause stop ⊥ (Rose (A.faults answers.old) (A.faults answers.new) ⊎ Rose (F.faults frames.old) (F.faults frames.new))) }
@@ -140,28 +139,27 @@ impl Session {
         }
     }
 
-    /// The owner joins.
+    /// A viewer joins, and asks for this.
     pub(crate) fn join<A: Sink, F: Sink>(
         &mut self,
         alloc: Global,
+        asked: Asked,
         answers: &mut A,
         frames: &mut F,
     ) -> Result<(), Stop>
-        requires few { length self.old.desk.viewers < 2 ^ 32 - 1 }
         ensures step { (lines : List Line) (now : ℕ) (a0 f0 : Option (List ℕ)) →
             At lines now self.old a0 f0 (A.written answers.old) (F.written frames.old) →
-            Ends (join Owner ∷ lines) now result self.new a0 f0 (A.written answers.new) (F.written frames.new) }
-        ensures viewers { OnOk result (length self.new.desk.viewers ≤ length self.old.desk.viewers + 1) }
-        ensures few { OnOk result (self.old.desk.entries ≤ 2 ^ 40 → self.new.desk.entries ≤ 2 ^ 40) }
+            Ends (join asked ∷ lines) now result self.new a0 f0 (A.written answers.new) (F.written frames.new) }
+        ensures still_open { IsOpenDesk self.old.desk → OnOk result (IsOpenDesk self.new.desk) }
         ensures later_answers { A.faults answers.old ≤ A.faults answers.new }
         ensures later_frames { F.faults frames.old ≤ F.faults frames.new }
         ensures cause { IfErr result (λ stop. HasCause stop ⊥ (Rose (A.faults answers.old) (A.faults answers.new) ⊎ Rose (F.faults frames.old) (F.faults frames.new))) }
     {
         self.given.clear();
-        match self.desk.join(alloc, Asked::Owner, &mut self.given) {
+        match self.desk.join(alloc, asked, &mut self.given) {
             Ok(joined) => {
                 let canvas = played(alloc, &self.given)?;
-                if self.canvases.push(canvas).is_err() {
+                if self.canvases.push(Some(canvas)).is_err() {
                     return Err(Stop::NoMemory);
                 }
                 self.tell_joined(joined, answers, frames)
@@ -211,7 +209,6 @@ impl Session {
         ensures step { (lines : List Line) (now : ℕ) (a0 f0 : Option (List ℕ)) →
             At lines now self.old a0 f0 (A.written answers.old) (F.written frames.old) →
             Ends (read viewer ∷ lines) now result self.new a0 f0 (A.written answers.new) (F.written frames.new) }
-        ensures viewers { length self.new.desk.viewers ≡ length self.old.desk.viewers }
         ensures later_answers { A.faults answers.old ≤ A.faults answers.new }
         ensures later_frames { F.faults frames.old ≤ F.faults frames.new }
         ensures cause { IfErr result (λ stop. HasCause stop ⊥ (Rose (A.faults answers.old) (A.faults answers.new) ⊎ Rose (F.faults frames.old) (F.faults frames.new))) }
@@ -243,18 +240,9 @@ impl Session {
         ensures later_frames { F.faults frames.old ≤ F.faults frames.new }
         ensures cause { IfErr result (λ stop. HasCause stop ⊥ (Rose (A.faults answers.old) (A.faults answers.new) ⊎ Rose (F.faults frames.old) (F.faults frames.new))) }
     {
-        let Session { given, line, .. } = self;
-        match answer {
-            ReadAnswer::Frames { count, stamp, .. } => {
-                let numbers = [u64::from(count), stamp];
-                report(line, viewer, given, "frames", &numbers, answers, frames)
-            }
-            ReadAnswer::Fresh { stamp, .. } => {
-                report(line, viewer, given, "fresh", &[stamp], answers, frames)
-            }
-            ReadAnswer::Ended => say(line, "ended", &[], answers),
-            ReadAnswer::Empty => say(line, "empty", &[], answers),
-            ReadAnswer::Hold { .. } => say(line, "hold", &[], answers),
+        match self.show_read(viewer, answer, frames) {
+            Ok(()) => say_read(&mut self.line, answer, answers),
+            Err(stop) => Err(stop),
         }
     }
 
@@ -264,7 +252,7 @@ impl Session {
             At lines now self.old a0 f0 a (F.written frames.old) →
             Ends (read_untold 1 ∷ lines) now result self.new a0 f0 a (F.written frames.new) }
         ensures counts { OnOk result (self.old.desk.entries ≤ self.new.desk.entries) }
-        ensures few { OnOk result (self.old.desk.entries ≤ 2 ^ 40 → self.new.desk.entries ≤ 2 ^ 40) }
+        ensures still_open { IsOpenDesk self.old.desk → OnOk result (IsOpenDesk self.new.desk) }
         ensures later { F.faults frames.old ≤ F.faults frames.new }
         ensures cause { IfErr result (λ stop. HasCause stop ⊥ (Rose (F.faults frames.old) (F.faults frames.new))) }
     {
@@ -272,7 +260,7 @@ impl Session {
         match self.desk.read(1, &mut self.given) {
             Ok(answer) => {
                 self.play_given(1)?;
-                self.show_read(answer, frames)
+                self.show_read(1, answer, frames)
             }
             Err(ReadRefusal::NoViewer) => Ok(()),
             Err(ReadRefusal::Worn { entries }) => Err(Stop::Refused(Refused::Worn(entries))),
@@ -280,9 +268,14 @@ impl Session {
         }
     }
 
-    // Writes the line of the frames where viewer 1 was given something.
-    fn show_read<F: Sink>(&mut self, answer: ReadAnswer, frames: &mut F) -> Result<(), Stop>
-        ensures put { Put result (read_shown 1 self.old.given.items answer) (F.written frames.old) (F.written frames.new) }
+    // Writes the line of the frames where the viewer was given something.
+    fn show_read<F: Sink>(
+        &mut self,
+        viewer: u32,
+        answer: ReadAnswer,
+        frames: &mut F,
+    ) -> Result<(), Stop>
+        ensures put { Put result (read_shown viewer self.old.given.items answer) (F.written frames.old) (F.written frames.new) }
         ensures same { self.new.desk ≡ self.old.desk }
         ensures canvases { self.new.canvases ≡ self.old.canvases }
         ensures later { F.faults frames.old ≤ F.faults frames.new }
@@ -290,7 +283,7 @@ impl Session {
     {
         match answer {
             ReadAnswer::Frames { .. } | ReadAnswer::Fresh { .. } => {
-                show(&mut self.line, 1, &self.given, frames)
+                show(&mut self.line, viewer, &self.given, frames)
             }
             ReadAnswer::Ended | ReadAnswer::Empty | ReadAnswer::Hold { .. } => Ok(()),
         }
@@ -301,7 +294,7 @@ impl Session {
         ensures step { (lines : List Line) (now : ℕ) (a0 f0 a f : Option (List ℕ)) →
             At lines now self.old a0 f0 a f → Ends (acknowledge 1 ∷ lines) now result self.new a0 f0 a f }
         ensures counts { OnOk result (self.old.desk.entries ≤ self.new.desk.entries) }
-        ensures few { OnOk result (self.old.desk.entries ≤ 2 ^ 40 → self.new.desk.entries ≤ 2 ^ 40) }
+        ensures still_open { IsOpenDesk self.old.desk → OnOk result (IsOpenDesk self.new.desk) }
         ensures cause { IfErr result (λ stop. HasCause stop ⊥ ⊥) }
     {
         let acts = [Act::Sync {
@@ -328,15 +321,17 @@ impl Session {
         say(&mut self.line, "done", &numbers, answers)
     }
 
-    // Plays what the viewer was given on its canvas.
+    // Plays what the viewer was given on its canvas, if it has one.
     fn play_given(&mut self, viewer: u32) -> Result<(), NoMemory>
-        ensures there { 1 ≤ viewer → viewer ≤ length self.old.canvases.items → OnOk result (PlaysOn self.old.canvases.items self.new.canvases.items (viewer - 1) self.old.given.items) }
+        ensures plays { OnOk result (PlaysOn self.old.canvases.items self.new.canvases.items viewer self.old.given.items) }
         ensures desk { self.new.desk ≡ self.old.desk }
         ensures given { self.new.given ≡ self.old.given }
     {
         let place = viewer as usize;
         if 1 <= place && place <= self.canvases.len() {
-            play_text(&mut self.canvases[place - 1], &self.given)?;
+            if let Some(canvas) = &mut self.canvases[place - 1] {
+                play_text(canvas, &self.given)?;
+            }
         }
         Ok(())
     }
@@ -354,7 +349,6 @@ impl Session {
         ensures step { (lines : List Line) (now : ℕ) (a0 f0 f : Option (List ℕ)) → bad ≡ stopped_at (length lines + 1) →
             At lines now self.old a0 f0 (A.written answers.old) f →
             Ends (write viewer text.now ∷ lines) now result self.new a0 f0 (A.written answers.new) f }
-        ensures viewers { self.new.desk.viewers ≡ self.old.desk.viewers }
         ensures later { A.faults answers.old ≤ A.faults answers.new }
         ensures cause { bad ≢ ReadFault → bad ≢ WriteFault → IfErr result (λ stop. HasCause stop ⊥ (Rose (A.faults answers.old) (A.faults answers.new))) }
     {
@@ -381,7 +375,6 @@ impl Session {
         ensures step { (lines : List Line) (text : List ℕ) (now : ℕ) (a0 f0 f : Option (List ℕ)) → IsReading text (Whole acts.now passed) →
             At lines now self.old a0 f0 (A.written answers.old) f →
             Ends (write viewer text ∷ lines) now result self.new a0 f0 (A.written answers.new) f }
-        ensures viewers { self.new.desk.viewers ≡ self.old.desk.viewers }
         ensures later { A.faults answers.old ≤ A.faults answers.new }
         ensures cause { IfErr result (λ stop. HasCause stop ⊥ (Rose (A.faults answers.old) (A.faults answers.new))) }
     {
@@ -407,7 +400,6 @@ impl Session {
         ensures step { (lines : List Line) (now : ℕ) (a0 f0 f : Option (List ℕ)) →
             At lines now self.old a0 f0 (A.written answers.old) f →
             Ends (take_up_to most ∷ lines) now result self.new a0 f0 (A.written answers.new) f }
-        ensures viewers { self.new.desk.viewers ≡ self.old.desk.viewers }
         ensures later { A.faults answers.old ≤ A.faults answers.new }
         ensures cause { IfErr result (λ stop. HasCause stop ⊥ (Rose (A.faults answers.old) (A.faults answers.new))) }
     {
@@ -416,6 +408,48 @@ impl Session {
         let mut bytes = vec![in alloc; 0u8; count as usize]?;
         self.desk.take(&mut bytes)?;
         say_took(&mut self.line, &bytes, answers)
+    }
+
+    /// The viewer leaves, and its canvas goes.
+    pub(crate) fn leave<A: Sink>(&mut self, viewer: u32, answers: &mut A) -> Result<(), Stop>
+        ensures step { (lines : List Line) (now : ℕ) (a0 f0 f : Option (List ℕ)) →
+            At lines now self.old a0 f0 (A.written answers.old) f →
+            Ends (leave viewer ∷ lines) now result self.new a0 f0 (A.written answers.new) f }
+        ensures later { A.faults answers.old ≤ A.faults answers.new }
+        ensures cause { IfErr result (λ stop. HasCause stop ⊥ (Rose (A.faults answers.old) (A.faults answers.new))) }
+    {
+        match self.desk.leave(viewer)? {
+            Ok(()) => {
+                self.drop_canvas(viewer);
+                say(&mut self.line, "left", &[u64::from(viewer)], answers)
+            }
+            Err(_) => refuse(&mut self.line, 516, answers),
+        }
+    }
+
+    // Drops the canvas of a viewer that has left.
+    fn drop_canvas(&mut self, viewer: u32)
+        ensures gone { TakesAway self.old.canvases.items self.new.canvases.items viewer }
+        ensures desk { self.new.desk ≡ self.old.desk }
+    {
+        let place = viewer as usize;
+        if 1 <= place && place <= self.canvases.len() {
+            self.canvases[place - 1] = None;
+        }
+    }
+
+    /// The session is stopped: it is closed, and its viewers may still read what they lack.
+    pub(crate) fn close<A: Sink>(&mut self, answers: &mut A) -> Result<(), Stop>
+        ensures step { (lines : List Line) (now : ℕ) (a0 f0 f : Option (List ℕ)) →
+            At lines now self.old a0 f0 (A.written answers.old) f →
+            Ends (close ∷ lines) now result self.new a0 f0 (A.written answers.new) f }
+        ensures later { A.faults answers.old ≤ A.faults answers.new }
+        ensures cause { IfErr result (λ stop. HasCause stop ⊥ (Rose (A.faults answers.old) (A.faults answers.new))) }
+    {
+        match self.desk.close(Cause::Stopped)? {
+            Ok(()) => say(&mut self.line, "closed", &[], answers),
+            Err(_) => refuse(&mut self.line, 523, answers),
+        }
     }
 
     /// Tells the pixel at `x` and `y` of what the viewer sees.
@@ -429,7 +463,6 @@ impl Session {
         ensures step { (lines : List Line) (now : ℕ) (a0 f0 f : Option (List ℕ)) →
             At lines now self.old a0 f0 (A.written answers.old) f →
             Ends (pixel viewer x y ∷ lines) now result self.new a0 f0 (A.written answers.new) f }
-        ensures viewers { self.new.desk.viewers ≡ self.old.desk.viewers }
         ensures later { A.faults answers.old ≤ A.faults answers.new }
         ensures cause { IfErr result (λ stop. HasCause stop ⊥ (Rose (A.faults answers.old) (A.faults answers.new))) }
     {
@@ -449,7 +482,6 @@ impl Session {
         ensures step { (lines : List Line) (now : ℕ) (a0 f0 f : Option (List ℕ)) →
             At lines now self.old a0 f0 (A.written answers.old) f →
             Ends (same one other ∷ lines) now result self.new a0 f0 (A.written answers.new) f }
-        ensures viewers { self.new.desk.viewers ≡ self.old.desk.viewers }
         ensures later { A.faults answers.old ≤ A.faults answers.new }
         ensures cause { IfErr result (λ stop. HasCause stop ⊥ (Rose (A.faults answers.old) (A.faults answers.new))) }
     {

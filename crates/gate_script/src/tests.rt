@@ -9,7 +9,7 @@ use std::test::Fail;
 pub(crate) struct Ran {
     pub status: u8,
     pub answers: MemSink,
-    frames: MemSink,
+    pub frames: MemSink,
 }
 
 // Where a source or a sink fails: the call's number, counted from 1; 0 for nowhere.
@@ -36,7 +36,7 @@ pub(crate) fn run(alloc: Global, words: &str, input: &[u8], faults: Faults) -> R
     let mut answers = MemSink::new(alloc, 4096, 64, [faults.answers].to_vec(alloc)?)
         .ok()
         .ok_or("no memory")?;
-    let mut frames = MemSink::new(alloc, 65536, 4096, [faults.frames].to_vec(alloc)?)
+    let mut frames = MemSink::new(alloc, 262144, 4096, [faults.frames].to_vec(alloc)?)
         .ok()
         .ok_or("no memory")?;
     let status = command(alloc, &list, &mut source, &mut answers, &mut frames);

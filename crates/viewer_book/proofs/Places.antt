@@ -8,7 +8,8 @@ use Rattle.std.proofs.lemmas.List.Folds.{find_at}
 use Rattle.std.proofs.lemmas.Option.{slice_get_cases, slice_get_read}
 use Rattle.gate_model.specs.declared.sharing.Role.{Role}
 use Rattle.viewer_book.specs.declared.viewer.Viewer.{Viewer}
-use Rattle.viewer_book.specs.Book.{BookState, IsBook, AreRising, has_number, viewer_at, is_live, live_count, most_live, most_joined, newcomer, added, changed}
+use Rattle.gate_model.specs.Limits.{most_live, most_joined}
+use Rattle.viewer_book.specs.Book.{BookState, IsBook, AreRising, has_number, viewer_at, is_live, live_count, newcomer, added, changed}
 use Rattle.viewer_book.proofs.Lists.{KeepsNumber, only, map-absent, find-low}
 use Rattle.viewer_book.proofs.Books.{adds-one, changes-one}
 

@@ -3,20 +3,14 @@ use Rattle.std.specs.Prelude.{ℕ, ◌+◌, ◌<◌, ◌≤◌, List, [], ◌∷
 use Rattle.std.specs.List.{find}
 use Rattle.gate_model.specs.declared.mods.Mods.{Mods}
 use Rattle.gate_model.specs.declared.sharing.Role.{Role}
+use Rattle.gate_model.specs.Limits.{most_live, most_joined}
+use Rattle.gate_model.specs.Rights.{none_held}
 use Rattle.viewer_book.specs.declared.viewer.Viewer.{Viewer}
 
 -- how many viewers have joined, and those that are live, in the order of their numbers
 pub record BookState : Type 0 where
   pub joined : ℕ
   pub viewers : List Viewer
-
--- the most viewers that are live at once
-abbrev pub most_live : ℕ
-most_live = 64
-
--- the most viewers that join a session
-abbrev pub most_joined : ℕ
-most_joined = 1000000
 
 -- the numbers rise: each is above the one before, the first above `low`, and none is above `most`
 abbrev pub AreRising : ℕ → ℕ → List Viewer → Type 0
@@ -53,10 +47,6 @@ live_count b = length b.viewers
 -- nobody has joined
 abbrev pub nobody : BookState
 nobody = record { joined = 0; viewers = [] }
-
--- no modifier is held
-abbrev pub none_held : Mods
-none_held = record { control_left = false; control_right = false; alt_left = false; alt_right = false }
 
 -- a viewer that joins: it was given everything up to the stamp
 abbrev pub newcomer : ℕ → Role → ℕ → Viewer

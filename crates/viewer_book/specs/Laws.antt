@@ -2,7 +2,8 @@
 use Rattle.std.specs.Prelude.{◌≡◌, ◌≢◌, ℕ, ◌+◌, ◌<◌, ◌≤◌, Some, None, IsTrue, option_map}
 use Rattle.gate_model.specs.declared.sharing.Role.{Role}
 use Rattle.viewer_book.specs.declared.viewer.Viewer.{Viewer}
-use Rattle.viewer_book.specs.Book.{BookState, IsBook, viewer_at, is_live, live_count, most_live, most_joined, newcomer, added, changed, removed}
+use Rattle.gate_model.specs.Limits.{most_live, most_joined}
+use Rattle.viewer_book.specs.Book.{BookState, IsBook, viewer_at, is_live, live_count, newcomer, added, changed, removed}
 
 -- one viewer came in, under the next number, and every other is as before
 pub record AddsOne (b : BookState) (role : Role) (stamp : ℕ) : Type 0 where

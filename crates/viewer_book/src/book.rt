@@ -1,6 +1,7 @@
 ghost use Rattle.std.specs.Prelude.{◌≡◌, ◌+◌, ◌<◌, ◌≤◌, Some, IsTrue, IfOk, OnErr, OnOk, option_map, position};
 ghost use Rattle.std.specs.Option.{ForSome};
-ghost use Rattle.viewer_book.specs.Book.{IsBook, added, changed, ended_at, has_number, holding, is_live, live_count, most_joined, most_live, moved_to, nobody, removed, viewer_at};
+ghost use Rattle.gate_model.specs.Limits.{most_joined, most_live};
+ghost use Rattle.viewer_book.specs.Book.{IsBook, added, changed, ended_at, has_number, holding, is_live, live_count, moved_to, nobody, removed, viewer_at};
 
 use crate::viewer::Viewer;
 use gate_model::{Mods, NoMemory, Role};

@@ -1,6 +1,6 @@
 //! Bytes of the Telnet host.
 
-ghost use Rattle.std.specs.Prelude.{◌≡◌, ◌+◌, ◌≤◌, ◌^◌, IfErr, OnErr, OnOk};
+ghost use Rattle.std.specs.Prelude.{◌≡◌, ◌+◌, ◌≤◌, ◌^◌, OnErr, OnOk};
 ghost use Rattle.gate_model.specs.History.{History};
 
 use crate::desk::Desk;
@@ -13,7 +13,7 @@ use std::alloc::Global;
 impl Desk {
     ghost use Rattle.gate_model.specs.Calls.{IsPiece};
     ghost use Rattle.desk_core.specs.Desk.{Stands};
-    ghost use Rattle.desk_core.specs.Calls.{FeedEnds, IsStillOpen};
+    ghost use Rattle.desk_core.specs.Calls.{FeedEnds};
 
     /// Takes 1 to 65,536 bytes of the Telnet host at the moment `now`, draws a frame, whose stamp it
     /// answers, and lets wait what the bytes are answered: option answers and reports, in the order of
@@ -24,9 +24,10 @@ impl Desk {
         ensures unchanged { OnErr result (self.new ≡ self.old) }
         ensures counts { OnOk result (self.new.entries ≡ self.old.entries + 1) }
         ensures few { OnOk result (self.new.entries ≤ 2 ^ 40) }
-        ensures viewers { self.new.viewers ≡ self.old.viewers }
-        ensures still_open { IfErr result IsStillOpen }
     {
+        if let Some(cause) = self.cause {
+            return Err(FeedRefusal::Closed(cause));
+        }
         if self.entries >= self.capacity {
             return Err(FeedRefusal::Worn {
                 entries: self.entries,

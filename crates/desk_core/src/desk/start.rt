@@ -1,17 +1,18 @@
 //! The opening of a session.
 
-ghost use Rattle.std.specs.Prelude.{◌≡◌, [], IfOk};
+ghost use Rattle.std.specs.Prelude.{◌≡◌, IfOk};
 
 use crate::desk::Desk;
 use crate::drawing::next_stamp;
 use crate::host::Host;
 use crate::outgoing::Outgoing;
 use crate::progress::Progress;
-use crate::storing::store;
+use crate::storing::stored_start;
 use frame_draw::opening;
-use gate_model::{Entry, NoMemory, Setup, Text};
+use gate_model::{NoMemory, Setup, Text};
 use guac_instr::texts_of;
 use std::alloc::Global;
+use viewer_book::Book;
 
 impl Desk {
     ghost use Rattle.gate_model.specs.Calls.{IsSetup};
@@ -23,40 +24,25 @@ impl Desk {
     pub fn start(alloc: Global, setup: Setup, now: u64) -> Result<Desk, NoMemory>
         requires { IsSetup setup }
         ensures opened { IfOk result (Opened setup now) }
-        ensures nobody { IfOk result (λ d. d.viewers ≡ []) }
         ensures one { IfOk result (λ d. d.entries ≡ 1) }
     {
-        let Setup {
-            cols,
-            rows,
-            mode,
-            term,
-            entries,
-        } = setup;
+        let (cols, rows, mode, capacity) = (setup.cols, setup.rows, setup.mode, setup.entries);
         let stamp = next_stamp(0, now);
         let host = Host::new(alloc, cols, rows)?;
-        let kept_term = Text::of(String::from_str(alloc, term.as_str())?);
+        let book = Book::new(alloc)?;
+        let kept_term = Text::of(String::from_str(alloc, setup.term.as_str())?);
         let shown = host.screen.shown(alloc)?;
         let frame = opening(alloc, &shown, stamp)?;
         let mut text = Vec::new(alloc);
         texts_of(frame.as_slice(), &mut text)?;
         let bytes = text.len();
-        let mut stored = Vec::new(alloc);
-        let first = Entry::Start {
-            cols,
-            rows,
-            mode,
-            term,
-            entries,
-            stamp,
-            frame,
-        };
-        store(&mut stored, first)?;
+        let stored = stored_start(alloc, setup, stamp, frame)?;
         Ok(Desk {
             cols,
             rows,
+            mode,
             term: kept_term,
-            capacity: entries,
+            capacity,
             stored,
             entries: 1,
             host,
@@ -68,7 +54,9 @@ impl Desk {
                 frames: 1,
                 bytes,
             },
+            book,
             viewers: Vec::new(alloc),
+            cause: None,
         })
     }
 }

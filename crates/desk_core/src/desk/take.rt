@@ -1,6 +1,6 @@
 //! What is taken for the Telnet host.
 
-ghost use Rattle.std.specs.Prelude.{◌≡◌, ◌+◌, ◌≤◌, OnErr};
+ghost use Rattle.std.specs.Prelude.{◌≡◌, ◌+◌, ◌≤◌, length, IfOk, OnErr};
 ghost use Rattle.gate_model.specs.History.{History};
 
 use crate::desk::Desk;
@@ -16,15 +16,15 @@ impl Desk {
     /// added (this project's own rule).
     pub fn take(&mut self, into: &mut [u8]) -> Result<Taken, NoMemory>
         ensures step { (h : History) → Stands self.old h → TakeEnds h into.old result self.new into.new }
+        ensures within { IfOk result (λ t. t.count ≤ length into.old) }
         ensures unchanged { OnErr result (self.new ≡ self.old) }
         ensures buffer { OnErr result (into.new ≡ into.old) }
-        ensures viewers { self.new.viewers ≡ self.old.viewers }
     {
         let count = into.len().min(self.outgoing.len());
         if count == 0 {
             return Ok(Taken {
                 count: 0,
-                closed: false,
+                closed: self.cause.is_some(),
             });
         }
         let entry = Entry::Take {
@@ -35,7 +35,7 @@ impl Desk {
         let count = self.outgoing.take(into);
         Ok(Taken {
             count,
-            closed: false,
+            closed: self.cause.is_some(),
         })
     }
 }

@@ -2,7 +2,6 @@ use Rattle.std.proofs.Common.{◌≡◌, ◌⊎◌, [], ◌∷◌, refl, ap, sym
 use Rattle.std.specs.Prelude.{Result, Err, IfErr, Some}
 use Rattle.std.proofs.lemmas.Result.{err_from_is_err_and}
 use Rattle.gate_outside.specs.Edge.{Rose}
-use Rattle.desk_core.specs.Desk.{DeskState}
 use Rattle.gate_script.specs.declared.form.Form.{Form}
 use Rattle.gate_script.specs.declared.form.Form.TheVariants.{Draw}
 use Rattle.gate_script.specs.declared.stop.Stop.{Stop}
@@ -11,7 +10,7 @@ use Rattle.gate_model.specs.declared.sharing.Share.TheVariants.{Nobody}
 use Rattle.gate_model.specs.declared.sharing.Asked.TheVariants.{Owner}
 use Rattle.gate_model.specs.Limits.{most_entries}
 use Rattle.gate_script.specs.Lines.{start, join, draw_lines}
-use Rattle.gate_script.specs.Running.{HasCause, IsReadyFor, PieceEnds}
+use Rattle.gate_script.specs.Running.{HasCause, IsOpenDesk, IsReadyFor, PieceEnds}
 use Rattle.gate_script.proofs.ReportLaws.{cause-more, either-earlier}
 use Rattle.gate_script.proofs.SessionLaws.{play, no_memory}
 use Rattle.gate_script.proofs.RunLaws.{stopped-later, nothing_done}
@@ -52,9 +51,9 @@ returns-in_err-join-clause-cause g c =
 
 pub returns-clause-ready : goal.returns-clause-ready
 returns-clause-ready g c =
-    let one = ap (λ (d : DeskState). d.entries) c.in_ok-tell_start.ensures.same ∙ c.in_ok-session.ensures.one in
+    let started = subst IsOpenDesk (sym c.in_ok-tell_start.ensures.same) c.in_ok-session.ensures.still_open in
     subst (λ (form : Form). IsReadyFor form (Some c.join.new.self) c.args.self.now.lines c.args.self.now.read) (sym c.requires.form)
-    (omega (arith, c.requires.read), c.in_ok-join.ensures.few (omega (arith, one)))
+    (omega (arith, c.requires.read), c.in_ok-join.ensures.still_open started)
 
 pub returns-clause-step : goal.returns-clause-step
 returns-clause-step g c = record {

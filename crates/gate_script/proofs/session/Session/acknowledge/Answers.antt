@@ -1,13 +1,14 @@
-use Rattle.std.proofs.Common.{◌∷◌, [], refl}
+use Rattle.std.proofs.Common.{◌∷◌, [], refl, sym, subst}
 use Rattle.std.specs.Prelude.{Err}
 use Rattle.gate_model.specs.declared.act.Act.TheVariants.{Sync as act_sync}
 use Rattle.gate_model.specs.declared.write_refusal.WriteRefusal.TheVariants.{NoViewer, Closed}
 use Rattle.gate_script.specs.declared.refused.Refused.TheVariants.{Worn}
 use Rattle.gate_model.specs.declared.write_refusal.WriteRefusal.{WriteRefusal}
 use Rattle.desk_core.specs.Calls.{WriteEnds}
-use Rattle.std.proofs.Common.{subst}
 use Rattle.gate_script.specs.Lines.{acknowledge}
 use Rattle.gate_script.specs.Told.{refused_line}
+use Rattle.gate_script.specs.Running.{IsOpenDesk}
+use Rattle.gate_script.proofs.OpenLaws.{written_open}
 use Rattle.gate_script.proofs.SessionLaws.{refuses, out_of_memory, acknowledged, write_refused, write_is_worn}
 use Rattle.gate_script.proofs.session.Session.acknowledge.Goals as goal
 
@@ -32,3 +33,12 @@ pub returns-in-Err-Closed-clause-step : goal.returns-in-Err-Closed-clause-step
 returns-in-Err-Closed-clause-step c = λ lines now a0 f0 a f at.
     write_refused lines now c.args.self.now a0 f0 a f at c.stamp.result (c.stamp.ensures at.history at.stands) (Closed c.in-Err-Closed.field-0-0) (refused_line 523) record { desk = c.write.new.self; canvases = c.args.self.now.canvases; given = c.args.self.now.given; line = c.args.self.now.line }
     (subst (λ (e : WriteRefusal). WriteEnds at.history 1 (act_sync c.stamp.result ∷ []) (Err e) c.write.new.self) c.in-Err-Closed.field-0-is (c.in-Err-Closed.ensures.step at.history at.stands)) refl c.in-Err-Closed.ensures.unchanged refl
+
+pub returns-in-Ok-clause-still_open : goal.returns-in-Ok-clause-still_open
+returns-in-Ok-clause-still_open c = λ o. written_open c.args.self.now.desk c.write.new.self o 1 (act_sync c.stamp.result ∷ []) c.in-Ok.field-0 c.in-Ok.ensures.step c.in-Ok.ensures.few
+
+pub returns-in-Err-NoViewer-clause-still_open : goal.returns-in-Err-NoViewer-clause-still_open
+returns-in-Err-NoViewer-clause-still_open c = λ o. subst IsOpenDesk (sym c.in-Err-NoViewer.ensures.unchanged) o
+
+pub returns-in-Err-Closed-clause-still_open : goal.returns-in-Err-Closed-clause-still_open
+returns-in-Err-Closed-clause-still_open c = λ o. subst IsOpenDesk (sym c.in-Err-Closed.ensures.unchanged) o

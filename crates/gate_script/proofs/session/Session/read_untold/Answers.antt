@@ -1,4 +1,4 @@
-use Rattle.std.proofs.Common.{◌≡◌, ◌∙◌, ap, refl, subst}
+use Rattle.std.proofs.Common.{◌≡◌, ◌∙◌, ap, refl, sym, subst}
 use Rattle.std.specs.Prelude.{Err}
 use Rattle.std.proofs.lemmas.Result.{err_from_is_err_and}
 use Rattle.gate_model.specs.declared.answer.Answer.TheVariants.{Read as was_read}
@@ -11,6 +11,8 @@ use Rattle.gate_script.specs.declared.stop.Stop.{Stop}
 use Rattle.gate_script.specs.declared.stop.Stop.TheVariants.{NoMemory}
 use Rattle.gate_script.specs.Lines.{read_untold}
 use Rattle.gate_script.specs.Told.{refused_line}
+use Rattle.gate_script.specs.Running.{IsOpenDesk}
+use Rattle.gate_script.proofs.OpenLaws.{on_ok, read_open}
 use Rattle.gate_script.proofs.SessionLaws.{untold_nothing, refuses, out_of_memory, untold_done, untold_is_worn}
 use Rattle.gate_script.proofs.session.Session.read_untold.Goals as goal
 
@@ -29,7 +31,7 @@ returns-in_ok-play_given-in-Ok-clause-step g c = λ lines now a0 f0 a at.
       ends = c.in-Ok.ensures.step at.history at.stands;
       unchanged = c.in-Ok.ensures.unchanged;
       buffer = c.in-Ok.ensures.buffer;
-      played = c.in_ok-play_given-in-Ok.ensures.there;
+      played = c.in_ok-play_given-in-Ok.ensures.plays;
       same_desk = c.in_ok-play_given-in-Ok.ensures.desk;
       same_text = c.in_ok-play_given-in-Ok.ensures.given;
       desk_is = c.show_read.ensures.same;
@@ -50,3 +52,11 @@ returns-in-Err-Worn-clause-step g c = λ lines now a0 f0 a at.
 
 pub returns-in-Err-NoMemory-clause-step : goal.returns-in-Err-NoMemory-clause-step
 returns-in-Err-NoMemory-clause-step g c = λ lines now a0 f0 a at. out_of_memory lines now c.args.self.now a0 f0 a (g.F.Sink.written c.args.frames.now) at (read_untold 1)
+
+pub returns-in_ok-play_given-in-Ok-clause-still_open : goal.returns-in_ok-play_given-in-Ok-clause-still_open
+returns-in_ok-play_given-in-Ok-clause-still_open g c = λ o.
+    on_ok c.show_read.result (IsOpenDesk c.show_read.new.self.desk) (subst IsOpenDesk (sym (c.show_read.ensures.same ∙ c.in_ok-play_given-in-Ok.ensures.desk))
+    (read_open c.args.self.now.desk c.read.new.self o 1 c.in-Ok.answer c.clear.new.self.items c.read.new.into.items c.in-Ok.ensures.step c.in-Ok.ensures.unchanged))
+
+pub returns-in-Err-NoViewer-clause-still_open : goal.returns-in-Err-NoViewer-clause-still_open
+returns-in-Err-NoViewer-clause-still_open g c = λ o. subst IsOpenDesk (sym c.in-Err-NoViewer.ensures.unchanged) o

@@ -1,13 +1,12 @@
-use Rattle.gate_model.specs.declared.read_answer.ReadAnswer.TheVariants.{Ended, Empty, Hold}
 use Rattle.gate_script.specs.Told.{read_told}
-use Rattle.gate_script.proofs.ReportLaws.{said_alone}
+use Rattle.gate_script.specs.Running.{read_shown}
+use Rattle.gate_script.proofs.ReportLaws.{said, not_shown}
 use Rattle.gate_script.proofs.session.Session.tell_read.Goals as goal
 
-pub returns-in-Ended-clause-told : goal.returns-in-Ended-clause-told
-returns-in-Ended-clause-told g c = rw c.in-Ended.is (said_alone (read_told Ended) (g.A.Sink.written c.args.answers.now) (g.A.Sink.written c.say.new.answers) (g.F.Sink.written c.args.frames.now) c.say.result c.say.ensures.put)
+pub returns-in-Ok-clause-told : goal.returns-in-Ok-clause-told
+returns-in-Ok-clause-told g c = said (read_told c.args.answer) (read_shown c.args.viewer c.args.self.now.given.items c.args.answer)
+    (g.A.Sink.written c.args.answers.now) (g.A.Sink.written c.say_read.new.answers) (g.F.Sink.written c.args.frames.now) (g.F.Sink.written c.show_read.new.frames) c.say_read.result c.in-Ok.ensures.put c.say_read.ensures.put
 
-pub returns-in-Empty-clause-told : goal.returns-in-Empty-clause-told
-returns-in-Empty-clause-told g c = rw c.in-Empty.is (said_alone (read_told Empty) (g.A.Sink.written c.args.answers.now) (g.A.Sink.written c.say-in-Empty.new.answers) (g.F.Sink.written c.args.frames.now) c.say-in-Empty.result c.say-in-Empty.ensures.put)
-
-pub returns-in-Hold-clause-told : goal.returns-in-Hold-clause-told
-returns-in-Hold-clause-told g c = rw c.in-Hold.is (said_alone (read_told (Hold c.in-Hold.waiting)) (g.A.Sink.written c.args.answers.now) (g.A.Sink.written c.say-in-Hold.new.answers) (g.F.Sink.written c.args.frames.now) c.say-in-Hold.result c.say-in-Hold.ensures.put)
+pub returns-in-Err-clause-told : goal.returns-in-Err-clause-told
+returns-in-Err-clause-told g c = not_shown (read_told c.args.answer) (read_shown c.args.viewer c.args.self.now.given.items c.args.answer)
+    (g.A.Sink.written c.args.answers.now) (g.F.Sink.written c.args.frames.now) (g.F.Sink.written c.show_read.new.frames) c.in-Err.stop c.in-Err.ensures.put
