@@ -8,6 +8,10 @@ most_columns = 512
 abbrev pub most_rows : ℕ
 most_rows = 256
 
+-- the most characters of a terminal type
+abbrev pub most_term : ℕ
+most_term = 40
+
 -- the most bytes of one piece of the Telnet stream
 abbrev pub most_piece : ℕ
 most_piece = 65536
