@@ -2,6 +2,7 @@
 pub mod Limits
 pub mod Sequences
 pub mod Reading
+pub mod Statuses
 pub mod Text
 pub mod Spelling
 pub mod Numerals

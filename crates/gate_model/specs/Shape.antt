@@ -2,6 +2,7 @@
 use Rattle.std.specs.Prelude.{◌≡◌, ℕ, ◌*◌, ◌<◌, ◌≤◌, ◌^◌, ℤ, pos, negsuc, ◌≤ℤ◌, List, [], ◌∷◌, ◌++◌, Bool, not, ◌&&◌, ◌||◌, ◌==◌, if◌then◌else◌, filter, IsTrue}
 use Rattle.std.specs.List.{list_any}
 use Rattle.std.specs.Ordering.{int_eq}
+use Rattle.gate_model.specs.Limits.{most_extent}
 use Rattle.gate_model.specs.declared.instr.Instr.{Instr}
 use Rattle.gate_model.specs.declared.instr.Instr.TheVariants.{Size, Rect, Cfill, Copy, Sync, Disconnect, Error}
 
@@ -11,7 +12,7 @@ IsLayer k = (negsuc 1023 ≤ℤ k) × (k ≤ℤ pos 0)
 
 -- the values of an instruction: those of their types, layers from -1,024 to 0, sizes to 4,096
 abbrev pub IsInRange : Instr → Type 0
-IsInRange (Size layer width height) = IsLayer layer × (width ≤ 4096) × (height ≤ 4096)
+IsInRange (Size layer width height) = IsLayer layer × (width ≤ most_extent) × (height ≤ most_extent)
 IsInRange (Rect layer x y width height) = IsLayer layer × (x < 2 ^ 32) × (y < 2 ^ 32) × (width < 2 ^ 32) × (height < 2 ^ 32)
 IsInRange (Cfill layer red green blue) = IsLayer layer × (red < 2 ^ 8) × (green < 2 ^ 8) × (blue < 2 ^ 8)
 IsInRange (Copy from x y width height to to_x to_y) = IsLayer from × (x < 2 ^ 32) × (y < 2 ^ 32) × (width < 2 ^ 32) × (height < 2 ^ 32) × IsLayer to × (to_x < 2 ^ 32) × (to_y < 2 ^ 32)
