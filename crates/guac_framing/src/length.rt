@@ -4,7 +4,7 @@ ghost use Rattle.std.specs.Prelude.{◌≡◌, ℕ, ◌+◌, ◌<◌, ◌≤◌,
 ghost use Rattle.guac_framing.specs.Answers.{IsStopped};
 ghost use Rattle.guac_framing.specs.Standing.{InLength, InValue};
 
-use crate::limits::{MOST_INSTRUCTION, MOST_DIGITS};
+use crate::limits::{MOST_DIGITS, MOST_INSTRUCTION};
 use crate::next::{BadKind, Stop};
 
 /// Reads the digits of a length and the `.` behind them, and answers the number and the place behind the

@@ -5,7 +5,7 @@ ghost use Rattle.guac_framing.specs.Answers.{IsStopped};
 ghost use Rattle.guac_framing.specs.Standing.{BehindValue};
 ghost use Rattle.guac_framing.specs.Behind.{IfOther, IfEnd};
 
-use crate::limits::{MOST_INSTRUCTION, MOST_ELEMENTS};
+use crate::limits::{MOST_ELEMENTS, MOST_INSTRUCTION};
 use crate::next::{BadKind, Stop};
 
 /// What a value is followed by.
