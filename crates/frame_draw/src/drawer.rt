@@ -1,7 +1,7 @@
 //! Frames that draw a whole screen: first each row's papers, in runs of equal paper, then each cell's
 //! glyph in its ink (this project's own). A frame's contract cites what it does to the visible layer
-//! (`Redraws`, `Opens`), what it may consist of (`Shape`), and that it is read back as it was written
-//! (`AreReadable`).
+//! (`Redraws`, `Opens`) and what it may consist of (`Shape`): among that, that each instruction is in
+//! range, so that it is read back as it was written.
 
 ghost use Rattle.std.specs.Prelude.{◌≡◌, ◌+◌, ◌-◌, ◌*◌, ◌<◌, ◌≤◌, pos, List, [], ◌∷◌, ◌++◌, All, IfOk, OnOk, map};
 ghost use Rattle.gate_model.specs.declared.instr.Instr.TheVariants.{Size, Sync};
@@ -9,7 +9,6 @@ ghost use Rattle.gate_model.specs.Frames.{Opens, Redraws};
 ghost use Rattle.gate_model.specs.Screens.{AreColoured};
 ghost use Rattle.gate_model.specs.Shape.{OpensScreen, Shape};
 ghost use Rattle.gate_model.specs.Steps.{IsScreenSize};
-ghost use Rattle.frame_draw.specs.Readable.{AreReadable};
 ghost use Rattle.frame_draw.specs.Strokes.{fill, inks, key_in, key_ink, paper_run, papers, row_inks, row_papers, strokes};
 
 use gate_model::glyphs::{colour_of, rects_of};
@@ -24,7 +23,6 @@ pub fn opening(alloc: Global, now: &Shown, stamp: u64) -> Result<Instrs, NoMemor
     ensures shape { IfOk result (λ is. Shape now.now.cols now.now.rows is stamp) }
     ensures opens { IfOk result (λ is. OpensScreen is) }
     ensures drawn { IfOk result (λ is. Opens is now.now) }
-    ensures readable { IfOk result (λ is. AreReadable is) }
 {
     let mut list = Vec::with_capacity(alloc, likely_length(now))?;
     list.push(Instr::Size {
@@ -43,7 +41,6 @@ pub fn frame(alloc: Global, now: &Shown, stamp: u64) -> Result<Instrs, NoMemory>
     requires coloured { AreColoured now.now.keys }
     ensures shape { IfOk result (λ is. Shape now.now.cols now.now.rows is stamp) }
     ensures redraws { IfOk result (λ is. Redraws is now.now) }
-    ensures readable { IfOk result (λ is. AreReadable is) }
 {
     let mut list = Vec::with_capacity(alloc, likely_length(now))?;
     draw_screen(&mut list, now, stamp)?;

@@ -18,6 +18,7 @@ mod reply;
 mod report;
 mod saved;
 mod screen;
+mod scrolled;
 mod scrolling;
 mod showing;
 mod stops;
