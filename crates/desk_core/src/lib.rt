@@ -14,14 +14,8 @@ mod host;
 pub mod laws;
 mod outgoing;
 mod progress;
-#[cfg(test)]
-mod run_tests;
 mod storing;
-#[cfg(test)]
-mod tests;
 mod typing;
-#[cfg(test)]
-mod viewer_tests;
 
 pub use desk::Desk;
 pub use gate_model::{

@@ -23,7 +23,5 @@ mod machine;
 mod parser;
 mod sequence;
 mod state;
-#[cfg(test)]
-mod tests;
 
 pub use parser::{Pair, Parser};

@@ -13,8 +13,6 @@ mod handshake;
 mod hello;
 mod part;
 mod server;
-#[cfg(test)]
-mod tests;
 mod texts;
 mod values;
 

@@ -10,6 +10,3 @@ mod grid;
 mod runs;
 
 pub use grid::Grid;
-
-#[cfg(test)]
-mod tests;

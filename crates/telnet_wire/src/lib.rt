@@ -17,8 +17,6 @@ mod doubling;
 mod kept;
 mod reader;
 mod state;
-#[cfg(test)]
-mod tests;
 mod wire;
 
 pub use doubling::escape;

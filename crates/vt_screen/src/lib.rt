@@ -26,8 +26,3 @@ mod table;
 
 pub use reply::Reply;
 pub use screen::Screen;
-
-#[cfg(test)]
-mod tests;
-#[cfg(test)]
-mod written;
