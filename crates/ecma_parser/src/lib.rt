@@ -27,3 +27,4 @@ mod state;
 mod tests;
 
 pub use parser::{Pair, Parser};
+pub use state::Completed;

@@ -8,6 +8,7 @@
 
 mod grid;
 mod runs;
+mod window;
 
 pub use grid::Grid;
 

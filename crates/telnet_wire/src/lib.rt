@@ -15,6 +15,7 @@
 
 mod doubling;
 mod kept;
+mod part;
 mod reader;
 mod state;
 #[cfg(test)]
@@ -22,4 +23,5 @@ mod tests;
 mod wire;
 
 pub use doubling::escape;
+pub use part::Part;
 pub use wire::Wire;
