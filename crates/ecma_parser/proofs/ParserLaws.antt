@@ -119,18 +119,19 @@ pub record Runs (bytes run : List ℕ) (given : List Control) (held : Held) (m :
   pub controls : controls (characters (bytes ++ run)) ≡ controls (characters bytes) ++ given
   pub past : HaveRead held m (bytes ++ run)
 
-pub run-ascii : (bytes run : List ℕ) (held : Held) (m new : Machine) (given : List Control)
-    → HaveRead held m bytes → held_bytes held ≡ [] → All (λ b. b ≤ 0x7F) run → ((rest : List ℕ) → Stands m rest → Gives (rest ++ run) given new)
+-- a run of whole characters
+pub run-whole : (bytes run cs : List ℕ) (held : Held) (m new : Machine) (given : List Control)
+    → HaveRead held m bytes → held_bytes held ≡ [] → read head_char run ≡ (cs, []) → ((rest : List ℕ) → Stands m rest → Gives (rest ++ cs) given new)
     → Runs bytes run given held new
-run-ascii bytes run held m new given past none low reads =
+run-whole bytes run cs held m new given past none whole reads =
     let one = reads (unfinished (characters bytes)) past.stands in
     let empty : pending bytes ≡ [] = sym past.bytes_held ∙ none in
-    let found : (characters (pending bytes ++ run), pending (pending bytes ++ run)) ≡ (run, []) =
-    sym (characters_read (pending bytes ++ run)) ∙ ap (λ t. read head_char (t ++ run)) empty ∙ read-run run low in
+    let found : (characters (pending bytes ++ run), pending (pending bytes ++ run)) ≡ (cs, []) =
+    sym (characters_read (pending bytes ++ run)) ∙ ap (λ t. read head_char (t ++ run)) empty ∙ whole in
     let cut = characters-cut bytes run in
-    let text : characters (bytes ++ run) ≡ characters bytes ++ run =
+    let text : characters (bytes ++ run) ≡ characters bytes ++ cs =
     cut.given ∙ ap (λ (r : List ℕ × List ℕ). characters bytes ++ r.0) found in
-    let both = controls-cut (characters bytes) run in
+    let both = controls-cut (characters bytes) cs in
     record {
       controls = ap controls text ∙ both.given ∙ ap (λ (r : List Control × List ℕ). controls (characters bytes) ++ r.0) one.is;
       past = record {
@@ -138,6 +139,11 @@ run-ascii bytes run held m new given past none low reads =
         stands = subst (Stands new) (sym (ap unfinished text ∙ both.held ∙ ap (λ (r : List Control × List ℕ). r.1) one.is)) one.stands;
       };
     }
+
+pub run-ascii : (bytes run : List ℕ) (held : Held) (m new : Machine) (given : List Control)
+    → HaveRead held m bytes → held_bytes held ≡ [] → All (λ b. b ≤ 0x7F) run → ((rest : List ℕ) → Stands m rest → Gives (rest ++ run) given new)
+    → Runs bytes run given held new
+run-ascii bytes run held m new given past none low reads = run-whole bytes run run held m new given past none (read-run run low) reads
 
 -- ---- a run of printable bytes outside a sequence
 

@@ -1,4 +1,4 @@
-ghost use Rattle.std.specs.Prelude.{◌≡◌, ◌<◌, ◌≤◌, ◌++◌, ◌∷◌, [], ℕ, List, IfSome, IsTrue, ◌↔◌, All, length, map, take};
+ghost use Rattle.std.specs.Prelude.{◌≡◌, ◌<◌, ◌≤◌, ◌++◌, ◌∷◌, [], ℕ, List, IfSome, IsTrue, ◌↔◌, All, length, map, slice_index, take};
 ghost use Rattle.std.specs.List.{cons_option};
 ghost use Rattle.gate_model.specs.Characters.{characters};
 ghost use Rattle.gate_model.specs.Controls.{controls, HasFewParameters};
@@ -100,10 +100,26 @@ impl Parser {
     pub fn read_ascii(&mut self, piece: &[u8]) -> (Completed, usize)
         requires alone { held_bytes self.old.held ≡ [] }
         ensures within { result.1 ≤ length piece.now }
+        ensures progress { 0 < length piece.now → slice_index piece.now 0 < 0x80 → 0 < result.1 }
         ensures controls { (bytes : List ℕ) → HasRead self.old bytes → controls (characters (bytes ++ take result.1 piece.now)) ≡ controls (characters bytes) ++ control_by result.0 self.new.machine.sequence }
         ensures state { (bytes : List ℕ) → HasRead self.old bytes → HasRead self.new (bytes ++ take result.1 piece.now) }
     {
         self.machine.read_ascii(piece)
+    }
+
+    /// Reads a whole character at the front of the piece, where no byte is held, and answers what it completes
+    /// and how many bytes it has. Where no whole character stands there it reads nothing, and answers 0.
+    pub fn read_char(&mut self, piece: &[u8]) -> (Completed, usize)
+        requires alone { held_bytes self.old.held ≡ [] }
+        ensures within { result.1 ≤ length piece.now }
+        ensures controls { (bytes : List ℕ) → HasRead self.old bytes → controls (characters (bytes ++ take result.1 piece.now)) ≡ controls (characters bytes) ++ control_by result.0 self.new.machine.sequence }
+        ensures state { (bytes : List ℕ) → HasRead self.old bytes → HasRead self.new (bytes ++ take result.1 piece.now) }
+    {
+        let (found, size) = bstr::decode_utf8(piece);
+        match found {
+            Some(c) => (self.machine.read(c), size),
+            None => (Completed::Nothing, 0),
+        }
     }
 
     /// The control function that was completed last.

@@ -65,8 +65,8 @@ impl Screen {
         self.x += text.len() as u16;
     }
 
-    // A character is printed.
-    pub(crate) fn print(&mut self, ch: char)
+    /// Prints a character: the same as `apply` with a `Print`.
+    pub fn print(&mut self, ch: char)
         ensures { self.new ≡ printed ch self.old }
     {
         self.wrap();
