@@ -25,3 +25,4 @@ mod sequence;
 mod state;
 
 pub use parser::{Pair, Parser};
+pub use state::Completed;

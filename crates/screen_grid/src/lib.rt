@@ -8,5 +8,6 @@
 
 mod grid;
 mod runs;
+mod window;
 
 pub use grid::Grid;
