@@ -161,9 +161,11 @@ impl ByteReader {
 // The number with one digit more.
 fn with_digit(number: usize, digit: u8) -> Result<usize, Unread> {
     match digit {
-        b'0'..=b'9' => Ok(number
-            .saturating_mul(10)
-            .saturating_add((digit - b'0') as usize)),
+        b'0'..=b'9' => Ok(
+            number
+                .saturating_mul(10)
+                .saturating_add((digit - b'0') as usize),
+        ),
         _ => Err(Unread::Escape),
     }
 }

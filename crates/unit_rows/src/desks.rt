@@ -29,6 +29,9 @@ pub fn answers(alloc: Global, input: &str) -> Result<String> {
         push_answer(&mut text, answer)?;
     }
     push_state(&mut text, &desk)?;
+    if given.is_empty() {
+        text.push_str("nothing")?;
+    }
     push_end(&mut text, &given)?;
     Ok(text)
 }
@@ -159,8 +162,9 @@ fn push_answer(text: &mut String, answer: &Answer) -> Result<()> {
         Answer::Leave(left) => write!(text, "{left:?}")?,
         Answer::Close(closed) => write!(text, "{closed:?}")?,
         Answer::Take { bytes, closed } => {
+            text.push_str(if *closed { "took, closed, " } else { "took " })?;
             push_hexadecimal(text, bytes.as_slice())?;
-            write!(text, " {closed}")?;
+            text.push_str(if bytes.as_slice().is_empty() { "-" } else { "" })?;
         }
     }
     text.push_str("; ")?;
