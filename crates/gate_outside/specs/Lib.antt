@@ -1,4 +1,6 @@
--- In reading order: what a call at the edge moved, and the ends that lie in memory.
+-- In reading order: what a call at the edge moved, the ends that lie in memory, draws, and how jobs start.
 pub mod Edge
 pub mod Memory
 pub mod Ahead
+pub mod Draws
+pub mod Starts

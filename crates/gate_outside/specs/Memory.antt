@@ -54,3 +54,21 @@ store_after s piece =
     if store_fails s
     then record s { calls = one_more s.calls; faults = one_more s.faults }
     else record s { held = s.held ++ take (store_count s (length piece)) piece; calls = one_more s.calls }
+
+-- a dialer in memory: the links that are left, and the rest as a source has it
+pub record Links : Type 0 where
+  pub left : List (Supply × Store)
+  pub fail : List ℕ
+  pub calls : ℕ
+  pub faults : ℕ
+
+-- the dialer's next call fails: it is listed, or no link is left
+abbrev pub links_fail : Links → Bool
+links_fail s = is_listed s.fail (one_more s.calls) || length s.left == 0
+
+-- the dialer after a call
+abbrev pub links_after : Links → Links
+links_after s =
+    if links_fail s
+    then record s { calls = one_more s.calls; faults = one_more s.faults }
+    else record s { left = drop 1 s.left; calls = one_more s.calls }

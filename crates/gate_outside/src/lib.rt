@@ -8,11 +8,18 @@
 
 mod again;
 mod copying;
+mod counted;
+mod dialer;
+mod dice;
 mod failed;
+mod mem_dialer;
+mod mem_dice;
 mod mem_sink;
 mod mem_source;
+mod mem_spawner;
 mod sink;
 mod source;
+mod spawner;
 mod std_sink;
 mod std_source;
 mod sure_source;
@@ -21,11 +28,18 @@ mod tests;
 mod writing;
 
 pub use again::Again;
+pub use counted::Counted;
+pub use dialer::{DialFault, Dialer};
+pub use dice::Dice;
 pub use failed::Failed;
+pub use mem_dialer::MemDialer;
+pub use mem_dice::MemDice;
 pub use mem_sink::MemSink;
 pub use mem_source::MemSource;
+pub use mem_spawner::MemSpawner;
 pub use sink::Sink;
 pub use source::Source;
+pub use spawner::{Spawner, Way, start_by};
 pub use std_sink::StdSink;
 pub use std_source::StdSource;
 pub use sure_source::SureSource;

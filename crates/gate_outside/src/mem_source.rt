@@ -45,7 +45,7 @@ impl MemSource {
 }
 
 impl Source for MemSource {
-    ghost use Rattle.std.specs.Prelude.{◌≡◌, ◌<◌, ◌↔◌, IfOk, IsErr, IsTrue, Some, [], ◌≤◌, length, take};
+    ghost use Rattle.std.specs.Prelude.{◌≡◌, ◌<◌, ◌↔◌, IfOk, IsErr, IsTrue, OnErr, Some, [], ◌≤◌, length, take};
     ghost use Rattle.gate_outside.specs.Memory.{supply_after, supply_count, supply_fails};
 
     ghost left = { λ s. Some s.left };
@@ -59,6 +59,7 @@ impl Source for MemSource {
         ensures count { IfOk result (λ n. n ≡ supply_count self.old (length into.old)) }
         ensures bytes { IfOk result (λ n. take n into.new ≡ take n self.old.left) }
         ensures after { self.new ≡ supply_after self.old (length into.old) }
+        ensures untouched { OnErr result (into.new ≡ into.old) }
 
         // Of the trait's clauses, those that don't follow from the ones above.
         ensures end { IfOk result (λ n. n ≡ 0 → self.old.left ≡ []) }

@@ -1,5 +1,5 @@
 ghost use Rattle.std.specs.Prelude.{◌≡◌, ℕ, ◌<◌, ◌≤◌, List, length, take, Option, IfOk, OnErr};
-ghost use Rattle.gate_outside.specs.Edge.{Rose, gained};
+ghost use Rattle.gate_outside.specs.Edge.{Rose, gained, most_faults};
 
 use crate::Failed;
 
@@ -20,5 +20,6 @@ pub trait Sink: Drop {
         ensures ok { IfOk result (λ n. written self.new ≡ gained (written self.old) (take n piece.now)) }
         ensures unchanged { OnErr result (written self.new ≡ written self.old) }
         ensures later { faults self.old ≤ faults self.new }
+        ensures few { faults self.old ≤ most_faults → faults self.new ≤ most_faults }
         ensures cause { OnErr result (Rose (faults self.old) (faults self.new)) };
 }

@@ -1,5 +1,5 @@
-ghost use Rattle.std.specs.Prelude.{◌≡◌, ℕ, ◌<◌, ◌≤◌, List, [], length, take, Option, Some, IfOk, OnErr};
-ghost use Rattle.gate_outside.specs.Edge.{AtEnd, Rose, came};
+ghost use Rattle.std.specs.Prelude.{◌≡◌, ℕ, ◌<◌, ◌≤◌, List, [], length, take, Option, Some, IfOk, IfSome, OnErr};
+ghost use Rattle.gate_outside.specs.Edge.{AtEnd, Rose, came, most_faults};
 
 use crate::Failed;
 
@@ -12,7 +12,8 @@ pub trait Source: Drop {
     ghost faults: { Self → ℕ };
 
     /// Puts the first bytes that are left at the front of `into`, which isn't empty, and answers how
-    /// many: none where the source is at its end. A fault takes no byte.
+    /// many: none where the source is at its end. A fault takes no byte, and leaves `into` as it was where
+    /// the source tells what is left.
     fn read(&mut self, into: &mut [u8]) -> Result<usize, Failed>
         requires { 0 < length into.old }
         ensures bound { IfOk result (λ n. n ≤ length into.old) }
@@ -22,6 +23,8 @@ pub trait Source: Drop {
         ensures end { IfOk result (λ n. n ≡ 0 → AtEnd (left self.old)) }
         ensures empty { IfOk result (λ n. left self.old ≡ Some [] → n ≡ 0) }
         ensures unchanged { OnErr result (left self.new ≡ left self.old) }
+        ensures untouched { OnErr result (IfSome (left self.old) (λ _. into.new ≡ into.old)) }
         ensures later { faults self.old ≤ faults self.new }
+        ensures few { faults self.old ≤ most_faults → faults self.new ≤ most_faults }
         ensures cause { OnErr result (Rose (faults self.old) (faults self.new)) };
 }

@@ -1,13 +1,15 @@
 use crate::{
-    Again, Failed, MemSink, MemSource, Sink, Source, StdSink, StdSource, SureSource, write_all,
+    Again, Dialer, Dice, Failed, MemDialer, MemDice, MemSink, MemSource, MemSpawner, Sink, Source,
+    Spawner, StdSink, StdSource, SureSource, write_all,
 };
 use gate_model::Bytes;
 use std::alloc::Global;
+use std::sync::Arc;
+use std::sync::atomic::{AtomicU64, Ordering};
 use std::test::Fail;
 
-// Reads by `bound` of the trait alone: the bytes of each call, and `!` for a fault.
-fn told<S: Source>(alloc: Global, source: &mut S, calls: usize) -> Result<Vec<u8>, Fail> {
-    let mut seen = Vec::new(alloc);
+// Reads by `bound` of the trait alone, and appends the bytes of each call, and `!` for a fault.
+fn told<S: Source>(seen: &mut Vec<u8>, source: &mut S, calls: usize) -> Result<(), Fail> {
     for _ in 0..calls {
         let mut piece = [0u8; 3];
         match source.read(&mut piece) {
@@ -16,33 +18,33 @@ fn told<S: Source>(alloc: Global, source: &mut S, calls: usize) -> Result<Vec<u8
         }
         seen.push(b'|')?;
     }
-    Ok(seen)
+    seen.push(b'.')?;
+    Ok(())
+}
+
+// Tells of a source in memory, and of one that gives `4.key` before it.
+fn told_in_memory(alloc: Global, seen: &mut Vec<u8>) -> Result<(), Fail> {
+    let mut counted = MemSource::new(b"telnet".to_vec(alloc)?, 2, [2, 5].to_vec(alloc)?);
+    told(seen, &mut counted, 6)?;
+    let late = MemSource::new(b"telnet".to_vec(alloc)?, 3, [1].to_vec(alloc)?);
+    let mut again = Again::new(Bytes::of(b"4.key".to_vec(alloc)?), late);
+    told(seen, &mut again, 6)
 }
 
 #[test]
 fn sources_give_their_bytes_and_fail_where_listed(rt: HostRuntime) -> Result<(), Fail> {
     let alloc = rt.alloc();
-    let text = b"telnet";
-    let mut counted = MemSource::new(text.to_vec(alloc)?, 2, [2, 5].to_vec(alloc)?);
+    let mut seen = Vec::new(alloc);
+    told_in_memory(alloc, &mut seen)?;
+    told(
+        &mut seen,
+        &mut SureSource::new(b"telnet".to_vec(alloc)?, 9),
+        3,
+    )?;
+    told(&mut seen, &mut StdSource::new(b"telnet".as_slice()), 3)?;
     assert_eq!(rt;
-        told(alloc, &mut counted, 6)?.as_slice(),
-        b"te|!|ln|et|!||".as_slice()
-    );
-    let mut sure = SureSource::new(text.to_vec(alloc)?, 9);
-    assert_eq!(rt;
-        told(alloc, &mut sure, 3)?.as_slice(),
-        b"tel|net||".as_slice()
-    );
-    let late = MemSource::new(text.to_vec(alloc)?, 3, [1].to_vec(alloc)?);
-    let mut again = Again::new(Bytes::of(b"4.key".to_vec(alloc)?), late);
-    assert_eq!(rt;
-        told(alloc, &mut again, 6)?.as_slice(),
-        b"4.k|ey|!|tel|net||".as_slice()
-    );
-    let mut std = StdSource::new(text.as_slice());
-    assert_eq!(rt;
-        told(alloc, &mut std, 3)?.as_slice(),
-        b"tel|net||".as_slice()
+        seen.as_slice(),
+        b"te|!|ln|et|!||.4.k|ey|!|tel|net||.tel|net||.tel|net||.".as_slice()
     );
     Ok(())
 }
@@ -60,8 +62,8 @@ fn a_sink_in_memory_fails_where_listed_and_where_it_is_full(rt: HostRuntime) -> 
         (b"3".as_slice(), Err(Failed), b"drawn12".as_slice()),
     ];
     for (text, answer, held) in table {
-        assert_eq!(rt; write_all(&mut sink, text), answer, "at {text:?}");
-        assert_eq!(rt; sink.written(), held, "at {text:?}");
+        let same = write_all(&mut sink, text) == answer && sink.written() == held;
+        assert!(rt; same, "at {text:?}");
     }
     Ok(())
 }
@@ -69,7 +71,51 @@ fn a_sink_in_memory_fails_where_listed_and_where_it_is_full(rt: HostRuntime) -> 
 #[test]
 fn a_sink_over_a_writer_of_std_takes_the_text(rt: HostRuntime) -> Result<(), Fail> {
     let mut sink = StdSink::new(Vec::new(rt.alloc()));
-    assert_eq!(rt; write_all(&mut sink, b"frames"), Ok(()));
-    assert_eq!(rt; sink.writer.as_slice(), b"frames".as_slice());
+    let same = write_all(&mut sink, b"frames").is_ok()
+        && sink.writer.as_slice() == b"frames".as_slice();
+    assert!(rt; same);
+    Ok(())
+}
+
+#[test]
+fn dice_in_memory_give_the_last_draw_again(rt: HostRuntime) -> Result<(), Fail> {
+    let mut dice = MemDice::new([[1; 16], [2; 16]].to_vec(rt.alloc())?);
+    for drawn in [[1u8; 16], [2; 16], [2; 16]] {
+        assert_eq!(rt; dice.bytes(), drawn);
+    }
+    Ok(())
+}
+
+#[test]
+fn a_dialer_in_memory_fails_where_listed_and_where_it_is_spent(
+    rt: HostRuntime,
+) -> Result<(), Fail> {
+    let alloc = rt.alloc();
+    let source = MemSource::new(b"login: ".to_vec(alloc)?, 9, Vec::new(alloc));
+    let sink = MemSink::new(alloc, 1, 1, Vec::new(alloc))
+        .ok()
+        .ok_or("no memory")?;
+    let mut links = Vec::new(alloc);
+    links.push((source, sink)).ok().ok_or("no memory")?;
+    let mut dialer = MemDialer::new(links, [1].to_vec(alloc)?);
+    for reached in [false, true, false] {
+        assert_eq!(rt; dialer.dial(alloc, "localhost", 23).is_ok(), reached);
+    }
+    Ok(())
+}
+
+#[test]
+fn a_spawner_in_memory_runs_its_jobs_in_the_call(rt: HostRuntime) -> Result<(), Fail> {
+    let alloc = rt.alloc();
+    let ran = Arc::new(alloc, AtomicU64::new(0))?;
+    let mut spawner = MemSpawner::new([2].to_vec(alloc)?);
+    for (started, runs) in [(true, 1), (false, 1), (true, 2)] {
+        let count = Arc::try_clone(&ran)?;
+        let job = move || {
+            count.fetch_add(1, Ordering::SeqCst);
+        };
+        let same = spawner.start(&rt, job).is_ok() == started && ran.load(Ordering::SeqCst) == runs;
+        assert!(rt; same);
+    }
     Ok(())
 }

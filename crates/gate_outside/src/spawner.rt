@@ -1,0 +1,93 @@
+ghost use Rattle.std.specs.Prelude.{◌≡◌, ◌↔◌, ◌≤◌, Bool, Option, IfErr, OnErr, OnOk, IsErr, IfSome, true};
+ghost use Rattle.gate_outside.specs.Edge.{Rose};
+ghost use Rattle.gate_outside.specs.Starts.{is_refused};
+
+use crate::Counted;
+use std::sync::Wait;
+use std::thread;
+use std::thread::Threads;
+
+/// How the next job starts.
+#[derive(Clone, Copy, Debug, PartialEq, Eq)]
+pub enum Way {
+    /// In a thread of its own.
+    Thread,
+    /// In the call, before it answers.
+    Here,
+    /// Not at all.
+    Refused,
+}
+
+/// Starts jobs (this project's own). A form says how its next job starts and counts those that didn't; the
+/// start itself is the same for all, since a method of an impl can't start a thread.
+pub trait Spawner: Counted {
+    /// Whether the next job is refused, where the spawner tells.
+    ghost refuses: { Self → Option Bool };
+
+    /// Says how the next job starts.
+    fn way(&mut self) -> Way
+        ensures told { IfSome (refuses self.old) (λ b. is_refused result ≡ b) }
+        ensures starts { Self.start_faults self.new ≡ Self.start_faults self.old }
+        ensures dials { Self.dial_faults self.new ≡ Self.dial_faults self.old }
+        ensures draws { Self.draws self.new ≡ Self.draws self.old };
+
+    /// Counts a job that wasn't started.
+    fn note(&mut self)
+        ensures starts { Rose (Self.start_faults self.old) (Self.start_faults self.new) }
+        ensures later { Self.start_faults self.old ≤ Self.start_faults self.new }
+        ensures dials { Self.dial_faults self.new ≡ Self.dial_faults self.old }
+        ensures draws { Self.draws self.new ≡ Self.draws self.old };
+
+    /// Starts the job. One that isn't started comes back, only where the count of failed starts rose in this
+    /// call; where the spawner tells that it refuses, the job comes back.
+    final fn start<R: Threads + Wait, J: FnOnce() + Send + 'static>(
+        &mut self,
+        rt: &R,
+        job: J,
+    ) -> Result<(), J>
+        requires { J.pre job }
+        ensures given_back { IfErr result (λ j. j ≡ job) }
+        ensures cause { OnErr result (Rose (Self.start_faults self.old) (Self.start_faults self.new)) }
+        ensures none { OnOk result (Self.start_faults self.new ≡ Self.start_faults self.old) }
+        ensures later { Self.start_faults self.old ≤ Self.start_faults self.new }
+        ensures told { IfSome (refuses self.old) (λ b. b ≡ true → IsErr result) }
+        ensures dials { Self.dial_faults self.new ≡ Self.dial_faults self.old }
+        ensures draws { Self.draws self.new ≡ Self.draws self.old }
+    {
+        let way = self.way();
+        match start_by(rt, way, job) {
+            Ok(()) => Ok(()),
+            Err(job) => {
+                self.note();
+                Err(job)
+            }
+        }
+    }
+}
+
+/// Starts the job in that way. A job comes back where it is refused, and where no thread can be made.
+pub fn start_by<R: Threads, J: FnOnce() + Send + 'static>(rt: &R, way: Way, job: J) -> Result<(), J>
+    requires { J.pre job }
+    ensures given_back { IfErr result (λ j. j ≡ job) }
+    ensures refused { is_refused way ≡ true → IsErr result }
+{
+    match way {
+        Way::Thread => start_thread(rt, job),
+        Way::Here => {
+            job();
+            Ok(())
+        }
+        Way::Refused => Err(job),
+    }
+}
+
+// Starts the job in a thread that runs on when its handle is dropped.
+fn start_thread<R: Threads, J: FnOnce() + Send + 'static>(rt: &R, job: J) -> Result<(), J>
+    requires { J.pre job }
+    ensures { IfErr result (λ j. j ≡ job) }
+{
+    match thread::spawn(rt, job) {
+        Ok(_) => Ok(()),
+        Err(refused) => Err(refused.value),
+    }
+}

@@ -1,0 +1,6 @@
+pub mod HearingLaws
+pub mod Values
+pub mod Replying
+pub mod Behind
+pub mod First
+pub mod Endings

@@ -1,0 +1,40 @@
+use Rattle.std.proofs.Common.{◌≡◌, Ok, Err, ap, sym, ◌∙◌, subst}
+use Rattle.std.specs.Prelude.{Result, IfErr}
+use Rattle.std.proofs.lemmas.Result.{err_from_is_err_and}
+use Rattle.gate_outside.specs.Edge.{Rose}
+use Rattle.guac_handshake.specs.declared.request.Request.{Request}
+use Rattle.guac_handshake.specs.declared.stop.Stop.{Stop}
+use Rattle.guac_handshake.specs.declared.stop.Stop.TheVariants.{ReadFault}
+use Rattle.guac_handshake.proofs.First.{asked_early, asked_none, asked_on, asked_unwritten, later_fault}
+use Rattle.guac_handshake.proofs.greeting.read_request.Goals as goal
+
+pub returns-in_err-piece-clause-request : goal.returns-in_err-piece-clause-request
+returns-in_err-piece-clause-request g c =
+    let r = c.from_residual in
+    let p = err_from_is_err_and r.result r.ensures.1 in
+    asked_none g.D.Door.id_of (g.D.Door.sessions c.args.door.now) (g.S.Source.left c.args.source.now) (g.S.Source.left c.args.source.now) (g.K.Sink.written c.args.sink.now) (g.K.Sink.written c.args.sink.now) c.args.unread.now c.args.unread.now r.result (p.1 ∙ ap (λ (s : Stop). Err s) p.2)
+
+pub returns-in_err-selected-clause-request : goal.returns-in_err-selected-clause-request
+returns-in_err-selected-clause-request g c =
+    let r = c.from_residual-in_err-selected in
+    let p = err_from_is_err_and r.result r.ensures.1 in
+    asked_early _ _ _ _ (g.K.Sink.written c.args.sink.now) (g.K.Sink.written c.args.sink.now) _ _ _ r.result c.in_err-selected.ensures.selected (p.1 ∙ ap (λ (s : Stop). Err s) p.2)
+
+pub returns-in_err-selected-clause-read_fault : goal.returns-in_err-selected-clause-read_fault
+returns-in_err-selected-clause-read_fault g c =
+    let r = c.from_residual-in_err-selected in
+    let p = err_from_is_err_and r.result r.ensures.1 in
+    let P : Result Request Stop → Type 0 = λ x. IfErr x (λ stop. stop ≡ ReadFault → Rose (g.S.Source.faults c.args.source.now) (g.S.Source.faults c.select.new.source)) in
+    subst P (sym (p.1 ∙ ap (λ (s : Stop). Err s) p.2)) c.in_err-selected.ensures.fault
+
+pub returns-in_err-write_args-clause-request : goal.returns-in_err-write_args-clause-request
+returns-in_err-write_args-clause-request g c =
+    let r = c.from_residual-in_err-write_args in
+    let p = err_from_is_err_and r.result r.ensures.1 in
+    asked_unwritten _ _ _ _ _ _ _ _ _ r.result c.in_ok-selected.ensures.selected c.in_err-write_args.ensures.part (p.1 ∙ ap (λ (s : Stop). Err s) (p.2 ∙ c.in_err-write_args.ensures.kind))
+
+pub returns-clause-request : goal.returns-clause-request
+returns-clause-request g c = asked_on _ _ _ _ _ _ _ _ _ _ _ _ c.in_ok-selected.ensures.selected c.in_ok-write_args.ensures.ok c.connect.ensures.connected
+
+pub returns-clause-read_fault : goal.returns-clause-read_fault
+returns-clause-read_fault g c = later_fault _ _ _ _ c.select.ensures.later c.connect.ensures.fault

@@ -1,0 +1,161 @@
+ghost use Rattle.std.specs.Prelude.{◌≡◌, ◌≤◌, ◌-◌, ◌+◌, ℕ, List, Option, IfOk, IfErr, IfSome, OnErr, OnOk, is_some};
+ghost use Rattle.gate_outside.specs.Edge.{Rose};
+ghost use Rattle.id_table.specs.Maps.{Map, Same, Told};
+ghost use Rattle.gate_model.specs.History.{History};
+ghost use Rattle.guac_handshake.specs.Doors.{AddedOne, HasConflict, IsAbsent, IsBeginRefusal, IsBusy, IsConflict, IsDial, IsJoinRefusal, IsOpenRefusal, KeepsIds, MeetsHistory, RemovedOne, TellsConflict, at_name, logged, one_more_out, option_less};
+ghost use Rattle.guac_handshake.specs.declared.request.Request.{Request};
+ghost use Rattle.guac_handshake.specs.declared.request.Request.TheVariants.{Begin as begin_request, Join as join_request};
+
+use crate::{Ask, Begun, Job, Refused, Seat, Welcome};
+use gate_model::{Asked, Text};
+use gate_outside::{Counted, Way, start_by};
+use std::alloc::Global;
+use std::sync::Wait;
+use std::thread::Threads;
+
+/// Where viewers come from (this project's own). A door gives places in sessions: in one that begins, or in
+/// one that is there. What it tells of itself is optional, and each fact holds where it is told.
+pub trait Door: Counted {
+    /// A viewer's place.
+    type Place: Seat;
+
+    /// The job that feeds a session.
+    type Pump: Job;
+
+    /// The job that sends to a session's host.
+    type Sending: Job;
+
+    /// The ID that a name gives, if any.
+    ghost id_of: { List ℕ → Option (List ℕ) };
+
+    /// The sessions by ID, where the door tells them, each with its history, where the door tells that.
+    ghost sessions: { Self → Option (Map (Option History)) };
+
+    /// How many places are out, where the door tells.
+    ghost out: { Self → Option ℕ };
+
+    /// What the door was asked, oldest first, where it tells; but for what it refused for want of memory.
+    ghost asked: { Self → Option (List Request) };
+
+    /// Whether there is a session of the ID that the name gives.
+    fn known<R: Wait>(&mut self, rt: &R, name: &str) -> bool
+        ensures known { Told (sessions self.old) (sessions self.new) (λ m n. (result ≡ is_some (at_name (id_of name.now) m)) × Same m n) }
+        ensures dials { Self.dial_faults self.new ≡ Self.dial_faults self.old }
+        ensures starts { Self.start_faults self.new ≡ Self.start_faults self.old }
+        ensures draws { Self.draws self.new ≡ Self.draws self.old }
+        ensures out { out self.new ≡ out self.old }
+        ensures asked { asked self.new ≡ asked self.old };
+
+    /// Dials, and makes a session that can be joined, whose jobs aren't started.
+    fn open<R: Wait>(
+        &mut self,
+        rt: &R,
+        alloc: Global,
+        ask: &Ask,
+    ) -> Result<Begun<Self::Place, Self::Pump, Self::Sending>, Refused>
+        ensures dial { IsDial result → Rose (Self.dial_faults self.old) (Self.dial_faults self.new) }
+        ensures kind { IfErr result IsOpenRefusal }
+        ensures later { Self.dial_faults self.old ≤ Self.dial_faults self.new }
+        ensures starts { Self.start_faults self.new ≡ Self.start_faults self.old }
+        ensures fresh { IfOk result (λ begun. Self.Place.fresh begun.welcome.place begun.welcome.first) }
+        ensures added { IfOk result (λ begun. Told (sessions self.old) (sessions self.new) (AddedOne (id_of begun.welcome.id))) }
+        ensures refused { OnErr result (Told (sessions self.old) (sessions self.new) Same) }
+        ensures conflict { IsConflict result → HasConflict (sessions self.old) }
+        ensures exact { TellsConflict (sessions self.old) (Self.draws self.old) result }
+        ensures out { out self.new ≡ one_more_out result (out self.old) }
+        ensures asked { asked self.new ≡ logged (asked self.old) (begin_request ask.now) result };
+
+    /// Says how the next job starts.
+    fn way(&mut self) -> Way
+        ensures dials { Self.dial_faults self.new ≡ Self.dial_faults self.old }
+        ensures starts { Self.start_faults self.new ≡ Self.start_faults self.old }
+        ensures sessions { sessions self.new ≡ sessions self.old }
+        ensures out { out self.new ≡ out self.old }
+        ensures asked { asked self.new ≡ asked self.old };
+
+    /// Counts a job that wasn't started.
+    fn note(&mut self)
+        ensures dials { Self.dial_faults self.new ≡ Self.dial_faults self.old }
+        ensures starts { Rose (Self.start_faults self.old) (Self.start_faults self.new) }
+        ensures later { Self.start_faults self.old ≤ Self.start_faults self.new }
+        ensures sessions { sessions self.new ≡ sessions self.old }
+        ensures out { out self.new ≡ out self.old }
+        ensures asked { asked self.new ≡ asked self.old };
+
+    /// Closes a session that was opened, and takes it away with its place.
+    fn undo<R: Wait>(&mut self, rt: &R, id: &Text)
+        ensures dials { Self.dial_faults self.new ≡ Self.dial_faults self.old }
+        ensures starts { Self.start_faults self.new ≡ Self.start_faults self.old }
+        ensures gone { Told (sessions self.old) (sessions self.new) (RemovedOne (id_of id.now)) }
+        ensures out { out self.new ≡ option_less (out self.old) }
+        ensures asked { asked self.new ≡ asked self.old };
+
+    /// Begins a session: dials, makes it and starts its jobs. Dial and Busy come only where their count rose
+    /// in this call, Conflict only where an ID is there; refused, no session is there that wasn't.
+    final fn begin<R: Threads + Wait + Copy + Send + 'static>(
+        &mut self,
+        rt: &R,
+        alloc: Global,
+        ask: &Ask,
+    ) -> Result<Welcome<Self::Place>, Refused>
+        ensures dial { IsDial result → Rose (Self.dial_faults self.old) (Self.dial_faults self.new) }
+        ensures busy { IsBusy result → Rose (Self.start_faults self.old) (Self.start_faults self.new) }
+        ensures kind { IfErr result IsBeginRefusal }
+        ensures later_dials { Self.dial_faults self.old ≤ Self.dial_faults self.new }
+        ensures later_starts { Self.start_faults self.old ≤ Self.start_faults self.new }
+        ensures fresh { IfOk result (λ welcome. Self.Place.fresh welcome.place welcome.first) }
+        ensures added { IfOk result (λ welcome. Told (sessions self.old) (sessions self.new) (AddedOne (id_of welcome.id))) }
+        ensures refused { OnErr result (Told (sessions self.old) (sessions self.new) Same) }
+        ensures conflict { IsConflict result → HasConflict (sessions self.old) }
+        ensures exact { TellsConflict (sessions self.old) (Self.draws self.old) result }
+        ensures out { out self.new ≡ one_more_out result (out self.old) }
+        ensures asked { asked self.new ≡ logged (asked self.old) (begin_request ask.now) result }
+    {
+        let Begun {
+            welcome,
+            pump,
+            sender,
+        } = self.open(rt, alloc, ask)?;
+        let inner = *rt;
+        let way = self.way();
+        if start_by(rt, way, move || pump.run(&inner)).is_err() {
+            self.note();
+            self.undo(rt, &welcome.id);
+            return Err(Refused::Busy);
+        }
+        let way = self.way();
+        if start_by(rt, way, move || sender.run(&inner)).is_err() {
+            self.note();
+            self.undo(rt, &welcome.id);
+            return Err(Refused::Busy);
+        }
+        Ok(welcome)
+    }
+
+    /// Lets a viewer join the session of the ID that the name gives; it asks as Control or View. Absent comes
+    /// exactly where there is none.
+    fn join<R: Wait>(
+        &mut self,
+        rt: &R,
+        alloc: Global,
+        name: &str,
+        role: Asked,
+    ) -> Result<Welcome<Self::Place>, Refused>
+        ensures kind { IfErr result IsJoinRefusal }
+        ensures dials { Self.dial_faults self.new ≡ Self.dial_faults self.old }
+        ensures starts { Self.start_faults self.new ≡ Self.start_faults self.old }
+        ensures fresh { IfOk result (λ welcome. Self.Place.fresh welcome.place welcome.first) }
+        ensures absent { Told (sessions self.old) (sessions self.new) (λ m n. IsAbsent result (is_some (at_name (id_of name.now) m))) }
+        ensures ids { Told (sessions self.old) (sessions self.new) (KeepsIds (id_of name.now)) }
+        ensures history { IfSome (sessions self.new) (λ n. MeetsHistory (at_name (id_of name.now) n) role result) }
+        ensures out { out self.new ≡ one_more_out result (out self.old) }
+        ensures asked { asked self.new ≡ logged (asked self.old) (join_request name.now role) result };
+
+    /// Takes back a place that was handed out with that ID.
+    fn give<R: Wait>(&mut self, rt: &R, id: &str, place: Self::Place)
+        ensures dials { Self.dial_faults self.new ≡ Self.dial_faults self.old }
+        ensures starts { Self.start_faults self.new ≡ Self.start_faults self.old }
+        ensures ids { Told (sessions self.old) (sessions self.new) (KeepsIds (id_of id.now)) }
+        ensures out { out self.new ≡ option_less (out self.old) }
+        ensures asked { asked self.new ≡ asked self.old };
+}

@@ -1,0 +1,271 @@
+//! The handshake.
+
+ghost use Rattle.std.specs.Prelude.{◌≡◌, ◌<◌, ◌≤◌, [], IfErr, IfOk, length};
+ghost use Rattle.gate_outside.specs.Edge.{Rose};
+ghost use Rattle.guac_handshake.specs.Doors.{IsBusy, IsDial, logged, one_more_out};
+ghost use Rattle.guac_handshake.specs.Greetings.{HasAsked, HasConnected, HasKept, HasOut, HasSelected, IsFound, IsGreeting, IsServed, IsToldError, IsToldReady, MayRefuse, stopped_as};
+
+use crate::expected::{Expected, Said};
+use crate::hearing::hear;
+use crate::replies::{write_args, write_error, write_ready};
+use crate::request::Selected;
+use crate::statuses::{BAD_REQUEST, NOT_FOUND, status_of};
+use crate::stop::Stop;
+use crate::unread::Unread;
+use crate::{Door, Greeted, Refused, Request, Welcome};
+use gate_model::Text;
+use gate_outside::{Sink, Source};
+use std::alloc::Global;
+use std::mem;
+use std::sync::Wait;
+use std::thread::Threads;
+
+/// How many bytes are read at once.
+const PIECE: usize = 4096;
+
+/// Between `select` and `connect` the instruction of this number is one too many (this project's own rule).
+const TOO_MANY: usize = 65;
+
+// Reads the instructions behind `select`, up to `connect`.
+fn connect<S: Source>(
+    alloc: Global,
+    source: &mut S,
+    unread: &mut Unread,
+    piece: &mut [u8],
+    selected: &Selected,
+) -> Result<Request, Stop>
+    requires { 0 < length piece.old }
+    ensures connected { HasConnected selected.now (S.left source.old) (S.left source.new) unread.old unread.new result }
+    ensures fault { IfErr result (λ stop. stop ≡ Stop.ReadFault → Rose (S.faults source.old) (S.faults source.new)) }
+    ensures later { S.faults source.old ≤ S.faults source.new }
+{
+    let mut size = None;
+    'reading: for _between in 0..TOO_MANY {
+        match hear(
+            alloc,
+            source,
+            unread,
+            piece,
+            Expected::Connect(selected, size),
+        )? {
+            Said::Ask(request) => return Ok(request),
+            Said::Size(found) => size = Some(found),
+            Said::Other => {}
+            Said::Bad => return Err(Stop::Refused(BAD_REQUEST)),
+            Said::Select(_) => unreachable!(),
+        }
+    }
+    Err(Stop::Refused(BAD_REQUEST))
+}
+
+// Reads the first instruction, and looks whether the door has the ID that it selects.
+fn select<R: Wait, S: Source, D: Door>(
+    rt: &R,
+    alloc: Global,
+    source: &mut S,
+    unread: &mut Unread,
+    piece: &mut [u8],
+    door: &mut D,
+) -> Result<Selected, Stop>
+    requires { 0 < length piece.old }
+    ensures selected { HasSelected D.id_of (D.sessions door.old) (S.left source.old) (S.left source.new) unread.old unread.new result }
+    ensures asked { D.asked door.new ≡ D.asked door.old }
+    ensures out { D.out door.new ≡ D.out door.old }
+    ensures dials { D.dial_faults door.new ≡ D.dial_faults door.old }
+    ensures starts { D.start_faults door.new ≡ D.start_faults door.old }
+    ensures fault { IfErr result (λ stop. stop ≡ Stop.ReadFault → Rose (S.faults source.old) (S.faults source.new)) }
+    ensures later { S.faults source.old ≤ S.faults source.new }
+{
+    match hear(alloc, source, unread, piece, Expected::Select)? {
+        Said::Select(name) => look(rt, door, name),
+        Said::Bad => Err(Stop::Refused(BAD_REQUEST)),
+        Said::Size(_) | Said::Ask(_) | Said::Other => unreachable!(),
+    }
+}
+
+// What is selected by the name.
+fn look<R: Wait, D: Door>(rt: &R, door: &mut D, name: Text) -> Result<Selected, Stop>
+    ensures found { IsFound D.id_of (D.sessions door.old) name result }
+    ensures asked { D.asked door.new ≡ D.asked door.old }
+    ensures out { D.out door.new ≡ D.out door.old }
+    ensures dials { D.dial_faults door.new ≡ D.dial_faults door.old }
+    ensures starts { D.start_faults door.new ≡ D.start_faults door.old }
+{
+    if name.as_str() == "telnet" {
+        return Ok(Selected::Telnet);
+    }
+    if door.known(rt, name.as_str()) {
+        Ok(Selected::Known(name))
+    } else {
+        Err(Stop::Refused(NOT_FOUND))
+    }
+}
+
+// Asks the door.
+fn ask<R: Threads + Wait + Copy + Send + 'static, D: Door>(
+    rt: &R,
+    alloc: Global,
+    door: &mut D,
+    request: &Request,
+) -> Result<Welcome<D::Place>, Refused>
+    ensures asked { D.asked door.new ≡ logged (D.asked door.old) request.now result }
+    ensures out { D.out door.new ≡ one_more_out result (D.out door.old) }
+    ensures kind { IfErr result (MayRefuse request.now) }
+    ensures dial { IsDial result → Rose (D.dial_faults door.old) (D.dial_faults door.new) }
+    ensures busy { IsBusy result → Rose (D.start_faults door.old) (D.start_faults door.new) }
+    ensures later_dials { D.dial_faults door.old ≤ D.dial_faults door.new }
+    ensures later_starts { D.start_faults door.old ≤ D.start_faults door.new }
+    ensures fresh { IfOk result (λ welcome. D.Place.fresh welcome.place welcome.first) }
+{
+    match request {
+        Request::Begin(ask) => door.begin(rt, alloc, ask),
+        Request::Join { id, asked } => door.join(rt, alloc, id.as_str(), *asked),
+    }
+}
+
+// Reads what the client asks, and writes the parameters as soon as it has selected something known.
+fn read_request<R: Wait, S: Source, K: Sink, D: Door>(
+    rt: &R,
+    alloc: Global,
+    source: &mut S,
+    sink: &mut K,
+    unread: &mut Unread,
+    door: &mut D,
+) -> Result<Request, Stop>
+    ensures request { HasAsked D.id_of (D.sessions door.old) (S.left source.old) (S.left source.new) (K.written sink.old) (K.written sink.new) unread.old unread.new result }
+    ensures asked { D.asked door.new ≡ D.asked door.old }
+    ensures out { D.out door.new ≡ D.out door.old }
+    ensures dials { D.dial_faults door.new ≡ D.dial_faults door.old }
+    ensures starts { D.start_faults door.new ≡ D.start_faults door.old }
+    ensures read_fault { IfErr result (λ stop. stop ≡ Stop.ReadFault → Rose (S.faults source.old) (S.faults source.new)) }
+    ensures later_reads { S.faults source.old ≤ S.faults source.new }
+    ensures later_writes { K.faults sink.old ≤ K.faults sink.new }
+{
+    let mut piece = vec![in alloc; 0u8; PIECE]?;
+    let selected = select(rt, alloc, source, unread, &mut piece, door)?;
+    write_args(sink, &selected)?;
+    connect(alloc, source, unread, &mut piece, &selected)
+}
+
+// Tells the client its session; where that fails the place goes back to the door.
+fn ready<R: Wait, K: Sink, D: Door>(
+    rt: &R,
+    alloc: Global,
+    sink: &mut K,
+    door: &mut D,
+    welcome: Welcome<D::Place>,
+) -> Greeted<D::Place>
+    ensures told { IsToldReady welcome (K.written sink.old) (K.written sink.new) result }
+    ensures out { HasKept (D.out door.old) (D.out door.new) result }
+    ensures asked { D.asked door.new ≡ D.asked door.old }
+    ensures dials { D.dial_faults door.new ≡ D.dial_faults door.old }
+    ensures starts { D.start_faults door.new ≡ D.start_faults door.old }
+    ensures later { K.faults sink.old ≤ K.faults sink.new }
+{
+    match write_ready(alloc, sink, &welcome.id) {
+        Ok(()) => Greeted::Ready(welcome),
+        Err(stop) => {
+            let Welcome {
+                id,
+                place,
+                first: _,
+            } = welcome;
+            door.give(rt, id.as_str(), place);
+            stopped(stop)
+        }
+    }
+}
+
+// Tells the client why it is refused.
+fn refuse<P, K: Sink>(alloc: Global, sink: &mut K, status: u16) -> Greeted<P>
+    ensures told { IsToldError status (K.written sink.old) (K.written sink.new) result }
+    ensures later { K.faults sink.old ≤ K.faults sink.new }
+{
+    match write_error(alloc, sink, status) {
+        Ok(()) => Greeted::Refused(status),
+        Err(stop) => stopped(stop),
+    }
+}
+
+// The end of a greeting that stopped.
+fn stopped<P>(stop: Stop) -> Greeted<P>
+    ensures { result ≡ stopped_as stop }
+{
+    match stop {
+        Stop::Refused(status) => Greeted::Refused(status),
+        Stop::Ended => Greeted::Ended,
+        Stop::ReadFault => Greeted::ReadFault,
+        Stop::WriteFault => Greeted::WriteFault,
+        Stop::NoMemory => Greeted::NoMemory,
+    }
+}
+
+// Asks the door, and tells the client its answer.
+fn serve<R: Threads + Wait + Copy + Send + 'static, K: Sink, D: Door>(
+    rt: &R,
+    alloc: Global,
+    sink: &mut K,
+    door: &mut D,
+    request: &Request,
+) -> Greeted<D::Place>
+    ensures served { IsServed request.now (K.written sink.old) (K.written sink.new) (D.asked door.old) (D.asked door.new) result }
+    ensures out { HasOut (D.out door.old) (D.out door.new) result }
+    ensures later_dials { D.dial_faults door.old ≤ D.dial_faults door.new }
+    ensures later_starts { D.start_faults door.old ≤ D.start_faults door.new }
+    ensures later { K.faults sink.old ≤ K.faults sink.new }
+{
+    match ask(rt, alloc, door, request) {
+        Ok(welcome) => ready(rt, alloc, sink, door, welcome),
+        Err(refused) => refuse(alloc, sink, status_of(refused)),
+    }
+}
+
+fn converse<R: Threads + Wait + Copy + Send + 'static, S: Source, K: Sink, D: Door>(
+    rt: &R,
+    alloc: Global,
+    source: &mut S,
+    sink: &mut K,
+    unread: &mut Unread,
+    door: &mut D,
+) -> Greeted<D::Place>
+    requires { unread.old ≡ [] }
+    ensures greeting { IsGreeting D.id_of (D.sessions door.old) (S.left source.old) (S.left source.new) (K.written sink.old) (K.written sink.new) (D.asked door.old) (D.asked door.new) unread.new result }
+    ensures out { HasOut (D.out door.old) (D.out door.new) result }
+    ensures later_dials { D.dial_faults door.old ≤ D.dial_faults door.new }
+    ensures later_starts { D.start_faults door.old ≤ D.start_faults door.new }
+    ensures later_reads { S.faults source.old ≤ S.faults source.new }
+    ensures later_writes { K.faults sink.old ≤ K.faults sink.new }
+{
+    match read_request(rt, alloc, source, sink, unread, door) {
+        Ok(request) => serve(rt, alloc, sink, door, &request),
+        Err(Stop::Refused(status)) => refuse(alloc, sink, status),
+        Err(Stop::Ended) => Greeted::Ended,
+        Err(Stop::ReadFault) => Greeted::ReadFault,
+        Err(Stop::WriteFault) => Greeted::WriteFault,
+        Err(Stop::NoMemory) => Greeted::NoMemory,
+    }
+}
+
+/// Greets a client: reads instructions up to `connect`, asks the door what they ask, and writes the answer.
+/// `rest` is left holding the bytes that were read and aren't part of those instructions; what it held before
+/// is let go. A place that the client couldn't be told of goes back to the door.
+pub fn greet<R: Threads + Wait + Copy + Send + 'static, S: Source, K: Sink, D: Door>(
+    rt: &R,
+    alloc: Global,
+    source: &mut S,
+    sink: &mut K,
+    rest: &mut Vec<u8>,
+    door: &mut D,
+) -> Greeted<D::Place>
+    ensures greeting { IsGreeting D.id_of (D.sessions door.old) (S.left source.old) (S.left source.new) (K.written sink.old) (K.written sink.new) (D.asked door.old) (D.asked door.new) rest.new.items result }
+    ensures out { HasOut (D.out door.old) (D.out door.new) result }
+    ensures later_dials { D.dial_faults door.old ≤ D.dial_faults door.new }
+    ensures later_starts { D.start_faults door.old ≤ D.start_faults door.new }
+    ensures later_reads { S.faults source.old ≤ S.faults source.new }
+    ensures later_writes { K.faults sink.old ≤ K.faults sink.new }
+{
+    let mut unread = Unread::new(mem::replace(rest, Vec::new(alloc)));
+    let greeted = converse(rt, alloc, source, sink, &mut unread, door);
+    *rest = unread.into_vec();
+    greeted
+}

@@ -1,0 +1,32 @@
+//! The handshake of a Guacamole connection: a client says whom it wants, and gets a place in a session, or
+//! the exact reason why not (the Guacamole manual, "The Guacamole protocol", on the handshake).
+//!
+//! `greet` reads instructions up to `connect`, asks a [`Door`] what they ask (`asks` of `specs/Asks.antt`) and
+//! writes the answer. `IsGreeting` of `specs/Greetings.antt` says what it read, asked and wrote at each end.
+#![tactic(auto)]
+
+mod ask;
+mod connecting;
+mod door;
+mod expected;
+mod greeted;
+mod greeting;
+mod hearing;
+mod refused;
+mod replies;
+mod request;
+mod seat;
+mod statuses;
+mod stop;
+mod unread;
+mod welcome;
+
+pub use ask::Ask;
+pub use door::Door;
+pub use greeted::Greeted;
+pub use greeting::greet;
+pub use refused::Refused;
+pub use request::Request;
+pub use seat::{Job, Seat};
+pub use statuses::status_of;
+pub use welcome::{Begun, Welcome};
