@@ -1,5 +1,5 @@
 -- A run of cells that become cells like a pen, one after another.
-use Rattle.std.proofs.Common.{◌≡◌, ℕ, suc, ◌+◌, ◌<◌, ◌≤◌, List, [], ◌∷◌, ◌++◌, length, take, drop, map, set, get_or, ap, sym, ◌∙◌, arith, append_assoc, append-nil, drop-cons, add-one}
+use Rattle.std.proofs.Common.{◌≡◌, ℕ, ◌+◌, ◌<◌, ◌≤◌, List, [], ◌∷◌, ◌++◌, length, take, drop, map, set, get_or, ap, sym, ◌∙◌, arith, append_assoc, append-nil, drop-cons, add-one}
 use Rattle.std.proofs.lemmas.List.{set_at, map-append, take_more, length-map, length-take-le, take_all}
 use Rattle.std.proofs.Math.ListN.{drop_of_length-le}
 use Rattle.gate_model.specs.declared.cell.Cell.{Cell}

@@ -1,7 +1,7 @@
 -- What a window shows of a run of cells that is changed within it.
-use Rattle.std.proofs.Common.{◌≡◌, ℕ, ◌+◌, ◌-◌, ◌≤◌, ◌<◌, min, List, [], ◌++◌, length, take, drop, set, replicate, refl, ap, sym, subst, ◌∙◌, arith, append_assoc, append-nil, length-append, length-drop}
-use Rattle.std.proofs.lemmas.List.{drop-set-add, length-take-le, drop-drop, drop-append-le, drop-take, take-take, take-append-le, take_at, drop_at, take_all, length-replicate}
-use Rattle.std.proofs.Math.Seq.{take-set-lt, take-add, take-append-add, drop-length}
+use Rattle.std.proofs.Common.{◌≡◌, ℕ, ◌+◌, ◌-◌, ◌≤◌, ◌<◌, min, List, ◌++◌, length, take, drop, set, replicate, ap, sym, subst, ◌∙◌, arith, append_assoc, append-nil, length-append, length-drop}
+use Rattle.std.proofs.lemmas.List.{drop-set-add, length-take-le, drop-drop, drop-append-le, drop-take, take-take, take_at, length-replicate}
+use Rattle.std.proofs.Math.Seq.{take-set-lt, take-append-add, drop-length}
 use Rattle.std.proofs.Math.ListN.{drop_of_length-le}
 use Rattle.std.proofs.lemmas.Bool.{cases_lt}
 use Rattle.std.proofs.Common.{◌⊎◌, inl, inr}

@@ -1,4 +1,4 @@
-use Rattle.std.proofs.Common.{ℕ, ◌≤◌, arith}
+use Rattle.std.proofs.Common.{arith}
 use Rattle.std.proofs.lemmas.List.Elements.{All-more}
 use Rattle.ecma_parser.specs.Printable.{IsPrintable}
 use Rattle.ecma_parser.proofs.parser.text_length.Goals as goal

@@ -1,4 +1,4 @@
-use Rattle.std.proofs.Common.{ℕ, List, [], ◌∷◌, ◌++◌, ◌+◌, ◌<◌, ◌≤◌, take, get_or, sym, subst, arith}
+use Rattle.std.proofs.Common.{◌++◌, ◌+◌, ◌≤◌, take, get_or, subst, arith}
 use Rattle.std.proofs.lemmas.List.{take_more}
 use Rattle.std.proofs.lemmas.List.Elements.{All-more}
 use Rattle.ecma_parser.specs.State.{Gives, control_by}
@@ -26,6 +26,6 @@ loop-i-preserved c =
     let i = c.loop-i.i in (
       All-more (λ b. b ≤ 0x7F) piece i 0 c.loop-i-test.true c.loop-i.invariant.0 (omega (arith, c.if-byte-ge128.false)),
       λ rest stands. subst (λ done. Gives (rest ++ take (i + 1) piece) (control_by done c.read-completed.new.self.sequence) c.read-completed.new.self) c.in-Nothing.is
-      (gives-next rest piece i (get_or piece i 0) (control_by c.read-completed.result c.read-completed.new.self.sequence) c.loop-i.self c.read-completed.new.self
-      (take_more piece i 0 c.loop-i-test.true) (c.loop-i.invariant.1 rest stands) c.read-completed.ensures),
+          (gives-next rest piece i (get_or piece i 0) (control_by c.read-completed.result c.read-completed.new.self.sequence) c.loop-i.self c.read-completed.new.self
+          (take_more piece i 0 c.loop-i-test.true) (c.loop-i.invariant.1 rest stands) c.read-completed.ensures),
     )

@@ -20,10 +20,10 @@ pub returns-clause-controls : goal.returns-clause-controls
 returns-clause-controls c = λ bytes past.
     let old = c.args.self.now in
     (run-ascii bytes (take c.read_ascii.result.1 c.args.piece.now) old.held old.machine c.read_ascii.new.self
-        (control_by c.read_ascii.result.0 c.read_ascii.new.self.sequence) past c.requires.alone c.read_ascii.ensures.ascii c.read_ascii.ensures.gives).controls
+    (control_by c.read_ascii.result.0 c.read_ascii.new.self.sequence) past c.requires.alone c.read_ascii.ensures.ascii c.read_ascii.ensures.gives).controls
 
 pub returns-clause-state : goal.returns-clause-state
 returns-clause-state c = λ bytes past.
     let old = c.args.self.now in
     (run-ascii bytes (take c.read_ascii.result.1 c.args.piece.now) old.held old.machine c.read_ascii.new.self
-        (control_by c.read_ascii.result.0 c.read_ascii.new.self.sequence) past c.requires.alone c.read_ascii.ensures.ascii c.read_ascii.ensures.gives).past
+    (control_by c.read_ascii.result.0 c.read_ascii.new.self.sequence) past c.requires.alone c.read_ascii.ensures.ascii c.read_ascii.ensures.gives).past

@@ -1,4 +1,4 @@
-use Rattle.std.proofs.Common.{◌≡◌, List, ◌++◌, ◌∷◌, [], take, sym, ◌∙◌}
+use Rattle.std.proofs.Common.{◌++◌, ◌∷◌, [], take, sym, ◌∙◌}
 use Rattle.std.proofs.Math.Logic.{∥∥₁_map}
 use Rattle.ecma_parser.specs.State.{control_by}
 use Rattle.ecma_parser.proofs.HeldLaws.{read-front}
@@ -27,11 +27,11 @@ returns-in-Some-clause-controls c = λ bytes past.
     let old = c.args.self.now in
     let front = read-front c.args.piece.now c.in-Some.c c.decode-found.result.1 (sym c.in-Some.is ∙ c.decode-found.ensures.char) c.decode-found.ensures.size in
     (run-whole bytes (take c.decode-found.result.1 c.args.piece.now) (c.in-Some.c ∷ []) old.held old.machine c.read.new.self
-        (control_by c.read.result c.read.new.self.sequence) past c.requires.alone front.1 c.read.ensures).controls
+    (control_by c.read.result c.read.new.self.sequence) past c.requires.alone front.1 c.read.ensures).controls
 
 pub returns-in-Some-clause-state : goal.returns-in-Some-clause-state
 returns-in-Some-clause-state c = λ bytes past.
     let old = c.args.self.now in
     let front = read-front c.args.piece.now c.in-Some.c c.decode-found.result.1 (sym c.in-Some.is ∙ c.decode-found.ensures.char) c.decode-found.ensures.size in
     (run-whole bytes (take c.decode-found.result.1 c.args.piece.now) (c.in-Some.c ∷ []) old.held old.machine c.read.new.self
-        (control_by c.read.result c.read.new.self.sequence) past c.requires.alone front.1 c.read.ensures).past
+    (control_by c.read.result c.read.new.self.sequence) past c.requires.alone front.1 c.read.ensures).past

@@ -1,4 +1,4 @@
-use Rattle.std.proofs.Common.{◌≤◌, ◌≡◌, ◌+◌, ◌-◌, length, ◌∙◌, ap, rules, arith}
+use Rattle.std.proofs.Common.{◌≤◌, ◌+◌, ◌-◌, length, ◌∙◌, rules, arith}
 use Rattle.std.proofs.lemmas.List.{with_items_is, places}
 use borrow.Rule.Slice.PartMut.{put_mid}
 use Rattle.screen_grid.proofs.Windows.{mid_on, mid_back}
