@@ -20,6 +20,7 @@ mod log;
 mod outgoing;
 mod progress;
 mod seats;
+mod showing;
 mod typing;
 
 pub use desk::Desk;
