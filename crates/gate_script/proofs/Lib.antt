@@ -1,7 +1,7 @@
 pub mod PieceLaws
-pub mod NumberLaws
 pub mod ReportLaws
 pub mod ShownLaws
+pub mod StepLaws
 pub mod TakenLaws
 pub mod SessionLaws
 pub mod OpenLaws

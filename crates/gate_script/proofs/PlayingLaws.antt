@@ -26,7 +26,7 @@ use Rattle.guac_framing.specs.declared.next.Next.{Next}
 use Rattle.guac_framing.specs.declared.next.Next.TheVariants.{More, Bad}
 use Rattle.guac_framing.specs.Answers.{IfBad, IfMore, IsWhole}
 use Rattle.guac_framing.specs.Found.{HasNoInstruction, IsBadPlace, IsUnfinished}
-use Rattle.frame_draw.specs.Readable.{AreReadable}
+use Rattle.gate_model.specs.Shape.{AreReadable}
 use Rattle.gate_script.specs.Playing.{IsPartPlayed}
 
 -- ---- what is read can be played

@@ -1,9 +1,9 @@
 -- One line more: what it tells, and how a call ends that stopped in it.
-use Rattle.std.proofs.Common.{◌≡◌, ℕ, List, [], ◌∷◌, ◌++◌, length, take, drop, arith, length-take, length-drop, ◌-◌, ◌+◌, Bool, true, false, inl, inr, refl, ap, sym, ◌∙◌, subst, append_assoc, append-nil}
+use Rattle.std.proofs.Common.{◌≡◌, ℕ, List, [], ◌∷◌, ◌++◌, length, take, drop, arith, length-take, length-drop, ◌-◌, ◌+◌, ◌≤◌, Bool, true, false, inl, inr, refl, ap, sym, ◌∙◌, subst, append_assoc, append-nil}
 use Rattle.std.specs.Prelude.{Result, Ok, Err, Option, Some, IfSome, min, codes, not, ◌&&◌, ◌==◌, if◌then◌else◌, IsTrue, ◌↔◌}
 use Rattle.std.specs.Option.{is_some}
 use Rattle.std.proofs.lemmas.List.{take_min}
-use Rattle.std.proofs.Math.ListN.{drop_of_length-le}
+use Rattle.std.proofs.Math.Seq.{take-length}
 use Rattle.gate_model.specs.declared.act.Act.{Act}
 use Rattle.gate_model.specs.declared.act.Act.TheVariants.{Sync as act_sync}
 use Rattle.gate_model.specs.declared.answer.Answer.{Answer}
@@ -19,10 +19,11 @@ use Rattle.gate_model.specs.declared.sharing.Share.{Share}
 use Rattle.gate_model.specs.declared.entry.Entry.{Entry}
 use Rattle.gate_model.specs.declared.entry.Entry.TheVariants.{Start, Feed, Join, Read, Write, Take, Leave, Close}
 use Rattle.gate_model.specs.declared.event.Event.{Event}
-use Rattle.gate_model.specs.declared.event.Event.TheVariants.{Feed as feed, Join as join_in, Read as read_as, Write as write_acts, Leave as leave_as, Close as close_for}
+use Rattle.gate_model.specs.declared.event.Event.TheVariants.{Feed as feed, Join as join_in, Read as read_as, Write as write_acts, Take as take_most, Leave as leave_as, Close as close_for}
 use Rattle.gate_model.specs.declared.joined.Joined.{Joined}
-use Rattle.gate_model.specs.declared.taken.Taken.{Taken}
 use Rattle.gate_model.specs.declared.written.Written.{Written}
+use Rattle.gate_model.specs.declared.feed_refusal.FeedRefusal.{FeedRefusal}
+use Rattle.gate_model.specs.declared.join_refusal.JoinRefusal.{JoinRefusal}
 use Rattle.gate_model.specs.declared.feed_refusal.FeedRefusal.TheVariants.{Worn as feed_worn}
 use Rattle.gate_model.specs.declared.join_refusal.JoinRefusal.TheVariants.{Worn as join_worn}
 use Rattle.gate_model.specs.declared.read_answer.ReadAnswer.{ReadAnswer}
@@ -37,13 +38,15 @@ use Rattle.gate_model.specs.History.{History, joined, newest, newest_frame, next
 use Rattle.gate_model.specs.Delivered.{delivered, given, position, ended}
 use Rattle.gate_model.specs.Output.{out, taken, untaken}
 use Rattle.gate_model.specs.Rights.{is_live}
-use Rattle.gate_model.specs.Refusals.{first_of, only_if, read_stop}
-use Rattle.gate_model.specs.Calls.{FeedStep, JoinStep, ReadStep, WriteStep, Step}
+use Rattle.gate_model.specs.Statuses.{not_found, session_closed}
+use Rattle.gate_model.specs.Calls.{Step, take_entry}
+use Rattle.gate_model.proofs.Stepping.{take_step}
+use Rattle.gate_model.specs.Runs.{handed_out}
 use Rattle.gate_model.proofs.Truth.{faithful}
 use Rattle.gate_outside.specs.Edge.{gained}
 use Rattle.gate_outside.proofs.Moved.{gained-none, gained-gained}
 use Rattle.desk_core.specs.Desk.{DeskState, Stands}
-use Rattle.desk_core.specs.Calls.{Opened, FeedEnds, JoinEnds, ReadEnds, WriteEnds, LeaveEnds, CloseEnds, Hands, OnNothing}
+use Rattle.desk_core.specs.Calls.{Opened, Answered, OnNothing}
 use Rattle.gate_script.specs.declared.refused.Refused.{Refused as Refusal}
 use Rattle.gate_script.specs.declared.refused.Refused.TheVariants.{BadLine, Worn}
 use Rattle.gate_script.specs.declared.size.Size.{Size}
@@ -56,6 +59,7 @@ use Rattle.gate_script.specs.Outcomes.{IsRefused}
 use Rattle.gate_script.specs.Seeing.{Canvases, AreShown, PlaysOn, TakesAway, canvas_at}
 use Rattle.gate_script.specs.Running.{Told, At, ShortOf, StoppedIn, Ends, Fronts, Reported, Put, read_shown, stopped_at}
 use Rattle.gate_script.proofs.ReportLaws.{said_alone, shown_alone, whole}
+use Rattle.gate_script.proofs.StepLaws.{IsFrames, feed_adds, feed_stopped, join_adds, join_stopped, read_adds, read_stopped, write_adds, write_stopped, leave_adds, leave_stopped, close_adds, close_stopped, not_fresh, take_is}
 use Rattle.gate_script.proofs.TakenLaws.{printed, tells}
 use Rattle.gate_script.proofs.ShownLaws.{shown_none, shown_plain, shown_join, shown_read, shown_still, shown_leave, given_by_join}
 use Rattle.canvas.specs.Kept.{KeptLayer}
@@ -63,7 +67,7 @@ use Rattle.canvas.specs.Standing.{Stands as stands_for, dot_at}
 use Rattle.canvas.specs.declared.dot.Dot.{Dot}
 use Rattle.gate_script.specs.declared.reading.Reading.TheVariants.{Whole, TooMany}
 use Rattle.gate_script.specs.Acts.{IsReading}
-use Rattle.frame_draw.specs.Readable.{AreReadable}
+use Rattle.gate_model.specs.Shape.{AreReadable}
 use Rattle.gate_model.specs.Layers.{Layers, Same, draw, nothing, visible}
 use Rattle.gate_script.specs.declared.session.Session.{Session}
 
@@ -148,27 +152,37 @@ pub line_ends : (line : Line) (lines : List Line) (p : Play) (now : ℕ) (h : Hi
 line_ends line lines p now h n a0 f0 a a' f f' answer shown t does stands canvases (Ok u) w = record { history = h; told = told-more line lines p a0 f0 a f t (play now h) answer shown a' f' does w.0 w.1; stands = stands; shown = canvases }
 line_ends line lines p now h n a0 f0 a a' f f' answer shown t does stands canvases (Err stop) w = stopped-more line lines p a0 f0 a f t (play now h) answer shown a' f' stop does (lawful n.desk h stands) w
 
-pub only : {A : Type 0} (x y : A) → x ∷ [] ≡ y ∷ [] → x ≡ y
-only x y e = cc
-
 same_items : (n m : Session) → n.canvases ≡ m.canvases → n.canvases.items ≡ m.canvases.items
 same_items n m e = rw e refl
 
 same_given : (n m : Session) → n.given ≡ m.given → n.given.items ≡ m.given.items
 same_given n m e = rw e refl
 
--- what an entry shows, by what it is
-framed-feed : (h : History) (e : Entry) (bytes : List ℕ) (stamp : ℕ) (frame : List Instr) → e ≡ Feed bytes stamp frame → frames_line 0 (texts (newest_frame (e ∷ h))) ≡ framings h (e ∷ [])
-framed-feed h e bytes stamp frame is = rw is (sym (append-nil (frames_line 0 (texts frame))))
+-- a call added this entry, and then the desk stands for the history with it
+pub record AddedOne (h : History) (event : Event) (answer : Answer) (new : DeskState) (before after : List ℕ) (e : Entry) : Type 0 where
+  pub step : Step h event answer (e ∷ [])
+  pub stands : Stands new (e ∷ h)
+  pub appended : after ≡ before ++ texts (handed_out h event answer (e ∷ []))
+
+pub added_one : (h : History) (event : Event) (answer : Answer) (new : DeskState) (before after : List ℕ) (ends : Answered h event answer new before after) (e : Entry) → ends.added ≡ e ∷ [] → AddedOne h event answer new before after e
+added_one h event answer new before after ends e is = record {
+  step = subst (Step h event answer) is ends.step;
+  stands = subst (λ (es : List Entry). Stands new (es ++ h)) is ends.stands;
+  appended = subst (λ (es : List Entry). after ≡ before ++ texts (handed_out h event answer es)) is ends.appended;
+}
+
+-- what an entry shows
+framed-feed : (h : History) (bytes : List ℕ) (stamp : ℕ) (frame : List Instr) → frames_line 0 (texts frame) ≡ framings h (Feed bytes stamp frame ∷ [])
+framed-feed h bytes stamp frame = sym (append-nil (frames_line 0 (texts frame)))
 
 framed-start : (e : Entry) (cols rows : ℕ) (mode : Share) (term : List ℕ) (entries stamp : ℕ) (frame : List Instr) → e ≡ Start cols rows mode term entries stamp frame → frames_line 0 (texts (newest_frame (e ∷ []))) ≡ framings [] (e ∷ [])
 framed-start e cols rows mode term entries stamp frame is = rw is (sym (append-nil (frames_line 0 (texts frame))))
 
-framed-join : (h : History) (e : Entry) (v : ℕ) (role : Role) (first : List Instr) → e ≡ Join v role first → frames_line v (texts (given h (delivered h v) v e)) ≡ framings h (e ∷ [])
-framed-join h e v role first is = rw is (ap (λ (l : List Instr). frames_line v (texts l)) (given_by_join h (Join v role first) v role first refl) ∙ sym (append-nil (frames_line v (texts first))))
+framed-join : (h : History) (v : ℕ) (role : Role) (first : List Instr) → frames_line v (texts (given h (delivered h v) v (Join v role first))) ≡ framings h (Join v role first ∷ [])
+framed-join h v role first = ap (λ (l : List Instr). frames_line v (texts l)) (given_by_join h (Join v role first) v role first refl) ∙ sym (append-nil (frames_line v (texts first)))
 
-framed-read : (h : History) (e : Entry) (v : ℕ) → e ≡ Read v Suffix → frames_line v (texts (given h (delivered h v) v e)) ≡ framings h (e ∷ [])
-framed-read h e v is = rw is (sym (append-nil (frames_line v (texts (given h (delivered h v) v (Read v Suffix))))))
+framed-read : (h : History) (v : ℕ) → frames_line v (texts (given h (delivered h v) v (Read v Suffix))) ≡ framings h (Read v Suffix ∷ [])
+framed-read h v = sym (append-nil (frames_line v (texts (given h (delivered h v) v (Read v Suffix)))))
 
 framed-take : (h : History) (count : ℕ) (none : Bool) → [] ≡ framings h (if none then [] else Take count ∷ [])
 framed-take h count true = refl
@@ -178,26 +192,12 @@ shown-take : (cs : Canvases) (h : History) (count : ℕ) (none : Bool) → AreSh
 shown-take cs h count true a = a
 shown-take cs h count false a = shown_plain cs h (Take count) a refl (λ v. refl) (λ v. refl) (λ v. refl)
 
-framed-write : (h : History) (e : Entry) (v : ℕ) (acts : List Act) → e ≡ Write v acts → [] ≡ framings h (e ∷ [])
-framed-write h e v acts is = rw is refl
-
--- a read that gives nothing never answers Fresh
-pub not_fresh : (h : History) (viewer stamp : ℕ) (closed : Bool) → read_stop h viewer ≡ Some (Ok (Fresh stamp closed)) → ⊥
-not_fresh h viewer stamp closed e = cases (is_live h viewer) (ended h viewer) (not (is_closed h) && position h viewer == newest h) (not (is_closed h) && is_full h) (read_worn (length h)) e
-  where
-    cases : (there over one two : Bool) (worn : ReadRefusal) → first_of (only_if (not there) (Err read_no_viewer) ∷ only_if over (Ok Ended) ∷ only_if one (Ok Empty) ∷ only_if two (Err worn) ∷ []) ≡ Some (Ok (Fresh stamp closed)) → ⊥
-    cases false over one two worn q = cc
-    cases true true one two worn q = cc
-    cases true false true two worn q = cc
-    cases true false false true worn q = cc
-    cases true false false false worn q = cc
-
 -- the session has started
 pub started : (lines : List Line) (size : Size) (mode : Share) (entries now : ℕ) (s : Session) (a0 f0 a a' f f' : Option (List ℕ)) → Told lines (play now []) a0 f0 a f → (o : Opened (setup_of size mode entries) now s.desk) → s.canvases.items ≡ []
     → (stamp : ℕ) (text : List ℕ) → stamp ≡ newest (o.entry ∷ []) → text ≡ texts (newest_frame (o.entry ∷ []))
     → (r : Result (Unit {0}) Stop) → Reported r (answer_line (codes "started") (stamp ∷ [])) (frames_line 0 text) a a' f f' → Ends (start size mode entries ∷ lines) now r s a0 f0 a' f'
 started lines size mode entries now s a0 f0 a a' f f' t o none stamp text stamp_is text_is r w =
-    let is = o.step.1 in
+    let is = o.step.4 in
     let newest_is : newest (o.entry ∷ []) ≡ next_stamp 0 now = ap (λ (e : Entry). newest (e ∷ [])) is in
     line_ends (start size mode entries) lines (play now []) now (o.entry ∷ []) s a0 f0 a a' f f' (answer_line (codes "started") (stamp ∷ [])) (frames_line 0 text) t
     (record {
@@ -206,8 +206,17 @@ started lines size mode entries now s a0 f0 a a' f f' t o none stamp text stamp_
       step = o.step;
       after_it = refl;
       answered = ap (λ (s : ℕ). answer_line (codes "started") (s ∷ [])) (stamp_is ∙ newest_is);
-      framed = ap (frames_line 0) text_is ∙ framed-start o.entry size.cols size.rows mode (codes "linux") entries (next_stamp 0 now) o.step.0 is;
+      framed = ap (frames_line 0) text_is ∙ framed-start o.entry size.cols size.rows mode (codes "linux") entries (next_stamp 0 now) o.step.1 is;
     }) o.stands (shown_none s.canvases.items (o.entry ∷ []) none (ap (λ (e : Entry). joined (e ∷ [])) is) (λ v. ap (λ (e : Entry). is_live (e ∷ []) v) is)) r w
+
+handed_is : (bs cs : List ℕ) (b c : Bool) → was_taken bs b ≡ was_taken cs c → (bs ≡ cs) × (b ≡ c)
+handed_is bs cs b c e = (cc, cc)
+
+-- a front of a list that is as long as the list
+take-all : (count : ℕ) (bytes : List ℕ) → length bytes ≤ count → take count bytes ≡ bytes
+take-all count bytes long =
+    let all : min count (length bytes) ≡ length bytes = omega (arith, long) in
+    sym (take_min count bytes) ∙ (ap (λ (k : ℕ). take k bytes) all ∙ take-length bytes)
 
 module _ (lines : List Line) (now : ℕ) (s : Session) (a0 f0 a f : Option (List ℕ)) (at : At lines now s a0 f0 a f) where
   abbrev pub p : Play
@@ -226,33 +235,52 @@ module _ (lines : List Line) (now : ℕ) (s : Session) (a0 f0 a f : Option (List
   pub out_of_memory : (line : Line) → StoppedIn (line ∷ lines) NoMemory a0 f0 a f
   out_of_memory line = no_memory line lines p a0 f0 a f at.told (lawful s.desk at.history at.stands)
 
+  -- no call of the line changed anything
+  pub was_stopped : (line : Line) (event : Event) (result : Answer) (answer : List ℕ) (n : Session) (before after : List ℕ) (ends : Answered at.history event result n.desk before after) → ends.added ≡ [] → (a' : Option (List ℕ)) → answer_to result event ≡ Some answer
+      → (Calls event p p answer [] → Does line p p answer []) → n.desk ≡ s.desk → n.canvases.items ≡ s.canvases.items → (r : Result (Unit {0}) Stop) → Put r answer a a' → Ends (line ∷ lines) now r n a0 f0 a' f
+  was_stopped line event result answer n before after ends none a' told does same seen_same r put = nothing_added line event result answer n a' (subst (Step at.history event result) none ends.step) told does same seen_same r put
+
   -- the host's bytes were fed
-  pub bytes_fed : (bytes : List ℕ) (stamp : ℕ) (n : Session) (ends : FeedEnds at.history bytes now (Ok stamp) n.desk) → n.canvases.items ≡ s.canvases.items → (text : List ℕ) → text ≡ texts (newest_frame (ends.entry ∷ at.history)) → (a' f' : Option (List ℕ)) (r : Result (Unit {0}) Stop)
+  pub bytes_fed : (bytes : List ℕ) (stamp : ℕ) (n : Session) → Answered at.history (feed bytes now) (fed (Ok stamp)) n.desk [] [] → n.canvases.items ≡ s.canvases.items → (text : List ℕ) → ((h : History) → Stands n.desk h → text ≡ texts (newest_frame h)) → (a' f' : Option (List ℕ)) (r : Result (Unit {0}) Stop)
       → Reported r (answer_line (codes "synced") (stamp ∷ [])) (frames_line 0 text) a a' f f' → Ends (server bytes ∷ lines) now r n a0 f0 a' f'
   bytes_fed bytes stamp n ends same text text_is a' f' r w =
-      let adds = ends.step.1 in
-      let is = only ends.entry (Feed bytes stamp adds.frame) adds.adds in
-      line_ends (server bytes) lines p now (ends.entry ∷ at.history) n a0 f0 a a' f f' (answer_line (codes "synced") (stamp ∷ [])) (frames_line 0 text) at.told
-      (record { result = fed (Ok stamp); added = ends.entry ∷ []; step = ends.step; told = refl; after_it = refl; framed = ap (frames_line 0) text_is ∙ framed-feed at.history ends.entry bytes stamp adds.frame is }) ends.stands
-      (subst (λ (cs : Canvases). AreShown cs (ends.entry ∷ at.history)) (sym same) (subst (λ (e : Entry). AreShown s.canvases.items (e ∷ at.history)) (sym is) (shown_plain s.canvases.items at.history (Feed bytes stamp adds.frame) at.shown refl (λ v. refl) (λ v. refl) (λ v. refl)))) r w
+      let adds = feed_adds at.history bytes now stamp ends.added ends.step in
+      let e : Entry = Feed bytes stamp adds.0 in
+      let one = added_one at.history (feed bytes now) (fed (Ok stamp)) n.desk [] [] ends e adds.1 in
+      line_ends (server bytes) lines p now (e ∷ at.history) n a0 f0 a a' f f' (answer_line (codes "synced") (stamp ∷ [])) (frames_line 0 text) at.told
+      (record { result = fed (Ok stamp); added = e ∷ []; step = one.step; told = refl; after_it = refl; framed = ap (frames_line 0) (text_is (e ∷ at.history) one.stands) ∙ framed-feed at.history bytes stamp adds.0 }) one.stands
+      (subst (λ (cs : Canvases). AreShown cs (e ∷ at.history)) (sym same) (shown_plain s.canvases.items at.history e at.shown refl (λ v. refl) (λ v. refl) (λ v. refl))) r w
 
-  pub feed_is_worn : (bytes : List ℕ) (entries : ℕ) → FeedStep at.history bytes now (Err (feed_worn entries)) [] → IsRefused (Worn entries) (server bytes) lines p
-  feed_is_worn bytes entries step = (fed (Err (feed_worn entries)), record { event = feed bytes now; makes = refl; step = step }, refl)
+  pub feed_refused : (bytes : List ℕ) (refusal : FeedRefusal) (answer : List ℕ) (n : Session) → Answered at.history (feed bytes now) (fed (Err refusal)) n.desk [] [] → (a' : Option (List ℕ)) → answer_to (fed (Err refusal)) (feed bytes now) ≡ Some answer
+      → n.desk ≡ s.desk → n.canvases.items ≡ s.canvases.items → (r : Result (Unit {0}) Stop) → Put r answer a a' → Ends (server bytes ∷ lines) now r n a0 f0 a' f
+  feed_refused bytes refusal answer n ends a' told same seen_same r put =
+      was_stopped (server bytes) (feed bytes now) (fed (Err refusal)) answer n [] [] ends (feed_stopped at.history bytes now refusal ends.added ends.step) a' told (λ calls. calls) same seen_same r put
+
+  pub feed_is_worn : (bytes : List ℕ) (entries : ℕ) (new : DeskState) → Answered at.history (feed bytes now) (fed (Err (feed_worn entries))) new [] [] → IsRefused (Worn entries) (server bytes) lines p
+  feed_is_worn bytes entries new ends =
+      (fed (Err (feed_worn entries)), record { event = feed bytes now; makes = refl; step = subst (Step at.history (feed bytes now) (fed (Err (feed_worn entries)))) (feed_stopped at.history bytes now (feed_worn entries) ends.added ends.step) ends.step }, refl)
 
   -- a viewer joined
-  pub viewer_joined : (asked : Asked) (given_ : Joined) (n : Session) (before text : List ℕ) (canvas : List KeptLayer) → before ≡ [] → JoinEnds at.history asked (Ok given_) n.desk before text → ((is : List Instr) → AreReadable is → text ≡ texts is → stands_for canvas (draw nothing is)) → n.canvases.items ≡ s.canvases.items ++ Some canvas ∷ [] → (a' f' : Option (List ℕ)) (r : Result (Unit {0}) Stop)
+  pub viewer_joined : (asked : Asked) (given_ : Joined) (n : Session) (before text : List ℕ) (canvas : List KeptLayer) → before ≡ [] → Answered at.history (join_in asked) (joined_as (Ok given_)) n.desk before text → ((is : List Instr) → AreReadable is → text ≡ texts is → stands_for canvas (draw nothing is)) → n.canvases.items ≡ s.canvases.items ++ Some canvas ∷ [] → (a' f' : Option (List ℕ)) (r : Result (Unit {0}) Stop)
       → Reported r (joined_line given_) (frames_line given_.viewer text) a a' f f' → Ends (join asked ∷ lines) now r n a0 f0 a' f'
   viewer_joined asked given_ n before text canvas none ends plays grown a' f' r w =
-      let adds = ends.step in
-      let is = only ends.entry (Join given_.viewer given_.role adds.first) adds.adds in
-      let text_is : text ≡ texts (given at.history (delivered at.history given_.viewer) given_.viewer ends.entry) = ends.appended ∙ ap (λ (l : List ℕ). l ++ texts (given at.history (delivered at.history given_.viewer) given_.viewer ends.entry)) none in
-      line_ends (join asked) lines p now (ends.entry ∷ at.history) n a0 f0 a a' f f' (joined_line given_) (frames_line given_.viewer text) at.told
-      (record { result = joined_as (Ok given_); added = ends.entry ∷ []; step = ends.step; told = refl; after_it = refl; framed = ap (frames_line given_.viewer) text_is ∙ framed-join at.history ends.entry given_.viewer given_.role adds.first is }) ends.stands
-      (subst (λ (cs : Canvases). AreShown cs (ends.entry ∷ at.history)) (sym grown) (shown_join s.canvases.items at.history ends.entry given_.viewer given_.role adds.first canvas n.desk s.desk is adds.joins.is_next at.stands ends.stands at.shown
-      (λ readable. plays adds.first readable (text_is ∙ ap texts (given_by_join at.history ends.entry given_.viewer given_.role adds.first is))))) r w
+      let adds = join_adds at.history asked given_ ends.added ends.step in
+      let e : Entry = Join given_.viewer given_.role adds.first in
+      let one = added_one at.history (join_in asked) (joined_as (Ok given_)) n.desk before text ends e adds.adds in
+      let text_is : text ≡ texts (given at.history (delivered at.history given_.viewer) given_.viewer e) = one.appended ∙ ap (λ (l : List ℕ). l ++ texts (given at.history (delivered at.history given_.viewer) given_.viewer e)) none in
+      line_ends (join asked) lines p now (e ∷ at.history) n a0 f0 a a' f f' (joined_line given_) (frames_line given_.viewer text) at.told
+      (record { result = joined_as (Ok given_); added = e ∷ []; step = one.step; told = refl; after_it = refl; framed = ap (frames_line given_.viewer) text_is ∙ framed-join at.history given_.viewer given_.role adds.first }) one.stands
+      (subst (λ (cs : Canvases). AreShown cs (e ∷ at.history)) (sym grown) (shown_join s.canvases.items at.history e given_.viewer given_.role adds.first canvas n.desk s.desk refl adds.is_next at.stands one.stands at.shown
+      (λ readable. plays adds.first readable (text_is ∙ ap texts (given_by_join at.history e given_.viewer given_.role adds.first refl))))) r w
 
-  pub join_is_worn : (asked : Asked) (entries : ℕ) → JoinStep at.history asked (Err (join_worn entries)) [] → IsRefused (Worn entries) (join asked) lines p
-  join_is_worn asked entries step = (joined_as (Err (join_worn entries)), record { event = join_in asked; makes = refl; step = step }, refl)
+  pub join_refused : (asked : Asked) (refusal : JoinRefusal) (answer : List ℕ) (n : Session) (before after : List ℕ) → Answered at.history (join_in asked) (joined_as (Err refusal)) n.desk before after → (a' : Option (List ℕ)) → answer_to (joined_as (Err refusal)) (join_in asked) ≡ Some answer
+      → n.desk ≡ s.desk → n.canvases.items ≡ s.canvases.items → (r : Result (Unit {0}) Stop) → Put r answer a a' → Ends (join asked ∷ lines) now r n a0 f0 a' f
+  join_refused asked refusal answer n before after ends a' told same seen_same r put =
+      was_stopped (join asked) (join_in asked) (joined_as (Err refusal)) answer n before after ends (join_stopped at.history asked refusal ends.added ends.step) a' told (λ calls. calls) same seen_same r put
+
+  pub join_is_worn : (asked : Asked) (entries : ℕ) (new : DeskState) (before after : List ℕ) → Answered at.history (join_in asked) (joined_as (Err (join_worn entries))) new before after → IsRefused (Worn entries) (join asked) lines p
+  join_is_worn asked entries new before after ends =
+      (joined_as (Err (join_worn entries)), record { event = join_in asked; makes = refl; step = subst (Step at.history (join_in asked) (joined_as (Err (join_worn entries)))) (join_stopped at.history asked (join_worn entries) ends.added ends.step) ends.step }, refl)
 
   -- what a read did that was answered: its call, and that the canvases go on to show what was given
   pub record HasReadLine (viewer : ℕ) (answer : ReadAnswer) (n : DeskState) (text : List ℕ) : Type 0 where
@@ -261,28 +289,30 @@ module _ (lines : List Line) (now : ℕ) (s : Session) (a0 f0 a f : Option (List
     pub stands : Stands n history
     pub shown : (cs : Canvases) → PlaysOn s.canvases.items cs viewer text → AreShown cs history
 
-  gave_nothing : (viewer : ℕ) (answer : ReadAnswer) (n : DeskState) (text : List ℕ) → ReadStep at.history viewer (Ok answer) [] → read_shown viewer text answer ≡ [] → n ≡ s.desk → text ≡ [] → HasReadLine viewer answer n text
-  gave_nothing viewer answer n text step unshown same none = record {
+  gave_nothing : (viewer : ℕ) (answer : ReadAnswer) (n : DeskState) (before text : List ℕ) → (IsFrames (Ok answer) → ⊥) → Answered at.history (read_as viewer) (was_read (Ok answer)) n before text → read_shown viewer text answer ≡ [] → n ≡ s.desk → text ≡ [] → HasReadLine viewer answer n text
+  gave_nothing viewer answer n before text other ends unshown same none = record {
     history = at.history;
-    calls = record { result = was_read (Ok answer); added = []; step = step; told = refl; after_it = refl; framed = unshown };
+    calls = record { result = was_read (Ok answer); added = []; step = subst (Step at.history (read_as viewer) (was_read (Ok answer))) (read_stopped at.history viewer (Ok answer) ends.added other ends.step) ends.step; told = refl; after_it = refl; framed = unshown };
     stands = subst (λ (k : DeskState). Stands k at.history) (sym same) at.stands;
     shown = λ cs plays. shown_still s.canvases.items cs at.history viewer text none at.shown plays;
   }
 
-  pub was_answered : (viewer : ℕ) (answer : ReadAnswer) (n : DeskState) (before text : List ℕ) → before ≡ [] → ReadEnds at.history viewer (Ok answer) n before text → OnNothing (Ok answer) (n ≡ s.desk) → OnNothing (Ok answer) (text ≡ before) → HasReadLine viewer answer n text
+  pub was_answered : (viewer : ℕ) (answer : ReadAnswer) (n : DeskState) (before text : List ℕ) → before ≡ [] → Answered at.history (read_as viewer) (was_read (Ok answer)) n before text → OnNothing (Ok answer) (n ≡ s.desk) → OnNothing (Ok answer) (text ≡ before) → HasReadLine viewer answer n text
   was_answered viewer (Frames count stamp closed) n before text none ends same kept =
-      let is = only ends.entry (Read viewer Suffix) ends.step.adds in
-      let text_is : text ≡ texts (given at.history (delivered at.history viewer) viewer ends.entry) = ends.appended ∙ ap (λ (l : List ℕ). l ++ texts (given at.history (delivered at.history viewer) viewer ends.entry)) none in
+      let e : Entry = Read viewer Suffix in
+      let answer : Answer = was_read (Ok (Frames count stamp closed)) in
+      let one = added_one at.history (read_as viewer) answer n before text ends e (read_adds at.history viewer count stamp closed ends.added ends.step) in
+      let text_is : text ≡ texts (given at.history (delivered at.history viewer) viewer e) = one.appended ∙ ap (λ (l : List ℕ). l ++ texts (given at.history (delivered at.history viewer) viewer e)) none in
       record {
-        history = ends.entry ∷ at.history;
-        calls = record { result = was_read (Ok (Frames count stamp closed)); added = ends.entry ∷ []; step = ends.step; told = refl; after_it = refl; framed = ap (frames_line viewer) text_is ∙ framed-read at.history ends.entry viewer is };
-        stands = ends.stands;
-        shown = λ cs plays. shown_read s.canvases.items cs at.history ends.entry viewer Suffix text n is ends.stands at.shown text_is plays;
+        history = e ∷ at.history;
+        calls = record { result = answer; added = e ∷ []; step = one.step; told = refl; after_it = refl; framed = ap (frames_line viewer) text_is ∙ framed-read at.history viewer };
+        stands = one.stands;
+        shown = λ cs plays. shown_read s.canvases.items cs at.history e viewer Suffix text n refl one.stands at.shown text_is plays;
       }
-  was_answered viewer (Fresh stamp closed) n before text none ends same kept = absurd (not_fresh at.history viewer stamp closed ends.0)
-  was_answered viewer Ended n before text none ends same kept = gave_nothing viewer Ended n text ends refl same (kept ∙ none)
-  was_answered viewer Empty n before text none ends same kept = gave_nothing viewer Empty n text ends refl same (kept ∙ none)
-  was_answered viewer (Hold waiting) n before text none ends same kept = gave_nothing viewer (Hold waiting) n text ends refl same (kept ∙ none)
+  was_answered viewer (Fresh stamp closed) n before text none ends same kept = absurd (not_fresh at.history viewer stamp closed ends.added ends.step)
+  was_answered viewer Ended n before text none ends same kept = gave_nothing viewer Ended n before text (λ frames. frames) ends refl same (kept ∙ none)
+  was_answered viewer Empty n before text none ends same kept = gave_nothing viewer Empty n before text (λ frames. frames) ends refl same (kept ∙ none)
+  was_answered viewer (Hold waiting) n before text none ends same kept = gave_nothing viewer (Hold waiting) n before text (λ frames. frames) ends refl same (kept ∙ none)
 
   pub read_line : (viewer : ℕ) (answer : ReadAnswer) (n : Session) (text : List ℕ) → (did : HasReadLine viewer answer n.desk text) → PlaysOn s.canvases.items n.canvases.items viewer text → (a' f' : Option (List ℕ)) (r : Result (Unit {0}) Stop)
       → Reported r (read_told answer) (read_shown viewer text answer) a a' f f' → Ends (read viewer ∷ lines) now r n a0 f0 a' f'
@@ -292,11 +322,20 @@ module _ (lines : List Line) (now : ℕ) (s : Session) (a0 f0 a f : Option (List
       → Put r (read_shown viewer text answer) f f' → Ends (read_untold viewer ∷ lines) now r n a0 f0 a f'
   untold_line viewer answer n text did plays f' r put = line_ends (read_untold viewer) lines p now did.history n a0 f0 a a f f' [] (read_shown viewer text answer) at.told (record { answer = read_told answer; calls = did.calls; nothing_told = refl }) did.stands (did.shown n.canvases.items plays) r (shown_alone (read_shown viewer text answer) a f f' r put)
 
-  pub read_is_worn : (viewer entries : ℕ) → ReadStep at.history viewer (Err (read_worn entries)) [] → IsRefused (Worn entries) (read viewer) lines p
-  read_is_worn viewer entries step = (was_read (Err (read_worn entries)), record { event = read_as viewer; makes = refl; step = step }, refl)
+  -- a read that is refused adds nothing
+  read_step_refused : (viewer : ℕ) (refusal : ReadRefusal) (new : DeskState) (before after : List ℕ) → Answered at.history (read_as viewer) (was_read (Err refusal)) new before after → Step at.history (read_as viewer) (was_read (Err refusal)) []
+  read_step_refused viewer refusal new before after ends = subst (Step at.history (read_as viewer) (was_read (Err refusal))) (read_stopped at.history viewer (Err refusal) ends.added (λ frames. frames) ends.step) ends.step
 
-  pub untold_is_worn : (viewer entries : ℕ) → ReadStep at.history viewer (Err (read_worn entries)) [] → IsRefused (Worn entries) (read_untold viewer) lines p
-  untold_is_worn viewer entries step = (was_read (Err (read_worn entries)), record { event = read_as viewer; makes = refl; step = step }, refl)
+  pub read_refused : (viewer : ℕ) (refusal : ReadRefusal) (answer : List ℕ) (n : Session) (before after : List ℕ) → Answered at.history (read_as viewer) (was_read (Err refusal)) n.desk before after → (a' : Option (List ℕ)) → answer_to (was_read (Err refusal)) (read_as viewer) ≡ Some answer
+      → n.desk ≡ s.desk → n.canvases.items ≡ s.canvases.items → (r : Result (Unit {0}) Stop) → Put r answer a a' → Ends (read viewer ∷ lines) now r n a0 f0 a' f
+  read_refused viewer refusal answer n before after ends a' told same seen_same r put =
+      nothing_added (read viewer) (read_as viewer) (was_read (Err refusal)) answer n a' (read_step_refused viewer refusal n.desk before after ends) told (λ calls. calls) same seen_same r put
+
+  pub read_is_worn : (viewer entries : ℕ) (new : DeskState) (before after : List ℕ) → Answered at.history (read_as viewer) (was_read (Err (read_worn entries))) new before after → IsRefused (Worn entries) (read viewer) lines p
+  read_is_worn viewer entries new before after ends = (was_read (Err (read_worn entries)), record { event = read_as viewer; makes = refl; step = read_step_refused viewer (read_worn entries) new before after ends }, refl)
+
+  pub untold_is_worn : (viewer entries : ℕ) (new : DeskState) (before after : List ℕ) → Answered at.history (read_as viewer) (was_read (Err (read_worn entries))) new before after → IsRefused (Worn entries) (read_untold viewer) lines p
+  untold_is_worn viewer entries new before after ends = (was_read (Err (read_worn entries)), record { event = read_as viewer; makes = refl; step = read_step_refused viewer (read_worn entries) new before after ends }, refl)
 
   -- nothing was added by a call whose answer isn't told
   pub untold_nothing : (line : Line) (event : Event) (result : Answer) (answer : List ℕ) (n : Session) → Step at.history event result [] → answer_to result event ≡ Some answer
@@ -304,25 +343,43 @@ module _ (lines : List Line) (now : ℕ) (s : Session) (a0 f0 a f : Option (List
   untold_nothing line event result answer n step told does same seen_same =
       line_ends line lines p now at.history n a0 f0 a a f f [] [] at.told (does (record { answer = answer; calls = record { result = result; added = []; step = step; told = told; after_it = refl; framed = refl }; nothing_told = refl })) (subst (λ (k : DeskState). Stands k at.history) (sym same) at.stands) (subst (λ (cs : Canvases). AreShown cs at.history) (sym seen_same) at.shown) (Ok tt) (sym (gained-none a), sym (gained-none f))
 
+  pub untold_refused : (viewer : ℕ) (refusal : ReadRefusal) (answer : List ℕ) (n : Session) (before after : List ℕ) → Answered at.history (read_as viewer) (was_read (Err refusal)) n.desk before after → answer_to (was_read (Err refusal)) (read_as viewer) ≡ Some answer → n.desk ≡ s.desk → n.canvases.items ≡ s.canvases.items
+      → Ends (read_untold viewer ∷ lines) now (Ok tt) n a0 f0 a f
+  untold_refused viewer refusal answer n before after ends told same seen_same = untold_nothing (read_untold viewer) (read_as viewer) (was_read (Err refusal)) answer n (read_step_refused viewer refusal n.desk before after ends) told (λ untold. untold) same seen_same
+
   -- viewer 1 acknowledged
-  pub acknowledged : (stamp : ℕ) → stamp ≡ newest at.history → (counts : Written) (n : Session) → WriteEnds at.history 1 (act_sync stamp ∷ []) (Ok counts) n.desk → n.canvases.items ≡ s.canvases.items → Ends (acknowledge 1 ∷ lines) now (Ok tt) n a0 f0 a f
-  acknowledged stamp is counts n ends same = acknowledges (subst (λ (t : ℕ). WriteEnds at.history 1 (act_sync t ∷ []) (Ok counts) n.desk) is ends)
+  pub acknowledged : (stamp : ℕ) → stamp ≡ newest at.history → (counts : Written) (n : Session) → Answered at.history (write_acts 1 (act_sync stamp ∷ [])) (was_written (Ok counts)) n.desk [] [] → n.canvases.items ≡ s.canvases.items → Ends (acknowledge 1 ∷ lines) now (Ok tt) n a0 f0 a f
+  acknowledged stamp is counts n ends same = acknowledges (subst (λ (t : ℕ). Answered at.history (write_acts 1 (act_sync t ∷ [])) (was_written (Ok counts)) n.desk [] []) is ends)
     where
-      acknowledges : WriteEnds at.history 1 (act_sync (newest at.history) ∷ []) (Ok counts) n.desk → Ends (acknowledge 1 ∷ lines) now (Ok tt) n a0 f0 a f
-      acknowledges e =
-          let entry_is = only e.entry (Write 1 (act_sync (newest at.history) ∷ [])) e.step.1.adds in
-          line_ends (acknowledge 1) lines p now (e.entry ∷ at.history) n a0 f0 a a f f [] [] at.told
-          (record { answer = answer_line (codes "written") (counts.keys ∷ counts.denied ∷ []); calls = record { result = was_written (Ok counts); added = e.entry ∷ []; step = e.step; told = refl; after_it = refl; framed = framed-write at.history e.entry 1 (act_sync (newest at.history) ∷ []) entry_is }; nothing_told = refl })
-          e.stands (subst (λ (cs : Canvases). AreShown cs (e.entry ∷ at.history)) (sym same) (subst (λ (x : Entry). AreShown s.canvases.items (x ∷ at.history)) (sym entry_is) (shown_plain s.canvases.items at.history (Write 1 (act_sync (newest at.history) ∷ [])) at.shown refl (λ v. refl) (λ v. refl) (λ v. refl)))) (Ok tt) (sym (gained-none a), sym (gained-none f))
+      acknowledges : Answered at.history (write_acts 1 (act_sync (newest at.history) ∷ [])) (was_written (Ok counts)) n.desk [] [] → Ends (acknowledge 1 ∷ lines) now (Ok tt) n a0 f0 a f
+      acknowledges ends =
+          let acts : List Act = act_sync (newest at.history) ∷ [] in
+          let one = added_one at.history (write_acts 1 acts) (was_written (Ok counts)) n.desk [] [] ends (Write 1 acts) (write_adds at.history 1 acts counts ends.added ends.step) in
+          line_ends (acknowledge 1) lines p now (Write 1 acts ∷ at.history) n a0 f0 a a f f [] [] at.told
+          (record { answer = answer_line (codes "written") (counts.keys ∷ counts.denied ∷ []); calls = record { result = was_written (Ok counts); added = Write 1 acts ∷ []; step = one.step; told = refl; after_it = refl; framed = refl }; nothing_told = refl })
+          one.stands (subst (λ (cs : Canvases). AreShown cs (Write 1 acts ∷ at.history)) (sym same) (shown_plain s.canvases.items at.history (Write 1 acts) at.shown refl (λ v. refl) (λ v. refl) (λ v. refl))) (Ok tt) (sym (gained-none a), sym (gained-none f))
+
+  -- a write that is refused adds nothing
+  write_step_refused : (viewer : ℕ) (acts : List Act) (refusal : WriteRefusal) (new : DeskState) → Answered at.history (write_acts viewer acts) (was_written (Err refusal)) new [] [] → Step at.history (write_acts viewer acts) (was_written (Err refusal)) []
+  write_step_refused viewer acts refusal new ends = subst (Step at.history (write_acts viewer acts) (was_written (Err refusal))) (write_stopped at.history viewer acts refusal ends.added ends.step) ends.step
 
   -- the write was refused, which isn't told
-  pub write_refused : (stamp : ℕ) → stamp ≡ newest at.history → (refusal : WriteRefusal) (answer : List ℕ) (n : Session) → WriteStep at.history 1 (act_sync stamp ∷ []) (Err refusal) [] → write_answer (Err refusal) ≡ Some answer → n.desk ≡ s.desk → n.canvases.items ≡ s.canvases.items
+  pub write_refused : (stamp : ℕ) → stamp ≡ newest at.history → (refusal : WriteRefusal) (answer : List ℕ) (n : Session) → Answered at.history (write_acts 1 (act_sync stamp ∷ [])) (was_written (Err refusal)) n.desk [] [] → write_answer (Err refusal) ≡ Some answer → n.desk ≡ s.desk → n.canvases.items ≡ s.canvases.items
       → Ends (acknowledge 1 ∷ lines) now (Ok tt) n a0 f0 a f
-  write_refused stamp is refusal answer n step told same seen_same =
-      untold_nothing (acknowledge 1) (write_acts 1 (act_sync (newest at.history) ∷ [])) (was_written (Err refusal)) answer n (subst (λ (t : ℕ). WriteStep at.history 1 (act_sync t ∷ []) (Err refusal) []) is step) told (λ untold. untold) same seen_same
+  write_refused stamp is refusal answer n ends told same seen_same =
+      untold_nothing (acknowledge 1) (write_acts 1 (act_sync (newest at.history) ∷ [])) (was_written (Err refusal)) answer n
+      (subst (λ (t : ℕ). Step at.history (write_acts 1 (act_sync t ∷ [])) (was_written (Err refusal)) []) is (write_step_refused 1 (act_sync stamp ∷ []) refusal n.desk ends)) told (λ untold. untold) same seen_same
 
-  pub write_is_worn : (stamp : ℕ) → stamp ≡ newest at.history → (entries : ℕ) → WriteStep at.history 1 (act_sync stamp ∷ []) (Err (write_worn entries)) [] → IsRefused (Worn entries) (acknowledge 1) lines p
-  write_is_worn stamp is entries step = (was_written (Err (write_worn entries)), record { event = write_acts 1 (act_sync (newest at.history) ∷ []); makes = refl; step = subst (λ (t : ℕ). WriteStep at.history 1 (act_sync t ∷ []) (Err (write_worn entries)) []) is step }, refl)
+  pub write_is_worn : (stamp : ℕ) → stamp ≡ newest at.history → (entries : ℕ) (new : DeskState) → Answered at.history (write_acts 1 (act_sync stamp ∷ [])) (was_written (Err (write_worn entries))) new [] [] → IsRefused (Worn entries) (acknowledge 1) lines p
+  write_is_worn stamp is entries new ends = (
+    was_written (Err (write_worn entries)),
+    record {
+      event = write_acts 1 (act_sync (newest at.history) ∷ []);
+      makes = refl;
+      step = subst (λ (t : ℕ). Step at.history (write_acts 1 (act_sync t ∷ [])) (was_written (Err (write_worn entries))) []) is (write_step_refused 1 (act_sync stamp ∷ []) (write_worn entries) new ends);
+    },
+    refl,
+  )
 
   -- the newest stamp was told
   pub all_told : (stamp : ℕ) → stamp ≡ newest at.history → (a' : Option (List ℕ)) (n : Session) → n.desk ≡ s.desk → n.canvases.items ≡ s.canvases.items → (r : Result (Unit {0}) Stop) → Put r (answer_line (codes "done") (stamp ∷ [])) a a' → Ends (done ∷ lines) now r n a0 f0 a' f
@@ -330,15 +387,15 @@ module _ (lines : List Line) (now : ℕ) (s : Session) (a0 f0 a f : Option (List
       line_ends done lines p now at.history n a0 f0 a a' f f (answer_line (codes "done") (stamp ∷ [])) [] at.told (record { same = refl; answered = ap (λ (t : ℕ). answer_line (codes "done") (t ∷ [])) is; framed = refl }) (subst (λ (k : DeskState). Stands k at.history) (sym same) at.stands) (subst (λ (cs : Canvases). AreShown cs at.history) (sym seen_same) at.shown) r (said_alone (answer_line (codes "done") (stamp ∷ [])) a a' f r put)
 
   -- a viewer joined, and its canvas was pushed
-  pub join_done : (asked : Asked) (given_ : Joined) (m n : Session) (before : List ℕ) (canvas : List KeptLayer) → before ≡ [] → JoinEnds at.history asked (Ok given_) m.desk before m.given.items → ((is : List Instr) → AreReadable is → m.given.items ≡ texts is → stands_for canvas (draw nothing is)) → m.canvases.items ≡ s.canvases.items ++ Some canvas ∷ []
+  pub join_done : (asked : Asked) (given_ : Joined) (m n : Session) (before : List ℕ) (canvas : List KeptLayer) → before ≡ [] → Answered at.history (join_in asked) (joined_as (Ok given_)) m.desk before m.given.items → ((is : List Instr) → AreReadable is → m.given.items ≡ texts is → stands_for canvas (draw nothing is)) → m.canvases.items ≡ s.canvases.items ++ Some canvas ∷ []
       → n.desk ≡ m.desk → n.canvases ≡ m.canvases → (a' f' : Option (List ℕ)) (r : Result (Unit {0}) Stop) → Reported r (joined_line given_) (frames_line given_.viewer m.given.items) a a' f f' → Ends (join asked ∷ lines) now r n a0 f0 a' f'
   join_done asked given_ m n before canvas none ends plays grown desk_is canvases_are a' f' r w =
-      viewer_joined asked given_ n before m.given.items canvas none (subst (λ (d : DeskState). JoinEnds at.history asked (Ok given_) d before m.given.items) (sym desk_is) ends) plays (same_items n m canvases_are ∙ grown) a' f' r w
+      viewer_joined asked given_ n before m.given.items canvas none (subst (λ (d : DeskState). Answered at.history (join_in asked) (joined_as (Ok given_)) d before m.given.items) (sym desk_is) ends) plays (same_items n m canvases_are ∙ grown) a' f' r w
 
   -- the session b after a viewer's read, m after what was given was played
   pub record ReadThenPlayed (viewer : ℕ) (answer : ReadAnswer) (b m n : Session) (before : List ℕ) : Type 0 where
     pub none : before ≡ []
-    pub ends : ReadEnds at.history viewer (Ok answer) b.desk before b.given.items
+    pub ends : Answered at.history (read_as viewer) (was_read (Ok answer)) b.desk before b.given.items
     pub unchanged : OnNothing (Ok answer) (b.desk ≡ s.desk)
     pub buffer : OnNothing (Ok answer) (b.given.items ≡ before)
     pub played : PlaysOn s.canvases.items m.canvases.items viewer b.given.items
@@ -371,83 +428,90 @@ module _ (lines : List Line) (now : ℕ) (s : Session) (a0 f0 a f : Option (List
       line_ends line lines p now at.history n a0 f0 a a' f f answer [] at.told (does (record { same = refl; answered = refl; framed = refl })) (subst (λ (k : DeskState). Stands k at.history) (sym same) at.stands) (subst (λ (cs : Canvases). AreShown cs at.history) (sym seen_same) at.shown) r (said_alone answer a a' f r put)
 
   -- the acts of a text were written
-  pub acts_written : (viewer : ℕ) (text : List ℕ) (acts : List Act) (passed : ℕ) → IsReading text (Whole acts passed) → (counts : Written) (n : Session) → WriteEnds at.history viewer acts (Ok counts) n.desk → n.canvases.items ≡ s.canvases.items
+  pub acts_written : (viewer : ℕ) (text : List ℕ) (acts : List Act) (passed : ℕ) → IsReading text (Whole acts passed) → (counts : Written) (n : Session) → Answered at.history (write_acts viewer acts) (was_written (Ok counts)) n.desk [] [] → n.canvases.items ≡ s.canvases.items
       → (keys denied others : ℕ) → keys ≡ counts.keys → denied ≡ counts.denied → others ≡ passed → (a' : Option (List ℕ)) (r : Result (Unit {0}) Stop) → Put r (answer_line (codes "written") (keys ∷ denied ∷ others ∷ [])) a a' → Ends (write viewer text ∷ lines) now r n a0 f0 a' f
-  acts_written viewer text acts passed is_reading counts n e same keys denied others keys_is denied_is others_is a' r put =
-      let entry_is = only e.entry (Write viewer acts) e.step.1.adds in
+  acts_written viewer text acts passed is_reading counts n ends same keys denied others keys_is denied_is others_is a' r put =
+      let one = added_one at.history (write_acts viewer acts) (was_written (Ok counts)) n.desk [] [] ends (Write viewer acts) (write_adds at.history viewer acts counts ends.added ends.step) in
       let line_is : answer_line (codes "written") (keys ∷ denied ∷ others ∷ []) ≡ written_line counts passed = rw (keys_is, denied_is, others_is) refl in
-      line_ends (write viewer text) lines p now (e.entry ∷ at.history) n a0 f0 a a' f f (written_line counts passed) [] at.told
-      (Whole acts passed, is_reading, record { result = Ok counts; added = e.entry ∷ []; step = e.step; told = refl; after_it = refl; framed = framed-write at.history e.entry viewer acts entry_is })
-      e.stands (subst (λ (cs : Canvases). AreShown cs (e.entry ∷ at.history)) (sym same) (subst (λ (x : Entry). AreShown s.canvases.items (x ∷ at.history)) (sym entry_is) (shown_plain s.canvases.items at.history (Write viewer acts) at.shown refl (λ v. refl) (λ v. refl) (λ v. refl)))) r
+      line_ends (write viewer text) lines p now (Write viewer acts ∷ at.history) n a0 f0 a a' f f (written_line counts passed) [] at.told
+      (Whole acts passed, is_reading, record { result = Ok counts; added = Write viewer acts ∷ []; step = one.step; told = refl; after_it = refl; framed = refl })
+      one.stands (subst (λ (cs : Canvases). AreShown cs (Write viewer acts ∷ at.history)) (sym same) (shown_plain s.canvases.items at.history (Write viewer acts) at.shown refl (λ v. refl) (λ v. refl) (λ v. refl))) r
       (said_alone (written_line counts passed) a a' f r (subst (λ (text_ : List ℕ). Put r text_ a a') line_is put))
 
   -- they were refused
-  pub acts_refused : (viewer : ℕ) (text : List ℕ) (acts : List Act) (passed : ℕ) → IsReading text (Whole acts passed) → (refusal : WriteRefusal) (answer : List ℕ) (n : Session) → WriteStep at.history viewer acts (Err refusal) [] → write_answer (Err refusal) ≡ Some answer → n.desk ≡ s.desk → n.canvases.items ≡ s.canvases.items
+  pub acts_refused : (viewer : ℕ) (text : List ℕ) (acts : List Act) (passed : ℕ) → IsReading text (Whole acts passed) → (refusal : WriteRefusal) (answer : List ℕ) (n : Session) → Answered at.history (write_acts viewer acts) (was_written (Err refusal)) n.desk [] [] → write_answer (Err refusal) ≡ Some answer → n.desk ≡ s.desk → n.canvases.items ≡ s.canvases.items
       → (a' : Option (List ℕ)) (r : Result (Unit {0}) Stop) → Put r answer a a' → Ends (write viewer text ∷ lines) now r n a0 f0 a' f
-  acts_refused viewer text acts passed is_reading refusal answer n step told same seen_same a' r put =
+  acts_refused viewer text acts passed is_reading refusal answer n ends told same seen_same a' r put =
       line_ends (write viewer text) lines p now at.history n a0 f0 a a' f f answer [] at.told
-      (Whole acts passed, is_reading, record { result = Err refusal; added = []; step = step; told = told; after_it = refl; framed = refl })
+      (Whole acts passed, is_reading, record { result = Err refusal; added = []; step = write_step_refused viewer acts refusal n.desk ends; told = told; after_it = refl; framed = refl })
       (subst (λ (k : DeskState). Stands k at.history) (sym same) at.stands) (subst (λ (cs : Canvases). AreShown cs at.history) (sym seen_same) at.shown) r (said_alone answer a a' f r put)
 
-  pub acts_are_worn : (viewer : ℕ) (text : List ℕ) (acts : List Act) (passed : ℕ) → IsReading text (Whole acts passed) → (entries : ℕ) → WriteStep at.history viewer acts (Err (write_worn entries)) [] → IsRefused (Worn entries) (write viewer text) lines p
-  acts_are_worn viewer text acts passed is_reading entries step = (was_written (Err (write_worn entries)), record { event = write_acts viewer acts; makes = (acts, passed, is_reading, refl); step = step }, refl)
+  pub acts_are_worn : (viewer : ℕ) (text : List ℕ) (acts : List Act) (passed : ℕ) → IsReading text (Whole acts passed) → (entries : ℕ) (new : DeskState) → Answered at.history (write_acts viewer acts) (was_written (Err (write_worn entries))) new [] [] → IsRefused (Worn entries) (write viewer text) lines p
+  acts_are_worn viewer text acts passed is_reading entries new ends = (was_written (Err (write_worn entries)), record { event = write_acts viewer acts; makes = (acts, passed, is_reading, refl); step = write_step_refused viewer acts (write_worn entries) new ends }, refl)
 
   -- a text with too many instructions ends the run
   pub too_long : (viewer : ℕ) (text : List ℕ) (stop : Stop) → IsReading text TooMany → stop ≡ stopped_at (length lines + 1) → StoppedIn (write viewer text ∷ lines) stop a0 f0 a f
   too_long viewer text stop is_reading is = subst (λ (x : Stop). StoppedIn (write viewer text ∷ lines) x a0 f0 a f) (sym is) (refuses (write viewer text) (BadLine (length lines + 1)) (inr is_reading, refl))
 
   -- bytes were taken for the host, and filled the buffer
-  pub bytes_taken : (most : ℕ) (before after : List ℕ) (given_ : Taken) (n : Session) → length before ≡ min (length (out at.history) - taken at.history) most → Hands at.history before given_ n.desk after → n.canvases.items ≡ s.canvases.items
+  pub bytes_taken : (most count : ℕ) (closed : Bool) (before after : List ℕ) (n : Session) → length before ≡ min (length (out at.history) - taken at.history) most → length after ≡ length before → Answered at.history (take_most (length before)) (was_taken (take count after) closed) n.desk [] [] → n.canvases.items ≡ s.canvases.items
       → (a' : Option (List ℕ)) (r : Result (Unit {0}) Stop) → Put r (took_line after) a a' → Ends (take_up_to most ∷ lines) now r n a0 f0 a' f
-  bytes_taken most before after given_ n sized hands same a' r put =
+  bytes_taken most count closed before after n sized kept ends same a' r put =
       let waiting : List ℕ = untaken at.history in
       let size : length before ≡ min most (length waiting) = omega (arith, sized, length-drop (taken at.history) (out at.history)) in
-      let filled : hands.bytes ≡ take most waiting = hands.step.hands ∙ (ap (λ (k : ℕ). take k waiting) size ∙ take_min most waiting) in
-      let over : drop (length hands.bytes) before ≡ [] = drop_of_length-le before (omega (arith, size, ap length filled, length-take most waiting)) in
-      let all : after ≡ hands.bytes = hands.handed ∙ (ap (λ (l : List ℕ). hands.bytes ++ l) over ∙ append-nil hands.bytes) in
-      let none : Bool = length hands.bytes == 0 in
-      line_ends (take_up_to most) lines p now (hands.added ++ at.history) n a0 f0 a a' f f (took_line after) [] at.told
+      let is = take_is at.history (length before) (was_taken (take count after) closed) ends.added ends.step in
+      let told = handed_is (take count after) (take (length before) waiting) closed (is_closed at.history) is.told in
+      let next : take (length before) waiting ≡ take most waiting = ap (λ (k : ℕ). take k waiting) size ∙ take_min most waiting in
+      let whole_is : take count after ≡ after = take-all count after (omega (arith, length-take count after, ap length told.0, length-take (length before) waiting, size, kept)) in
+      let filled : after ≡ take most waiting = sym whole_is ∙ (told.0 ∙ next) in
+      let none : Bool = length after == 0 in
+      let adds : ends.added ≡ take_entry (length after) = is.adds ∙ ap (λ (l : List ℕ). take_entry (length l)) (sym told.0 ∙ whole_is) in
+      line_ends (take_up_to most) lines p now (take_entry (length after) ++ at.history) n a0 f0 a a' f f (took_line after) [] at.told
       (record {
-        result = was_taken hands.bytes given_.closed;
-        added = hands.added;
-        step = record { hands = filled; closes = hands.step.closes; adds = hands.step.adds };
-        told = ap (λ (l : List ℕ). Some (took_line l)) (sym all);
+        result = was_taken after closed;
+        added = take_entry (length after);
+        step = take_step at.history most after closed filled told.1;
+        told = refl;
         after_it = refl;
-        framed = subst (λ (es : List Entry). [] ≡ framings at.history es) (sym hands.step.adds) (framed-take at.history (length hands.bytes) none);
+        framed = framed-take at.history (length after) none;
       })
-      hands.stands
-      (subst (λ (cs : Canvases). AreShown cs (hands.added ++ at.history)) (sym same) (subst (λ (es : List Entry). AreShown s.canvases.items (es ++ at.history)) (sym hands.step.adds) (shown-take s.canvases.items at.history (length hands.bytes) none at.shown))) r
+      (subst (λ (es : List Entry). Stands n.desk (es ++ at.history)) adds ends.stands)
+      (subst (λ (cs : Canvases). AreShown cs (take_entry (length after) ++ at.history)) (sym same) (shown-take s.canvases.items at.history (length after) none at.shown)) r
       (said_alone (took_line after) a a' f r put)
 
   -- the viewer left, and its canvas was taken away
-  pub viewer_left : (viewer : ℕ) (u : Unit {0}) (old : DeskState) (m n : Session) → LeaveEnds at.history viewer (Ok (Ok u)) old m.desk → TakesAway s.canvases.items m.canvases.items viewer → n.desk ≡ m.desk → n.canvases.items ≡ m.canvases.items
+  pub viewer_left : (viewer : ℕ) (u : Unit {0}) (m n : Session) → Answered at.history (leave_as viewer) (was_left (Ok u)) m.desk [] [] → TakesAway s.canvases.items m.canvases.items viewer → n.desk ≡ m.desk → n.canvases.items ≡ m.canvases.items
       → (a' : Option (List ℕ)) (r : Result (Unit {0}) Stop) → Put r (answer_line (codes "left") (viewer ∷ [])) a a' → Ends (leave viewer ∷ lines) now r n a0 f0 a' f
-  viewer_left viewer u old m n ends taken_away desk_is canvases_are a' r put =
-      let entry_is = only ends.entry (Leave viewer) ends.step.1 in
-      line_ends (leave viewer) lines p now (ends.entry ∷ at.history) n a0 f0 a a' f f (answer_line (codes "left") (viewer ∷ [])) [] at.told
-      (record { result = was_left (Ok u); added = ends.entry ∷ []; step = ends.step; told = refl; after_it = refl; framed = rw entry_is refl })
-      (subst (λ (d : DeskState). Stands d (ends.entry ∷ at.history)) (sym desk_is) ends.stands)
-      (subst (λ (cs : Canvases). AreShown cs (ends.entry ∷ at.history)) (sym canvases_are) (shown_leave s.canvases.items m.canvases.items at.history ends.entry viewer entry_is at.shown taken_away)) r
+  viewer_left viewer u m n ends taken_away desk_is canvases_are a' r put =
+      let e : Entry = Leave viewer in
+      let one = added_one at.history (leave_as viewer) (was_left (Ok u)) m.desk [] [] ends e (leave_adds at.history viewer u ends.added ends.step) in
+      line_ends (leave viewer) lines p now (e ∷ at.history) n a0 f0 a a' f f (answer_line (codes "left") (viewer ∷ [])) [] at.told
+      (record { result = was_left (Ok u); added = e ∷ []; step = one.step; told = refl; after_it = refl; framed = refl })
+      (subst (λ (d : DeskState). Stands d (e ∷ at.history)) (sym desk_is) one.stands)
+      (subst (λ (cs : Canvases). AreShown cs (e ∷ at.history)) (sym canvases_are) (shown_leave s.canvases.items m.canvases.items at.history e viewer refl at.shown taken_away)) r
       (said_alone (answer_line (codes "left") (viewer ∷ [])) a a' f r put)
 
-  pub leave_refused : (viewer : ℕ) (refusal : NoViewer) (n : Session) → LeaveEnds at.history viewer (Ok (Err refusal)) s.desk n.desk → n.canvases.items ≡ s.canvases.items
-      → (a' : Option (List ℕ)) (r : Result (Unit {0}) Stop) → Put r (refused_line 516) a a' → Ends (leave viewer ∷ lines) now r n a0 f0 a' f
-  leave_refused viewer refusal n ends same a' r put = nothing_added (leave viewer) (leave_as viewer) (was_left (Err refusal)) (refused_line 516) n a' ends.0 refl (λ calls. calls) ends.1 same r put
+  pub leave_refused : (viewer : ℕ) (refusal : NoViewer) (n : Session) → Answered at.history (leave_as viewer) (was_left (Err refusal)) n.desk [] [] → n.desk ≡ s.desk → n.canvases.items ≡ s.canvases.items
+      → (a' : Option (List ℕ)) (r : Result (Unit {0}) Stop) → Put r (refused_line not_found) a a' → Ends (leave viewer ∷ lines) now r n a0 f0 a' f
+  leave_refused viewer refusal n ends same seen_same a' r put =
+      was_stopped (leave viewer) (leave_as viewer) (was_left (Err refusal)) (refused_line not_found) n [] [] ends (leave_stopped at.history viewer refusal ends.added ends.step) a' refl (λ calls. calls) same seen_same r put
 
   -- the session was closed
-  pub session_closed : (u : Unit {0}) (old : DeskState) (n : Session) → CloseEnds at.history Stopped (Ok (Ok u)) old n.desk → n.canvases.items ≡ s.canvases.items
+  pub session_ended : (u : Unit {0}) (n : Session) → Answered at.history (close_for Stopped) (was_closed (Ok u)) n.desk [] [] → n.canvases.items ≡ s.canvases.items
       → (a' : Option (List ℕ)) (r : Result (Unit {0}) Stop) → Put r (answer_line (codes "closed") []) a a' → Ends (close ∷ lines) now r n a0 f0 a' f
-  session_closed u old n ends same a' r put =
-      let entry_is = only ends.entry (Close Stopped) ends.step.1 in
-      line_ends close lines p now (ends.entry ∷ at.history) n a0 f0 a a' f f (answer_line (codes "closed") []) [] at.told
-      (record { result = was_closed (Ok u); added = ends.entry ∷ []; step = ends.step; told = refl; after_it = refl; framed = rw entry_is refl })
-      ends.stands
-      (subst (λ (cs : Canvases). AreShown cs (ends.entry ∷ at.history)) (sym same) (subst (λ (x : Entry). AreShown s.canvases.items (x ∷ at.history)) (sym entry_is) (shown_plain s.canvases.items at.history (Close Stopped) at.shown refl (λ v. refl) (λ v. refl) (λ v. refl)))) r
+  session_ended u n ends same a' r put =
+      let e : Entry = Close Stopped in
+      let one = added_one at.history (close_for Stopped) (was_closed (Ok u)) n.desk [] [] ends e (close_adds at.history Stopped u ends.added ends.step) in
+      line_ends close lines p now (e ∷ at.history) n a0 f0 a a' f f (answer_line (codes "closed") []) [] at.told
+      (record { result = was_closed (Ok u); added = e ∷ []; step = one.step; told = refl; after_it = refl; framed = refl })
+      one.stands
+      (subst (λ (cs : Canvases). AreShown cs (e ∷ at.history)) (sym same) (shown_plain s.canvases.items at.history e at.shown refl (λ v. refl) (λ v. refl) (λ v. refl))) r
       (said_alone (answer_line (codes "closed") []) a a' f r put)
 
-  pub close_refused : (refusal : Closed) (n : Session) → CloseEnds at.history Stopped (Ok (Err refusal)) s.desk n.desk → n.canvases.items ≡ s.canvases.items
-      → (a' : Option (List ℕ)) (r : Result (Unit {0}) Stop) → Put r (refused_line 523) a a' → Ends (close ∷ lines) now r n a0 f0 a' f
-  close_refused refusal n ends same a' r put = nothing_added close (close_for Stopped) (was_closed (Err refusal)) (refused_line 523) n a' ends.0 refl (λ calls. calls) ends.1 same r put
+  pub close_refused : (refusal : Closed) (n : Session) → Answered at.history (close_for Stopped) (was_closed (Err refusal)) n.desk [] [] → n.desk ≡ s.desk → n.canvases.items ≡ s.canvases.items
+      → (a' : Option (List ℕ)) (r : Result (Unit {0}) Stop) → Put r (refused_line session_closed) a a' → Ends (close ∷ lines) now r n a0 f0 a' f
+  close_refused refusal n ends same seen_same a' r put =
+      was_stopped close (close_for Stopped) (was_closed (Err refusal)) (refused_line session_closed) n [] [] ends (close_stopped at.history Stopped refusal ends.added ends.step) a' refl (λ calls. calls) same seen_same r put
 
   -- who is there has a canvas
   live_is : (viewer : ℕ) (cs : Canvases) (b : Bool) → cs ≡ s.canvases.items → b ≡ is_some (canvas_at cs viewer) → is_live at.history viewer ≡ b
@@ -457,10 +521,10 @@ module _ (lines : List Line) (now : ℕ) (s : Session) (a0 f0 a f : Option (List
   pub pixel_told : (viewer x y : ℕ) (dot : Dot) (cs : Canvases) → cs ≡ s.canvases.items → true ≡ is_some (canvas_at cs viewer) → ((m : Layers) → IfSome (canvas_at cs viewer) (λ canvas. stands_for canvas m) → dot ≡ dot_at (m visible) x y) → pixel_line dot ≡ pixel_answer at.history viewer x y
   pixel_told viewer x y dot cs cs_are is dots =
       let shows_ : IfSome (canvas_at cs viewer) (λ canvas. stands_for canvas (seen at.history viewer)) = rw cs_are (at.shown.shows viewer) in
-      ap pixel_line (dots (seen at.history viewer) shows_) ∙ sym (ap (λ (b : Bool). if b then pixel_line (dot_at (seen at.history viewer visible) x y) else refused_line 516) (live_is viewer cs true cs_are is))
+      ap pixel_line (dots (seen at.history viewer) shows_) ∙ sym (ap (λ (b : Bool). if b then pixel_line (dot_at (seen at.history viewer visible) x y) else refused_line not_found) (live_is viewer cs true cs_are is))
 
-  pub no_pixel : (viewer x y : ℕ) (cs : Canvases) → cs ≡ s.canvases.items → false ≡ is_some (canvas_at cs viewer) → refused_line 516 ≡ pixel_answer at.history viewer x y
-  no_pixel viewer x y cs cs_are is = sym (ap (λ (b : Bool). if b then pixel_line (dot_at (seen at.history viewer visible) x y) else refused_line 516) (live_is viewer cs false cs_are is))
+  pub no_pixel : (viewer x y : ℕ) (cs : Canvases) → cs ≡ s.canvases.items → false ≡ is_some (canvas_at cs viewer) → refused_line not_found ≡ pixel_answer at.history viewer x y
+  no_pixel viewer x y cs cs_are is = sym (ap (λ (b : Bool). if b then pixel_line (dot_at (seen at.history viewer visible) x y) else refused_line not_found) (live_is viewer cs false cs_are is))
 
   both_live : (one other : ℕ) (cs : Canvases) (b : Bool) → cs ≡ s.canvases.items → b ≡ (is_some (canvas_at cs one) && is_some (canvas_at cs other)) → (is_live at.history one && is_live at.history other) ≡ b
   both_live one other cs b cs_are is =
@@ -484,5 +548,5 @@ module _ (lines : List Line) (now : ℕ) (s : Session) (a0 f0 a f : Option (List
       told_of true t = inr (is_both, inl (t.0 refl, refl))
       told_of false t = inr (is_both, inr (λ alike. let w : false ≡ true = t.1 alike in cc, refl))
 
-  pub not_compared : (one other : ℕ) (cs : Canvases) → cs ≡ s.canvases.items → false ≡ (is_some (canvas_at cs one) && is_some (canvas_at cs other)) → Compares at.history one other (refused_line 516)
+  pub not_compared : (one other : ℕ) (cs : Canvases) → cs ≡ s.canvases.items → false ≡ (is_some (canvas_at cs one) && is_some (canvas_at cs other)) → Compares at.history one other (refused_line not_found)
   not_compared one other cs cs_are is = inl (both_live one other cs false cs_are is, refl)

@@ -19,7 +19,7 @@ use Rattle.gate_model.specs.Delivered.{delivered, given, handed, closing, positi
 use Rattle.gate_model.specs.Rights.{is_live}
 use Rattle.gate_model.proofs.Drawing.{draw-append}
 use Rattle.gate_model.proofs.Truth.{facts_of}
-use Rattle.frame_draw.specs.Readable.{AreReadable}
+use Rattle.gate_model.specs.Shape.{AreReadable}
 use Rattle.desk_core.specs.Desk.{DeskState, Stands}
 use Rattle.desk_core.proofs.Readables.{given_readable}
 use Rattle.canvas.specs.Kept.{KeptLayer}

@@ -1,42 +1,29 @@
 -- The bytes that the takes of a run print are the first ones that its history sends to the host.
 use Rattle.std.proofs.Common.{◌≡◌, ℕ, ◌+◌, ◌≤◌, ◌/◌, ◌%◌, List, [], ◌∷◌, ◌++◌, length, take, Bool, true, false, ◌⊎◌, inl, inr, refl, ap, sym, ◌∙◌, subst, append-nil, arith, length-append, length-take, length-drop}
-use Rattle.std.specs.Prelude.{Result, Ok, Err, Some, min, ◌==◌, if◌then◌else◌, nat_lt, codes}
+use Rattle.std.specs.Prelude.{Some, min, ◌==◌, if◌then◌else◌, nat_lt, codes}
 use Rattle.std.proofs.Math.Nat.{div-add-mod}
 use Rattle.std.proofs.Math.Seq.{take-add}
 use Rattle.std.proofs.lemmas.List.{append_cancel_left, take-append-le, take_min}
 use Rattle.std.proofs.lemmas.Bool.Decides.{nat_tests}
-use Rattle.gate_model.specs.declared.act.Act.{Act}
 use Rattle.gate_model.specs.declared.act.Act.TheVariants.{Sync as act_sync}
-use Rattle.gate_model.specs.declared.cause.Cause.{Cause}
 use Rattle.gate_model.specs.declared.cause.Cause.TheVariants.{Stopped}
-use Rattle.gate_model.specs.declared.closed.Closed.{Closed}
-use Rattle.gate_model.specs.declared.no_viewer.NoViewer.{NoViewer}
 use Rattle.gate_model.specs.declared.answer.Answer.{Answer}
-use Rattle.gate_model.specs.declared.answer.Answer.TheVariants.{Feed as fed, Join as joined_as, Read as was_read, Write as was_written, Take as was_taken, Leave as was_left, Close as was_closed}
+use Rattle.gate_model.specs.declared.answer.Answer.TheVariants.{Write as was_written, Take as was_taken}
 use Rattle.gate_model.specs.declared.entry.Entry.{Entry}
-use Rattle.gate_model.specs.declared.entry.Entry.TheVariants.{Feed, Join, Read, Write, Take, Leave, Close}
+use Rattle.gate_model.specs.declared.entry.Entry.TheVariants.{Take}
 use Rattle.gate_model.specs.declared.event.Event.{Event}
 use Rattle.gate_model.specs.declared.event.Event.TheVariants.{Feed as feed, Join as join_in, Read as read_as, Write as write_acts, Take as take_most, Leave as leave_as, Close as close_for}
-use Rattle.gate_model.specs.declared.feed_refusal.FeedRefusal.{FeedRefusal}
-use Rattle.gate_model.specs.declared.how.How.TheVariants.{Suffix}
-use Rattle.gate_model.specs.declared.join_refusal.JoinRefusal.{JoinRefusal}
-use Rattle.gate_model.specs.declared.joined.Joined.{Joined}
-use Rattle.gate_model.specs.declared.read_answer.ReadAnswer.{ReadAnswer}
-use Rattle.gate_model.specs.declared.read_answer.ReadAnswer.TheVariants.{Frames, Fresh, Ended, Empty, Hold}
-use Rattle.gate_model.specs.declared.read_refusal.ReadRefusal.{ReadRefusal}
 use Rattle.gate_model.specs.declared.setup.Setup.{Setup}
-use Rattle.gate_model.specs.declared.sharing.Asked.{Asked}
-use Rattle.gate_model.specs.declared.write_refusal.WriteRefusal.{WriteRefusal}
-use Rattle.gate_model.specs.declared.written.Written.{Written}
 use Rattle.gate_model.specs.Entries.{taken_by}
-use Rattle.gate_model.specs.History.{History, newest}
+use Rattle.gate_model.specs.History.{History, newest, is_closed}
 use Rattle.gate_model.specs.Output.{out, sent, taken, untaken}
-use Rattle.gate_model.specs.Calls.{FeedStep, JoinStep, ReadStep, WriteStep, LeaveStep, CloseStep, Step, take_entry}
+use Rattle.gate_model.specs.Calls.{Step, take_entry}
 use Rattle.gate_script.specs.declared.reading.Reading.{Reading}
 use Rattle.gate_script.specs.declared.reading.Reading.TheVariants.{Whole, Cut, Bad, TooMany}
 use Rattle.gate_script.specs.Hexadecimal.{digits_of, lower_digit}
 use Rattle.gate_script.specs.Lines.{Line, blank, bad, moment, start, server, join, read, write, take_up_to, leave, close, pixel, same, read_untold, acknowledge, done}
 use Rattle.gate_script.specs.Told.{answer_to, taken_text, took_line}
+use Rattle.gate_script.proofs.StepLaws.{take_is}
 use Rattle.gate_script.specs.Plays.{Play, Plays, Does, DoesReading, Begins, Calls, Answers, Prints, IsLawful, Tells}
 
 both : {A : Type 0} (x y : A) (xs ys : List A) → x ∷ xs ≡ y ∷ ys → (x ≡ y) × (xs ≡ ys)
@@ -76,13 +63,13 @@ took-is xs ys e = texts-are xs ys (append_cancel_left (codes "took ") (taken_tex
     texts-are (x ∷ xs) [] e = absurd (omega (arith, (both (lower_digit (x / 16)) 45 (lower_digit (x % 16) ∷ digits_of xs ++ 10 ∷ []) (10 ∷ []) e).0, digit-large (x / 16)))
     texts-are (x ∷ xs) (y ∷ ys) e = digits-are (x ∷ xs) (y ∷ ys) e
 
+-- the answer of a take that handed these bytes out
+handed : (most : ℕ) (bytes : List ℕ) (closed : Bool) (r : Answer) (a : List ℕ) → r ≡ was_taken bytes closed → answer_to r (take_most most) ≡ Some a → a ≡ took_line bytes
+handed most bytes closed r a is told = let line_is : Some (took_line bytes) ≡ Some a = subst (λ (x : Answer). answer_to x (take_most most) ≡ Some a) is told in cc
+
 -- what a line prints
 pub printed : (line : Line) (p q : Play) (a f : List ℕ) → Does line p q a f → (bytes : List ℕ) × Prints line a bytes
-printed (take_up_to most) p q a f calls = by_answer calls.result calls.step calls.told
-  where
-    by_answer : (r : Answer) → Step p.history (take_most most) r calls.added → answer_to r (take_most most) ≡ Some a → (bytes : List ℕ) × (a ≡ took_line bytes)
-    by_answer (was_taken bytes closed) step told = (bytes, cc)
-    by_answer r step told = absurd step
+printed (take_up_to most) p q a f calls = (take most (untaken p.history), handed most (take most (untaken p.history)) (is_closed p.history) calls.result a (take_is p.history most calls.result calls.added calls.step).told calls.told)
 printed line p q a f does = ([], refl)
 
 -- these are the first bytes that the history sends, as many as it took
@@ -127,47 +114,20 @@ sent_more h most bytes own is s = by (length own == 0) (λ z. is_zero (length ow
 abbrev TakesNone : List Entry → Type 0
 TakesNone added = (added ≡ []) ⊎ ((e : Entry) × (added ≡ e ∷ []) × (taken_by e ≡ 0))
 
-feed_takes : (h : History) (bytes : List ℕ) (now : ℕ) (result : Result ℕ FeedRefusal) (added : List Entry) → FeedStep h bytes now result added → TakesNone added
-feed_takes h bytes now (Ok stamp) added s = inr (Feed bytes stamp s.1.frame, s.1.adds, refl)
-feed_takes h bytes now (Err refusal) added s = inl s.1.1
-
-join_takes : (h : History) (asked : Asked) (result : Result Joined JoinRefusal) (added : List Entry) → JoinStep h asked result added → TakesNone added
-join_takes h asked (Ok given) added s = inr (Join given.viewer given.role s.first, s.adds, refl)
-join_takes h asked (Err refusal) added s = inl s.1
-
-read_takes : (h : History) (viewer : ℕ) (result : Result ReadAnswer ReadRefusal) (added : List Entry) → ReadStep h viewer result added → TakesNone added
-read_takes h viewer (Ok (Frames count stamp closed)) added s = inr (Read viewer Suffix, s.adds, refl)
-read_takes h viewer (Ok (Fresh stamp closed)) added s = inl s.1
-read_takes h viewer (Ok Ended) added s = inl s.1
-read_takes h viewer (Ok Empty) added s = inl s.1
-read_takes h viewer (Ok (Hold waiting)) added s = inl s.1
-read_takes h viewer (Err refusal) added s = inl s.1
-
-write_takes : (h : History) (viewer : ℕ) (acts : List Act) (result : Result Written WriteRefusal) (added : List Entry) → WriteStep h viewer acts result added → TakesNone added
-write_takes h viewer acts (Ok counts) added s = inr (Write viewer acts, s.1.adds, refl)
-write_takes h viewer acts (Err refusal) added s = inl s.1.1
-
-leave_takes : (h : History) (viewer : ℕ) (result : Result (Unit {0}) NoViewer) (added : List Entry) → LeaveStep h viewer result added → TakesNone added
-leave_takes h viewer (Ok u) added s = inr (Leave viewer, s.1, refl)
-leave_takes h viewer (Err refusal) added s = inl s.1
-
-close_takes : (h : History) (cause : Cause) (result : Result (Unit {0}) Closed) (added : List Entry) → CloseStep h cause result added → TakesNone added
-close_takes h cause (Ok u) added s = inr (Close cause, s.1, refl)
-close_takes h cause (Err refusal) added s = inl s.1
-
 abbrev IsNoTake : Event → Type 0
 IsNoTake (take_most most) = ⊥
 IsNoTake event = Unit {0}
 
 takes_none : (h : History) (event : Event) (r : Answer) (added : List Entry) → IsNoTake event → Step h event r added → TakesNone added
-takes_none h (feed bytes now) (fed result) added other s = feed_takes h bytes now result added s
-takes_none h (join_in asked) (joined_as result) added other s = join_takes h asked result added s
-takes_none h (read_as viewer) (was_read result) added other s = read_takes h viewer result added s
-takes_none h (write_acts viewer acts) (was_written result) added other s = write_takes h viewer acts result added s
-takes_none h (leave_as viewer) (was_left result) added other s = leave_takes h viewer result added s
-takes_none h (close_for cause) (was_closed result) added other s = close_takes h cause result added s
-takes_none h (take_most most) r added other s = absurd other
-takes_none h event r added other s = absurd s
+takes_none h event r [] other s = inl refl
+takes_none h (feed bytes now) r (e ∷ []) other s = inr (e, refl, ap taken_by s.1.1.4)
+takes_none h (join_in asked) r (e ∷ []) other s = inr (e, refl, ap taken_by s.1.1.3)
+takes_none h (read_as viewer) r (e ∷ []) other s = inr (e, refl, ap taken_by s.1.1.1)
+takes_none h (write_acts viewer acts) r (e ∷ []) other s = inr (e, refl, ap taken_by s.1.1.1)
+takes_none h (leave_as viewer) r (e ∷ []) other s = inr (e, refl, ap taken_by s.1.1.1)
+takes_none h (close_for cause) r (e ∷ []) other s = inr (e, refl, ap taken_by s.1.1.1)
+takes_none h (take_most most) r (e ∷ []) other s = absurd other
+takes_none h event r (e ∷ f ∷ es) other s = absurd s.1
 
 none_added : (h : History) (added : List Entry) (bytes : List ℕ) → TakesNone added → AreSent h bytes → AreSent (added ++ h) bytes
 none_added h added bytes (inl e) s = subst (λ (l : List Entry). AreSent (l ++ h) bytes) (sym e) s
@@ -189,26 +149,25 @@ module _ (bytes own : List ℕ) where
   begins_send setup p q a f begins none s =
       let before : AreSent [] bytes = subst (λ (h : History). AreSent h bytes) begins.fresh s in
       subst (λ (k : Play). AreSent k.history (bytes ++ own)) (sym begins.after_it)
-      (none_printed (begins.entry ∷ []) none (sent_still [] begins.entry bytes (ap taken_by begins.step.1) before))
+      (none_printed (begins.entry ∷ []) none (sent_still [] begins.entry bytes (ap taken_by begins.step.4) before))
 
   writes_send : (reading : Reading) (viewer : ℕ) (p q : Play) (a f : List ℕ) → DoesReading reading viewer p q a f → own ≡ [] → AreSent p.history bytes → AreSent q.history (bytes ++ own)
   writes_send (Whole acts passed) viewer p q a f writes none s =
       subst (λ (k : Play). AreSent k.history (bytes ++ own)) (sym writes.after_it)
-      (none_printed (writes.added ++ p.history) none (none_added p.history writes.added bytes (write_takes p.history viewer acts writes.result writes.added writes.step) s))
+      (none_printed (writes.added ++ p.history) none (none_added p.history writes.added bytes (takes_none p.history (write_acts viewer acts) (was_written writes.result) writes.added tt writes.step) s))
   writes_send (Cut place) viewer p q a f answers none s = subst (λ (k : Play). AreSent k.history (bytes ++ own)) (sym answers.same) (none_printed p.history none s)
   writes_send (Bad at) viewer p q a f answers none s = subst (λ (k : Play). AreSent k.history (bytes ++ own)) (sym answers.same) (none_printed p.history none s)
   writes_send TooMany viewer p q a f no_line none s = absurd no_line
 
   take_sends : (most : ℕ) (p q : Play) (a f : List ℕ) → Calls (take_most most) p q a f → a ≡ took_line own → AreSent p.history bytes → AreSent q.history (bytes ++ own)
-  take_sends most p q a f calls prints s = subst (λ (k : Play). AreSent k.history (bytes ++ own)) (sym calls.after_it) (by_answer calls.result calls.step calls.told)
-    where
-      by_answer : (r : Answer) → Step p.history (take_most most) r calls.added → answer_to r (take_most most) ≡ Some a → AreSent (calls.added ++ p.history) (bytes ++ own)
-      by_answer (was_taken given closed) step told =
-          let line_is : took_line given ≡ a = cc in
-          let is : given ≡ own = took-is given own (line_is ∙ prints) in
-          subst (λ (l : List Entry). AreSent (l ++ p.history) (bytes ++ own)) (sym step.adds)
-          (subst (λ (l : List ℕ). AreSent (take_entry (length given) ++ p.history) (bytes ++ l)) is (sent_more p.history most bytes given step.hands s))
-      by_answer r step told = absurd step
+  take_sends most p q a f calls prints s =
+      let is = take_is p.history most calls.result calls.added calls.step in
+      let given : List ℕ = take most (untaken p.history) in
+      let line_is : a ≡ took_line given = handed most given (is_closed p.history) calls.result a is.told calls.told in
+      let own_is : given ≡ own = took-is given own (sym line_is ∙ prints) in
+      subst (λ (k : Play). AreSent k.history (bytes ++ own)) (sym calls.after_it)
+      (subst (λ (l : List Entry). AreSent (l ++ p.history) (bytes ++ own)) (sym is.adds)
+      (subst (λ (l : List ℕ). AreSent (take_entry (length given) ++ p.history) (bytes ++ l)) own_is (sent_more p.history most bytes given refl s)))
 
   -- one line
   line_sends : (line : Line) (p q : Play) (a f : List ℕ) → Does line p q a f → Prints line a own → AreSent p.history bytes → AreSent q.history (bytes ++ own)

@@ -3,6 +3,7 @@
 use Rattle.std.specs.Prelude.{◌≡◌, ℕ, List, [], ◌∷◌, ◌++◌, take, true, false, ◌&&◌, if◌then◌else◌, ◌⊎◌, codes, Option, Some, None, Result}
 use Rattle.gate_model.specs.declared.act.Act.TheVariants.{Sync as act_sync}
 use Rattle.gate_model.specs.declared.answer.Answer.{Answer}
+use Rattle.gate_model.specs.declared.answer.Answer.TheVariants.{Write as was_written}
 use Rattle.gate_model.specs.declared.cause.Cause.TheVariants.{Stopped}
 use Rattle.gate_model.specs.declared.entry.Entry.{Entry}
 use Rattle.gate_model.specs.declared.event.Event.{Event}
@@ -21,8 +22,9 @@ use Rattle.canvas.specs.Standing.{dot_at}
 use Rattle.gate_script.specs.declared.reading.Reading.{Reading}
 use Rattle.gate_script.specs.declared.reading.Reading.TheVariants.{Whole, Cut, Bad, TooMany}
 use Rattle.gate_script.specs.Acts.{IsReading}
-use Rattle.gate_model.specs.Steps.{Legal}
-use Rattle.gate_model.specs.Calls.{StartStep, Step, WriteStep}
+use Rattle.gate_model.specs.Statuses.{not_found}
+use Rattle.gate_model.specs.Steps.{Legal, StartStep}
+use Rattle.gate_model.specs.Calls.{Step}
 use Rattle.gate_model.specs.Truth.{Faithful}
 use Rattle.gate_script.specs.declared.size.Size.{Size}
 use Rattle.gate_script.specs.Lines.{Line, blank, bad, moment, start, server, join, read, write, take_up_to, leave, close, pixel, same, read_untold, acknowledge, done}
@@ -70,19 +72,19 @@ seen h viewer = draw nothing (delivered h viewer)
 
 -- a pixel of the visible layer of a viewer who is there
 abbrev pub pixel_answer : History → ℕ → ℕ → ℕ → List ℕ
-pixel_answer h viewer x y = if is_live h viewer then pixel_line (dot_at (seen h viewer visible) x y) else refused_line 516
+pixel_answer h viewer x y = if is_live h viewer then pixel_line (dot_at (seen h viewer visible) x y) else refused_line not_found
 
 -- whether two viewers who are there see the same in every layer
 abbrev pub Compares : History → ℕ → ℕ → List ℕ → Type 0
 Compares h one other a =
-    (((is_live h one && is_live h other) ≡ false) × (a ≡ refused_line 516))
+    (((is_live h one && is_live h other) ≡ false) × (a ≡ refused_line not_found))
     ⊎ (((is_live h one && is_live h other) ≡ true) × ((Same (seen h one) (seen h other) × (a ≡ same_line)) ⊎ ((Same (seen h one) (seen h other) → ⊥) × (a ≡ differ_line))))
 
 -- the acts of a text were written, or refused
 pub record Writes (viewer : ℕ) (acts : List Act) (passed : ℕ) (p q : Play) (a f : List ℕ) : Type 0 where
   pub result : Result Written WriteRefusal
   pub added : List Entry
-  pub step : WriteStep p.history viewer acts result added
+  pub step : Step p.history (write_acts viewer acts) (was_written result) added
   pub told : text_answer result passed ≡ Some a
   pub after_it : q ≡ record { now = p.now; history = added ++ p.history }
   pub framed : f ≡ framings p.history added

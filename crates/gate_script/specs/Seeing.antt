@@ -9,7 +9,7 @@ use Rattle.gate_model.specs.Rights.{is_live}
 use Rattle.gate_model.specs.Text.{texts}
 use Rattle.canvas.specs.Kept.{KeptLayer}
 use Rattle.canvas.specs.Standing.{Stands}
-use Rattle.frame_draw.specs.Readable.{AreReadable}
+use Rattle.gate_model.specs.Shape.{AreReadable}
 use Rattle.gate_script.specs.Plays.{seen}
 
 abbrev pub Canvases : Type 0

@@ -20,6 +20,7 @@ use Rattle.gate_model.specs.declared.read_refusal.ReadRefusal.TheVariants.{NoVie
 use Rattle.gate_model.specs.declared.write_refusal.WriteRefusal.{WriteRefusal}
 use Rattle.gate_model.specs.declared.write_refusal.WriteRefusal.TheVariants.{NoViewer as write_no_viewer, Closed as write_closed, Worn as write_worn}
 use Rattle.gate_model.specs.declared.written.Written.{Written}
+use Rattle.gate_model.specs.Statuses.{not_found, session_closed, forbidden, too_many}
 use Rattle.gate_model.specs.Text.{texts}
 use Rattle.guac_framing.specs.declared.next.BadAt.{BadAt}
 use Rattle.guac_framing.specs.declared.next.BadKind.{BadKind}
@@ -47,7 +48,7 @@ refused_line status = answer_line (codes "refused") (status ∷ [])
 -- the answer to a call of the desk; there is none where the run ends with it
 abbrev pub feed_answer : Result ℕ FeedRefusal → Option (List ℕ)
 feed_answer (Ok stamp) = Some (answer_line (codes "synced") (stamp ∷ []))
-feed_answer (Err (feed_closed cause)) = Some (refused_line 523)
+feed_answer (Err (feed_closed cause)) = Some (refused_line session_closed)
 feed_answer (Err refusal) = None
 
 abbrev pub joined_line : Joined → List ℕ
@@ -55,9 +56,9 @@ joined_line joined = answer_line (codes "joined") (joined.viewer ∷ joined.stam
 
 abbrev pub join_answer : Result Joined JoinRefusal → Option (List ℕ)
 join_answer (Ok joined) = Some (joined_line joined)
-join_answer (Err (join_closed cause)) = Some (refused_line 523)
-join_answer (Err Forbidden) = Some (refused_line 771)
-join_answer (Err (too_many_viewers live joined)) = Some (refused_line 797)
+join_answer (Err (join_closed cause)) = Some (refused_line session_closed)
+join_answer (Err Forbidden) = Some (refused_line forbidden)
+join_answer (Err (too_many_viewers live joined)) = Some (refused_line too_many)
 join_answer (Err refusal) = None
 
 -- an answer to a read that gave something, and whether it ended with the closing instruction
@@ -73,13 +74,13 @@ read_told (Hold waiting) = answer_line (codes "hold") []
 
 abbrev pub read_answer : Result ReadAnswer ReadRefusal → Option (List ℕ)
 read_answer (Ok answer) = Some (read_told answer)
-read_answer (Err read_no_viewer) = Some (refused_line 516)
+read_answer (Err read_no_viewer) = Some (refused_line not_found)
 read_answer (Err refusal) = None
 
 abbrev pub write_answer : Result Written WriteRefusal → Option (List ℕ)
 write_answer (Ok counts) = Some (answer_line (codes "written") (counts.keys ∷ counts.denied ∷ []))
-write_answer (Err write_no_viewer) = Some (refused_line 516)
-write_answer (Err (write_closed cause)) = Some (refused_line 523)
+write_answer (Err write_no_viewer) = Some (refused_line not_found)
+write_answer (Err (write_closed cause)) = Some (refused_line session_closed)
 write_answer (Err refusal) = None
 
 -- the bytes that a take handed out, or a dash where there were none
@@ -92,11 +93,11 @@ took_line bytes = codes "took " ++ taken_text bytes ++ 10 ∷ []
 
 abbrev pub leave_answer : ℕ → Result (Unit {0}) NoViewer → Option (List ℕ)
 leave_answer viewer (Ok done) = Some (answer_line (codes "left") (viewer ∷ []))
-leave_answer viewer (Err refusal) = Some (refused_line 516)
+leave_answer viewer (Err refusal) = Some (refused_line not_found)
 
 abbrev pub close_answer : Result (Unit {0}) Closed → Option (List ℕ)
 close_answer (Ok done) = Some (answer_line (codes "closed") [])
-close_answer (Err refusal) = Some (refused_line 523)
+close_answer (Err refusal) = Some (refused_line session_closed)
 
 abbrev pub answer_to : Answer → Event → Option (List ℕ)
 answer_to (fed result) event = feed_answer result

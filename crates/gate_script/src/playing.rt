@@ -7,7 +7,7 @@ ghost use Rattle.gate_model.specs.ServerMeaning.{instr_of};
 ghost use Rattle.gate_model.specs.Text.{text, texts};
 ghost use Rattle.gate_model.specs.declared.instr.Instr.{Instr};
 ghost use Rattle.canvas.specs.Standing.{Stands};
-ghost use Rattle.frame_draw.specs.Readable.{AreReadable};
+ghost use Rattle.gate_model.specs.Shape.{AreReadable};
 ghost use Rattle.gate_script.specs.Playing.{IsPartPlayed};
 
 use canvas::Canvas;

@@ -117,12 +117,12 @@ fn say_given<A: Sink>(
 }
 
 /// Writes the answer to a refused call.
-pub(crate) fn refuse<A: Sink>(line: &mut Vec<u8>, status: u64, answers: &mut A) -> Result<(), Stop>
+pub(crate) fn refuse<A: Sink>(line: &mut Vec<u8>, status: u16, answers: &mut A) -> Result<(), Stop>
     ensures put { Put result (refused_line status) (A.written answers.old) (A.written answers.new) }
     ensures later { A.faults answers.old ≤ A.faults answers.new }
     ensures cause { IfErr result (λ stop. HasCause stop ⊥ (Rose (A.faults answers.old) (A.faults answers.new))) }
 {
-    say(line, "refused", &[status], answers)
+    say(line, "refused", &[u64::from(status)], answers)
 }
 
 /// Writes what a place shows.

@@ -19,7 +19,7 @@ use desk_core::{
     Desk, FeedRefusal, JoinRefusal, Joined, NoMemory, ReadAnswer, ReadRefusal, Setup, WriteRefusal,
     Written,
 };
-use gate_model::{Act, Asked, Cause, Share, Text};
+use gate_model::{Act, Asked, Cause, Share, Text, statuses};
 use gate_outside::Sink;
 use std::alloc::Global;
 
@@ -128,7 +128,11 @@ impl Session {
                 answers,
                 frames,
             ),
-            Err(FeedRefusal::Closed(_)) => refuse(&mut self.line, 523, answers),
+            Err(FeedRefusal::Closed(_)) => refuse(
+                &mut self.line,
+                statuses::SESSION_CLOSED,
+                answers,
+            ),
             Err(FeedRefusal::Worn { entries }) => Err(Stop::Refused(Refused::Worn(entries))),
             Err(FeedRefusal::NoMemory) => Err(Stop::NoMemory),
         }
@@ -151,7 +155,7 @@ impl Session {
         ensures cause { IfErr result (λ stop. HasCause stop ⊥ (Rose (A.faults answers.old) (A.faults answers.new) ⊎ Rose (F.faults frames.old) (F.faults frames.new))) }
     {
         self.given.clear();
-        match self.desk.join(alloc, asked, &mut self.given) {
+        match self.desk.join(asked, &mut self.given) {
             Ok(joined) => {
                 let canvas = played(alloc, &self.given)?;
                 if self.canvases.push(Some(canvas)).is_err() {
@@ -159,9 +163,13 @@ impl Session {
                 }
                 self.tell_joined(joined, answers, frames)
             }
-            Err(JoinRefusal::Closed(_)) => refuse(&mut self.line, 523, answers),
-            Err(JoinRefusal::Forbidden) => refuse(&mut self.line, 771, answers),
-            Err(JoinRefusal::TooMany { .. }) => refuse(&mut self.line, 797, answers),
+            Err(JoinRefusal::Closed(_)) => refuse(
+                &mut self.line,
+                statuses::SESSION_CLOSED,
+                answers,
+            ),
+            Err(JoinRefusal::Forbidden) => refuse(&mut self.line, statuses::FORBIDDEN, answers),
+            Err(JoinRefusal::TooMany { .. }) => refuse(&mut self.line, statuses::TOO_MANY, answers),
             Err(JoinRefusal::Worn { entries }) => Err(Stop::Refused(Refused::Worn(entries))),
             Err(JoinRefusal::NoMemory) => Err(Stop::NoMemory),
         }
@@ -214,7 +222,7 @@ impl Session {
                 self.play_given(viewer)?;
                 self.tell_read(viewer, answer, answers, frames)
             }
-            Err(ReadRefusal::NoViewer) => refuse(&mut self.line, 516, answers),
+            Err(ReadRefusal::NoViewer) => refuse(&mut self.line, statuses::NOT_FOUND, answers),
             Err(ReadRefusal::Worn { entries }) => Err(Stop::Refused(Refused::Worn(entries))),
             Err(ReadRefusal::NoMemory) => Err(Stop::NoMemory),
         }
@@ -378,8 +386,12 @@ impl Session {
                 let numbers = [u64::from(keys), u64::from(denied), u64::from(passed)];
                 say(&mut self.line, "written", &numbers, answers)
             }
-            Err(WriteRefusal::NoViewer) => refuse(&mut self.line, 516, answers),
-            Err(WriteRefusal::Closed(_)) => refuse(&mut self.line, 523, answers),
+            Err(WriteRefusal::NoViewer) => refuse(&mut self.line, statuses::NOT_FOUND, answers),
+            Err(WriteRefusal::Closed(_)) => refuse(
+                &mut self.line,
+                statuses::SESSION_CLOSED,
+                answers,
+            ),
             Err(WriteRefusal::Worn { entries }) => Err(Stop::Refused(Refused::Worn(entries))),
             Err(WriteRefusal::NoMemory) => Err(Stop::NoMemory),
         }
@@ -401,7 +413,7 @@ impl Session {
         // Bytes enough wait to fill the buffer.
         let count = self.desk.pending().min(u64::from(most));
         let mut bytes = vec![in alloc; 0u8; count as usize]?;
-        self.desk.take(&mut bytes)?;
+        self.desk.take(&mut bytes);
         say_took(&mut self.line, &bytes, answers)
     }
 
@@ -413,12 +425,12 @@ impl Session {
         ensures later { A.faults answers.old ≤ A.faults answers.new }
         ensures cause { IfErr result (λ stop. HasCause stop ⊥ (Rose (A.faults answers.old) (A.faults answers.new))) }
     {
-        match self.desk.leave(viewer)? {
+        match self.desk.leave(viewer) {
             Ok(()) => {
                 self.drop_canvas(viewer);
                 say(&mut self.line, "left", &[u64::from(viewer)], answers)
             }
-            Err(_) => refuse(&mut self.line, 516, answers),
+            Err(_) => refuse(&mut self.line, statuses::NOT_FOUND, answers),
         }
     }
 
@@ -441,9 +453,9 @@ impl Session {
         ensures later { A.faults answers.old ≤ A.faults answers.new }
         ensures cause { IfErr result (λ stop. HasCause stop ⊥ (Rose (A.faults answers.old) (A.faults answers.new))) }
     {
-        match self.desk.close(Cause::Stopped)? {
+        match self.desk.close(Cause::Stopped) {
             Ok(()) => say(&mut self.line, "closed", &[], answers),
-            Err(_) => refuse(&mut self.line, 523, answers),
+            Err(_) => refuse(&mut self.line, statuses::SESSION_CLOSED, answers),
         }
     }
 
@@ -463,7 +475,7 @@ impl Session {
     {
         match dot_of(&self.canvases, viewer, x, y) {
             Some(dot) => say_dot(&mut self.line, dot, answers),
-            None => refuse(&mut self.line, 516, answers),
+            None => refuse(&mut self.line, statuses::NOT_FOUND, answers),
         }
     }
 
@@ -483,7 +495,7 @@ impl Session {
         match are_same(&self.canvases, one, other) {
             Some(true) => say(&mut self.line, "same", &[], answers),
             Some(false) => say(&mut self.line, "differ", &[], answers),
-            None => refuse(&mut self.line, 516, answers),
+            None => refuse(&mut self.line, statuses::NOT_FOUND, answers),
         }
     }
 }

@@ -3,7 +3,7 @@ use Rattle.gate_model.specs.declared.instr.Instr.{Instr}
 use Rattle.gate_model.specs.Layers.{Layers}
 use Rattle.gate_model.specs.Text.{texts}
 use Rattle.canvas.specs.Standing.{Stands}
-use Rattle.frame_draw.specs.Readable.{AreReadable}
+use Rattle.gate_model.specs.Shape.{AreReadable}
 use Rattle.gate_script.proofs.PlayingLaws.{Left}
 use Rattle.gate_script.proofs.playing.play_text.Given as goal
 

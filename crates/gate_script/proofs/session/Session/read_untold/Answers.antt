@@ -1,11 +1,11 @@
 use Rattle.std.proofs.Common.{◌≡◌, ◌∙◌, ap, refl, sym, subst}
 use Rattle.std.specs.Prelude.{Err}
 use Rattle.std.proofs.lemmas.Result.{err_from_is_err_and}
-use Rattle.gate_model.specs.declared.answer.Answer.TheVariants.{Read as was_read}
 use Rattle.gate_model.specs.declared.event.Event.TheVariants.{Read as read_as}
 use Rattle.gate_model.specs.declared.read_refusal.ReadRefusal.TheVariants.{NoViewer}
 use Rattle.gate_model.specs.declared.read_refusal.ReadRefusal.{ReadRefusal}
-use Rattle.desk_core.specs.Calls.{ReadEnds}
+use Rattle.gate_model.specs.Statuses.{not_found}
+use Rattle.desk_core.specs.Calls.{Ended, read_answer}
 use Rattle.gate_script.specs.declared.refused.Refused.TheVariants.{Worn}
 use Rattle.gate_script.specs.declared.stop.Stop.{Stop}
 use Rattle.gate_script.specs.declared.stop.Stop.TheVariants.{NoMemory}
@@ -13,7 +13,7 @@ use Rattle.gate_script.specs.Lines.{read_untold}
 use Rattle.gate_script.specs.Told.{refused_line}
 use Rattle.gate_script.specs.Running.{IsOpenDesk}
 use Rattle.gate_script.proofs.OpenLaws.{on_ok, read_open}
-use Rattle.gate_script.proofs.SessionLaws.{untold_nothing, refuses, out_of_memory, untold_done, untold_is_worn}
+use Rattle.gate_script.proofs.SessionLaws.{untold_refused, refuses, out_of_memory, untold_done, untold_is_worn}
 use Rattle.gate_script.proofs.session.Session.read_untold.Goals as goal
 
 pub returns-in_err-play_given-in-Ok-clause-step : goal.returns-in_err-play_given-in-Ok-clause-step
@@ -41,14 +41,14 @@ returns-in_ok-play_given-in-Ok-clause-step g c = λ lines now a0 f0 a at.
 
 pub returns-in-Err-NoViewer-clause-step : goal.returns-in-Err-NoViewer-clause-step
 returns-in-Err-NoViewer-clause-step g c = λ lines now a0 f0 a at.
-    untold_nothing lines now c.args.self.now a0 f0 a (g.F.Sink.written c.args.frames.now) at (read_untold 1) (read_as 1) (was_read (Err NoViewer)) (refused_line 516)
-    record { desk = c.read.new.self; canvases = c.args.self.now.canvases; given = c.read.new.into; line = c.args.self.now.line }
-    (subst (λ (e : ReadRefusal). ReadEnds at.history 1 (Err e) c.read.new.self c.clear.new.self.items c.read.new.into.items) c.in-Err-NoViewer.field-0-is (c.in-Err-NoViewer.ensures.step at.history at.stands)) refl (λ untold. untold) c.in-Err-NoViewer.ensures.unchanged refl
+    untold_refused lines now c.args.self.now a0 f0 a (g.F.Sink.written c.args.frames.now) at 1 NoViewer (refused_line not_found)
+    record { desk = c.read.new.self; canvases = c.args.self.now.canvases; given = c.read.new.into; line = c.args.self.now.line } c.clear.new.self.items c.read.new.into.items
+    (subst (λ (e : ReadRefusal). Ended at.history (read_as 1) (read_answer (Err e)) c.args.self.now.desk c.read.new.self c.clear.new.self.items c.read.new.into.items) c.in-Err-NoViewer.field-0-is (c.in-Err-NoViewer.ensures.step at.history at.stands)) refl c.in-Err-NoViewer.ensures.unchanged refl
 
 pub returns-in-Err-Worn-clause-step : goal.returns-in-Err-Worn-clause-step
 returns-in-Err-Worn-clause-step g c = λ lines now a0 f0 a at.
     refuses lines now c.args.self.now a0 f0 a (g.F.Sink.written c.args.frames.now) at (read_untold 1) (Worn c.in-Err-Worn.entries)
-    (untold_is_worn lines now c.args.self.now a0 f0 a (g.F.Sink.written c.args.frames.now) at 1 c.in-Err-Worn.entries (subst (λ (e : ReadRefusal). ReadEnds at.history 1 (Err e) c.read.new.self c.clear.new.self.items c.read.new.into.items) c.in-Err-Worn.field-0-is (c.in-Err-Worn.ensures.step at.history at.stands)))
+    (untold_is_worn lines now c.args.self.now a0 f0 a (g.F.Sink.written c.args.frames.now) at 1 c.in-Err-Worn.entries c.read.new.self c.clear.new.self.items c.read.new.into.items (subst (λ (e : ReadRefusal). Ended at.history (read_as 1) (read_answer (Err e)) c.args.self.now.desk c.read.new.self c.clear.new.self.items c.read.new.into.items) c.in-Err-Worn.field-0-is (c.in-Err-Worn.ensures.step at.history at.stands)))
 
 pub returns-in-Err-NoMemory-clause-step : goal.returns-in-Err-NoMemory-clause-step
 returns-in-Err-NoMemory-clause-step g c = λ lines now a0 f0 a at. out_of_memory lines now c.args.self.now a0 f0 a (g.F.Sink.written c.args.frames.now) at (read_untold 1)

@@ -2,6 +2,7 @@ use Rattle.std.proofs.Common.{Bool, refl, subst}
 use Rattle.std.specs.Prelude.{if◌then◌else◌}
 use Rattle.gate_script.specs.Plays.{Compares}
 use Rattle.gate_script.specs.Lines.{same}
+use Rattle.gate_model.specs.Statuses.{not_found}
 use Rattle.gate_script.specs.Told.{same_line, differ_line, refused_line}
 use Rattle.gate_script.proofs.SessionLaws.{told_alone, compared, not_compared}
 use Rattle.gate_script.proofs.session.Session.same.Goals as goal
@@ -23,6 +24,6 @@ returns-in-Some-false-clause-step g c = λ lines now a0 f0 f at.
 pub returns-in-None-clause-step : goal.returns-in-None-clause-step
 returns-in-None-clause-step g c = λ lines now a0 f0 f at.
     let compares = not_compared lines now c.args.self.now a0 f0 (g.A.Sink.written c.args.answers.now) f at c.args.one c.args.other c.deref.result.now c.deref.ensures.value c.in-None.ensures.there in
-    told_alone lines now c.args.self.now a0 f0 (g.A.Sink.written c.args.answers.now) f at (same c.args.one c.args.other) (refused_line 516)
+    told_alone lines now c.args.self.now a0 f0 (g.A.Sink.written c.args.answers.now) f at (same c.args.one c.args.other) (refused_line not_found)
     record { desk = c.args.self.now.desk; canvases = c.args.self.now.canvases; given = c.args.self.now.given; line = c.refuse.new.line } (g.A.Sink.written c.refuse.new.answers)
-    (λ answers. (refused_line 516, compares, answers)) refl refl c.refuse.result c.refuse.ensures.put
+    (λ answers. (refused_line not_found, compares, answers)) refl refl c.refuse.result c.refuse.ensures.put

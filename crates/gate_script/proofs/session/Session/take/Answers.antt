@@ -1,9 +1,11 @@
-use Rattle.std.proofs.Common.{◌≡◌, ◌++◌, ◌-◌, length, take, drop, min, refl, ap, sym, ◌∙◌, List, ℕ, subst, arith}
+use Rattle.std.proofs.Common.{◌≡◌, ◌++◌, ◌-◌, [], length, take, drop, min, refl, ap, sym, ◌∙◌, List, ℕ, subst, arith}
 use Rattle.std.specs.Prelude.{Err}
 use Rattle.std.proofs.lemmas.Result.{err_from_is_err_and}
 use Rattle.std.proofs.Math.Seq.{take-append_seam}
 use Rattle.gate_model.specs.Output.{out, taken}
-use Rattle.desk_core.specs.Calls.{Hands}
+use Rattle.gate_model.specs.declared.answer.Answer.TheVariants.{Take as was_taken}
+use Rattle.gate_model.specs.declared.event.Event.TheVariants.{Take as take_most}
+use Rattle.desk_core.specs.Calls.{Answered}
 use Rattle.gate_script.specs.declared.stop.Stop.{Stop}
 use Rattle.gate_script.specs.declared.stop.Stop.TheVariants.{NoMemory}
 use Rattle.gate_script.specs.Lines.{take_up_to}
@@ -16,12 +18,6 @@ returns-in_err-bytes-clause-step g c = λ lines now a0 f0 f at.
     let e : c.from_residual.result ≡ Err NoMemory = p.1 ∙ ap (λ (s : Stop). Err s) p.2 in
     rw e (out_of_memory lines now c.args.self.now a0 f0 (g.A.Sink.written c.args.answers.now) f at (take_up_to c.args.most))
 
-pub returns-in_err-take-clause-step : goal.returns-in_err-take-clause-step
-returns-in_err-take-clause-step g c = λ lines now a0 f0 f at.
-    let p = err_from_is_err_and c.from_residual-in_err-take.result c.from_residual-in_err-take.ensures.1 in
-    let e : c.from_residual-in_err-take.result ≡ Err NoMemory = p.1 ∙ ap (λ (s : Stop). Err s) p.2 in
-    rw e (out_of_memory lines now c.args.self.now a0 f0 (g.A.Sink.written c.args.answers.now) f at (take_up_to c.args.most))
-
 pub returns-clause-step : goal.returns-clause-step
 returns-clause-step g c = λ lines now a0 f0 f at.
     let counts = c.pending.ensures.counts at.history at.stands in
@@ -29,7 +25,7 @@ returns-clause-step g c = λ lines now a0 f0 f at.
     let after = c.take.new.into in
     let kept : c.in_ok-bytes.bytes.len ≡ length after = sym (c.take.auto.into ∙ c.deref_mut.ensures.len) in
     let all : c.deref.result.now ≡ after = c.deref.ensures.value ∙ (ap (λ (n : ℕ). take n (after ++ drop (length after) c.in_ok-bytes.bytes.items)) kept ∙ take-append_seam after (drop (length after) c.in_ok-bytes.bytes.items)) in
-    let hands = subst (λ (l : List ℕ). Hands at.history c.deref_mut.result.now c.in_ok-take.field-0 c.take.new.self l) (sym all) (c.in_ok-take.ensures.step at.history at.stands) in
-    bytes_taken lines now c.args.self.now a0 f0 (g.A.Sink.written c.args.answers.now) f at c.args.most c.deref_mut.result.now c.deref.result.now c.in_ok-take.field-0
-    record { desk = c.take.new.self; canvases = c.args.self.now.canvases; given = c.args.self.now.given; line = c.say_took.new.line } sized hands refl
+    let ends = subst (λ (l : List ℕ). Answered at.history (take_most (length c.deref_mut.result.now)) (was_taken (take c.take.result.count l) c.take.result.closed) c.take.new.self [] []) (sym all) (c.take.ensures.step at.history at.stands) in
+    bytes_taken lines now c.args.self.now a0 f0 (g.A.Sink.written c.args.answers.now) f at c.args.most c.take.result.count c.take.result.closed c.deref_mut.result.now c.deref.result.now
+    record { desk = c.take.new.self; canvases = c.args.self.now.canvases; given = c.args.self.now.given; line = c.say_took.new.line } sized (ap length all ∙ c.take.auto.into) ends refl
     (g.A.Sink.written c.say_took.new.answers) c.say_took.result c.say_took.ensures.put
