@@ -3,6 +3,7 @@ use Rattle.std.specs.Prelude.{◌≡◌, ◌≢◌, ℕ, ◌+◌, ◌<◌, ◌�
 use Rattle.gate_model.specs.declared.instr.Instr.{Instr}
 use Rattle.gate_model.specs.declared.instr.Instr.TheVariants.{Size, Rect, Cfill, Copy, Sync, Disconnect, Error}
 use Rattle.gate_model.specs.Layers.{Area, Layer, Layers, is_in}
+use Rattle.gate_model.specs.Limits.{most_extent}
 use Rattle.gate_model.specs.Shape.{IsLayer}
 use Rattle.canvas.specs.declared.dot.Dot.{Dot}
 use Rattle.canvas.specs.declared.dot.Dot.TheVariants.{Outside}
@@ -36,7 +37,7 @@ dot_at l x y = if is_in x y l then dot_of (l.pixel x y) else Outside
 
 -- a canvas plays it: its layers lie from -1,024 to 0 and its size is at most 4,096 by 4,096
 abbrev pub IsPlayable : Instr → Type 0
-IsPlayable (Size k width height) = IsLayer k × (width ≤ 4096) × (height ≤ 4096)
+IsPlayable (Size k width height) = IsLayer k × (width ≤ most_extent) × (height ≤ most_extent)
 IsPlayable (Rect k x y width height) = IsLayer k
 IsPlayable (Cfill k red green blue) = IsLayer k
 IsPlayable (Copy from x y width height to to_x to_y) = IsLayer from × IsLayer to

@@ -1,3 +1,4 @@
+ghost use Rattle.gate_model.specs.Limits.{most_extent};
 ghost use Rattle.std.specs.Prelude.{◌≡◌, ◌≢◌, ℕ, ◌+◌, ◌-◌, ◌*◌, min, ◌<◌, ◌≤◌, ◌↔◌, [], IsTrue, length, get_or, unsigned_abs, IfOk, OnOk, OnErr, MatchOption};
 ghost use Rattle.gate_model.specs.Layers.{Layers, nothing, play, Same};
 ghost use Rattle.gate_model.specs.Shape.{IsLayer};
@@ -144,8 +145,8 @@ impl Canvas {
     // Sets the size of a layer.
     fn resize(&mut self, layer: i32, width: u32, height: u32) -> Result<(), NoMemory>
         requires layer { IsLayer layer }
-        requires columns { width ≤ 4096 }
-        requires rows { height ≤ 4096 }
+        requires columns { width ≤ most_extent }
+        requires rows { height ≤ most_extent }
         ensures ok { OnOk result (IsSized (kept_at self.old layer) width height (kept_at self.new layer)) }
         ensures others { OnOk result (KeepsOthers self.old layer self.new) }
         ensures unchanged { OnErr result (KeepsAll self.old self.new) }

@@ -1,3 +1,4 @@
+ghost use Rattle.gate_model.specs.Limits.{most_extent};
 ghost use Rattle.std.specs.Prelude.{◌≡◌, ℕ, ◌+◌, ◌*◌, ◌<◌, ◌≤◌, ◌↔◌, IsTrue, length, OnOk, OnErr};
 ghost use Rattle.canvas.specs.Kept.{HasPart, IsKeptAlike, IsPainted, IsSized, Shows, kept_dot, kept_empty, kept_traced, pixel_in};
 
@@ -20,6 +21,7 @@ pub struct Layer {
 }
 
 impl Model for Layer {
+    ghost use Rattle.gate_model.specs.Limits.{most_extent};
     ghost use Rattle.std.specs.Prelude.{◌≡◌, ◌*◌, ◌≤◌, length};
     ghost use Rattle.canvas.specs.Kept.{KeptLayer};
 
@@ -27,7 +29,7 @@ impl Model for Layer {
 
     ghost view = { λ l. record { width = l.width; height = l.height; pixels = l.pixels.items; path = l.path.items; filled = l.filled } };
 
-    ghost invariant = { λ l. (length l.pixels.items ≡ l.height * l.width) × (l.width ≤ 4096) × (l.height ≤ 4096) };
+    ghost invariant = { λ l. (length l.pixels.items ≡ l.height * l.width) × (l.width ≤ most_extent) × (l.height ≤ most_extent) };
 }
 
 impl Layer {
@@ -58,8 +60,8 @@ impl Layer {
 
     // Sets the size; the common part stays, and the rest is clear.
     pub(crate) fn resize(&mut self, alloc: Global, width: u32, height: u32) -> Result<(), NoMemory>
-        requires columns { width ≤ 4096 }
-        requires rows { height ≤ 4096 }
+        requires columns { width ≤ most_extent }
+        requires rows { height ≤ most_extent }
         ensures ok { OnOk result (IsSized self.old width height self.new) }
         ensures unchanged { OnErr result (self.new ≡ self.old) }
     {

@@ -14,6 +14,3 @@ mod rectangle;
 
 pub use canvas::Canvas;
 pub use dot::Dot;
-
-#[cfg(test)]
-mod tests;

@@ -1,3 +1,4 @@
+ghost use Rattle.gate_model.specs.Limits.{most_extent};
 ghost use Rattle.std.specs.Prelude.{◌≡◌, ℕ, ◌+◌, ◌-◌, ◌*◌, ◌<◌, ◌≤◌, get_or, is_some, IsTrue, IfOk, OnOk, ◌↔◌, ◌&&◌, nat_lt, List, length, replicate, Some, if◌then◌else◌};
 ghost use Rattle.gate_model.specs.Layers.{is_covered, over};
 ghost use Rattle.canvas.specs.Kept.{IsOverlaid, Shows, area_of, covers, is_within, pixel_in, with_part};
@@ -15,8 +16,8 @@ pub(crate) fn fill_path(
     colour: Colour,
 )
     requires size { length pixels.old ≡ height * width }
-    requires columns { width ≤ 4096 }
-    requires rows { height ≤ 4096 }
+    requires columns { width ≤ most_extent }
+    requires rows { height ≤ most_extent }
     ensures { Shows pixels.new width height (λ x y. if covers path.now x y then Some colour else pixel_in pixels.old width x y) }
 {
     for rectangle in path {
@@ -33,8 +34,8 @@ fn fill_rectangle(
     colour: Colour,
 )
     requires size { length pixels.old ≡ height * width }
-    requires columns { width ≤ 4096 }
-    requires rows { height ≤ 4096 }
+    requires columns { width ≤ most_extent }
+    requires rows { height ≤ most_extent }
     ensures { Shows pixels.new width height (λ x y. if is_covered (area_of rectangle) x y then Some colour else pixel_in pixels.old width x y) }
 {
     let left = rectangle.x.min(width) as usize;
@@ -67,7 +68,7 @@ pub(crate) fn overlay(
     source_width: u32,
     area: Rectangle,
 )
-    requires wide { source_width ≤ 4096 }
+    requires wide { source_width ≤ most_extent }
     requires source_columns { area.x + area.width ≤ source_width }
     requires source_rows { (area.y + area.height) * source_width ≤ length source.now }
     requires target_columns { x + area.width ≤ target_width }
@@ -125,7 +126,7 @@ pub(crate) fn take_part(
     width: u32,
     area: Rectangle,
 ) -> Result<(), NoMemory>
-    requires wide { width ≤ 4096 }
+    requires wide { width ≤ most_extent }
     requires columns { area.x + area.width ≤ width }
     requires rows { (area.y + area.height) * width ≤ length pixels.now }
     ensures { OnOk result (Shows part.new.items area.width area.height (λ x y. pixel_in pixels.now width (area.x + x) (area.y + y))) }
@@ -149,10 +150,10 @@ pub(crate) fn resized(
     height: u32,
 ) -> Result<Vec<Option<Colour>>, NoMemory>
     requires size { length pixels.now ≡ old_height * old_width }
-    requires old_columns { old_width ≤ 4096 }
-    requires old_rows { old_height ≤ 4096 }
-    requires columns { width ≤ 4096 }
-    requires rows { height ≤ 4096 }
+    requires old_columns { old_width ≤ most_extent }
+    requires old_rows { old_height ≤ most_extent }
+    requires columns { width ≤ most_extent }
+    requires rows { height ≤ most_extent }
     ensures { IfOk result (λ new. Shows new.items width height (λ x y. if nat_lt x old_width && nat_lt y old_height then pixel_in pixels.now old_width x y else None)) }
 {
     let mut new = clear_pixels(alloc, height as usize * width as usize)?;

@@ -1,9 +1,9 @@
 -- How far the frames go, and how far each viewer has come, after each entry.
-use Rattle.std.proofs.Common.{◌≡◌, ◌≢◌, ℕ, ◌+◌, ◌-◌, ◌<◌, ◌≤◌, List, [], ◌∷◌, ◌++◌, length, true, false, ◌⊎◌, inl, inr, take, drop, set, get_or, reverse, refl, ap, sym, ◌∙◌, subst, append-nil, length-append, length-drop, arith}
-use Rattle.std.specs.Prelude.{if◌then◌else◌, ◌==◌, flat_map}
+use Rattle.std.proofs.Common.{◌≡◌, ◌≢◌, ℕ, ◌+◌, ◌-◌, ◌<◌, ◌≤◌, List, [], ◌∷◌, ◌++◌, length, true, false, ◌⊎◌, inl, inr, take, drop, set, get_or, refl, ap, sym, ◌∙◌, subst, append-nil, length-append, length-drop, arith}
+use Rattle.std.specs.Prelude.{if◌then◌else◌, ◌==◌}
 use Rattle.std.proofs.lemmas.Grind.{flat_map-append}
 use Rattle.std.proofs.lemmas.Bool.Decides.{eqb_tells}
-use Rattle.std.proofs.lemmas.List.{reverse-append, take_all, get_or_append_left, get_or-set_same, get_or-set_other, length-set}
+use Rattle.std.proofs.lemmas.List.{take_all, get_or_append_left, get_or-set_same, get_or-set_other, length-set}
 use Rattle.std.proofs.Math.Seq.{drop-append_seam, get_or-append_seam}
 use Rattle.gate_model.specs.declared.act.Act.{Act}
 use Rattle.gate_model.specs.declared.cause.Cause.{Cause}
@@ -11,21 +11,16 @@ use Rattle.gate_model.specs.declared.how.How.TheVariants.{Suffix}
 use Rattle.gate_model.specs.declared.sharing.Role.{Role}
 use Rattle.gate_model.specs.declared.instr.Instr.{Instr}
 use Rattle.gate_model.specs.declared.entry.Entry.{Entry}
-use Rattle.gate_model.specs.declared.entry.Entry.TheVariants.{Start, Feed, Join, Read, Write, Take, Leave, Close}
+use Rattle.gate_model.specs.declared.entry.Entry.TheVariants.{Feed, Join, Read, Write, Take, Leave, Close}
 use Rattle.gate_model.specs.Text.{text, texts}
-use Rattle.gate_model.specs.Entries.{framed}
 use Rattle.gate_model.specs.History.{History, frames, frames_after, instructions, all_frames, newest, joined}
 use Rattle.gate_model.specs.Delivered.{last_sync, position, handed, shown_to}
 use Rattle.gate_model.proofs.Facts.{Facts}
 use Rattle.gate_model.proofs.Truth.{farewell-new}
 use Rattle.gate_model.proofs.Histories.{frames_after-feed}
 use Rattle.desk_core.specs.declared.progress.Progress.{Progress}
-use Rattle.desk_core.specs.Viewers.{HasCome}
-use Rattle.desk_core.specs.Stored.{frame_of}
-
--- how far each of the viewers has come
-abbrev pub AllCome : History → List Progress → Type 0
-AllCome h ps = (i : ℕ) (p : Progress) → i < length ps → HasCome h (shown_to h (i + 1)) (get_or ps i p)
+use Rattle.desk_core.specs.Frames.{FramesState, HasFrames}
+use Rattle.desk_core.specs.Viewers.{HasCome, AllCome}
 
 -- the text of two lists
 pub texts-append : (xs ys : List Instr) → texts (xs ++ ys) ≡ texts xs ++ texts ys
@@ -37,34 +32,20 @@ rest_of at bytes = take_all (length bytes - at) (drop at bytes) (omega (arith, l
 
 -- the same frames, and the same that was given
 pub come-same : (h g : History) (before now : List Instr) (p : Progress) → frames g ≡ frames h → now ≡ before → HasCome h before p → HasCome g now p
-come-same h g before now p same is c = subst (λ (xs : List Instr). HasCome g xs p) (sym is) record { stamp = c.stamp; frames = rw same c.frames; bytes = c.bytes }
+come-same h g before now p same is c = subst (λ (xs : List Instr). HasCome g xs p) (sym is) record { frames = rw same c.frames; bytes = c.bytes }
 
 -- a frame more that wasn't given
 come-feed : (h : History) (bs : List ℕ) (t : ℕ) (frame before now : List Instr) (p : Progress) → last_sync before < t → now ≡ before → HasCome h before p → HasCome (Feed bs t frame ∷ h) now p
 come-feed h bs t frame before now p lt is c = subst (λ (xs : List Instr). HasCome (Feed bs t frame ∷ h) xs p) (sym is) record {
-  stamp = c.stamp;
   frames = omega (arith, c.frames, ap length (frames_after-feed h (last_sync before) t frame lt), length-append (frames_after (last_sync before) (frames h)) ((t, frame) ∷ []), length-append (frames h) ((t, frame) ∷ []));
   bytes = c.bytes;
 }
 
 -- everything was given
-pub come-all : (h : History) (p : Progress) → Facts h → p.stamp ≡ newest h → p.frames ≡ length (frames h) → p.bytes ≡ length (texts (all_frames h)) → HasCome h (all_frames h) p
-come-all h p f stamp count bytes = record {
-  stamp = stamp ∙ sym f.last;
-  frames = omega (arith, count, ap length (f.none_after (last_sync (all_frames h)) (omega (arith, f.last))));
-  bytes = bytes;
-}
-
-pub record IsAll (h : History) (p : Progress) : Type 0 where
-  pub stamp : p.stamp ≡ newest h
-  pub frames : p.frames ≡ length (frames h)
-  pub bytes : p.bytes ≡ length (texts (all_frames h))
-
-pub all-come : (h : History) (p : Progress) → Facts h → HasCome h (all_frames h) p → IsAll h p
-all-come h p f c = record {
-  stamp = c.stamp ∙ f.last;
-  frames = omega (arith, c.frames, ap length (f.none_after (last_sync (all_frames h)) (omega (arith, f.last))));
-  bytes = c.bytes;
+pub come-all : (h : History) (f : FramesState) (p : Progress) → Facts h → HasFrames f h → p.frames ≡ f.count → p.bytes ≡ length f.text → HasCome h (all_frames h) p
+come-all h f p facts has count bytes = record {
+  frames = omega (arith, count, has.count, ap length (facts.none_after (last_sync (all_frames h)) (omega (arith, facts.last))));
+  bytes = bytes ∙ ap length has.text;
 }
 
 -- a Feed: the frames go one further, and nobody has come further
@@ -161,24 +142,3 @@ pub text_within : (h : History) (v : ℕ) → Facts h → length (texts (shown_t
 text_within h v f =
     let rest : List Instr = instructions (frames_after (position h v) (frames h)) in
     omega (arith, ap length (ap texts (f.behind v) ∙ texts-append (shown_to h v) rest), length-append (texts (shown_to h v)) (texts rest))
-
--- the stored list, with one entry more
-pub reverse_more : (e : Entry) (h : History) → reverse (e ∷ h) ≡ reverse h ++ e ∷ []
-reverse_more e h = reverse-append (e ∷ []) h
-
--- the frames of the stored entries are all frames
-pub stored_frames : (h : History) → flat_map frame_of (reverse h) ≡ all_frames h
-stored_frames [] = refl
-stored_frames (e ∷ g) =
-    ap (λ (es : List Entry). flat_map frame_of es) (reverse_more e g) ∙ (flat_map-append frame_of (reverse g) (e ∷ []) ∙ (ap (λ (xs : List Instr). xs ++ (frame_of e ++ [])) (stored_frames g)
-    ∙ (ap (λ (xs : List Instr). all_frames g ++ xs) (one e) ∙ sym (flat_map-append (λ (p : ℕ × List Instr). p.1) (frames g) (framed e)))))
-  where
-    one : (e : Entry) → frame_of e ++ [] ≡ instructions (framed e)
-    one (Start cols rows mode term entries stamp frame) = refl
-    one (Feed bytes stamp frame) = refl
-    one (Join viewer role first) = refl
-    one (Read viewer how) = refl
-    one (Write viewer acts) = refl
-    one (Take count) = refl
-    one (Leave viewer) = refl
-    one (Close cause) = refl

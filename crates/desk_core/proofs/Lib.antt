@@ -1,10 +1,13 @@
+-- In reading order: results, the host and its keys, the viewers, a desk with one entry more, what its parts tell, how each call is answered and what it adds, lists of calls.
 pub mod Results
 pub mod Hearing
 pub mod Keying
 pub mod Seating
 pub mod Coming
 pub mod Standing
-pub mod Calling
+pub mod Telling
+pub mod Following
+pub mod Answering
+pub mod Adding
 pub mod Running
-pub mod Refusing
 pub mod Readables

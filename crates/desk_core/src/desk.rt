@@ -17,45 +17,38 @@ mod start;
 mod take;
 mod write;
 
+use crate::frames::Frames;
 use crate::host::Host;
+use crate::log::Log;
 use crate::outgoing::Outgoing;
-use crate::progress::Progress;
-use crate::storing::text_from;
-use gate_model::{Cause, Entry, Role, Share, Text};
+use crate::seats::Seats;
+use gate_model::{Cause, Role, Setup};
 use std::marker::Model;
-use viewer_book::Book;
 
-/// One session: what its Telnet host has sent, the screen, the bytes that wait for the host, the text of the
-/// frames, how far each viewer has come, and every entry.
+/// One session: what it was opened with, what its Telnet host has sent, the bytes that wait for the host, the
+/// text of the frames, how far each viewer has come, and why it was closed.
 /// Contracts see what it keeps, a `DeskState`, and say by `Stands` for which histories it may stand
 /// (this project's own rule).
 #[derive(Drop)]
 pub struct Desk {
-    cols: u16,
-    rows: u16,
-    mode: Share,
-    term: Text,
-    capacity: u64,
-    stored: Vec<Entry>,
-    entries: u64,
+    setup: Setup,
     host: Host,
     outgoing: Outgoing,
-    text: Vec<u8>,
-    last: usize,
-    latest: Progress,
-    book: Book,
-    viewers: Vec<Progress>,
+    frames: Frames,
+    seats: Seats,
+    log: Log,
     cause: Option<Cause>,
 }
 
 impl Model for Desk {
-    ghost use Rattle.desk_core.specs.Desk.{DeskState, IsKept};
+    ghost use Rattle.desk_core.specs.Desk.{DeskState};
+    ghost use Rattle.desk_core.specs.State.{state, StandsFor};
 
     ghost Value = { DeskState };
 
-    ghost view = { λ d. record { cols = d.cols; rows = d.rows; mode = d.mode; term = d.term; capacity = d.capacity; stored = d.stored.items; entries = d.entries; host = d.host; outgoing = d.outgoing; text = d.text.items; last = d.last; latest = d.latest; book = d.book; viewers = d.viewers.items; cause = d.cause } };
+    ghost view = { state };
 
-    ghost invariant = { λ d. IsKept (record { cols = d.cols; rows = d.rows; mode = d.mode; term = d.term; capacity = d.capacity; stored = d.stored.items; entries = d.entries; host = d.host; outgoing = d.outgoing; text = d.text.items; last = d.last; latest = d.latest; book = d.book; viewers = d.viewers.items; cause = d.cause }) };
+    ghost invariant = { StandsFor };
 }
 
 impl Desk {
@@ -66,22 +59,22 @@ impl Desk {
         ensures counts { (h : History) → Stands self.now h → result ≡ length h }
         ensures stands { IsKept self.now }
     {
-        self.entries
+        self.log.entries()
     }
 
     /// The newest stamp.
     pub fn stamp(&self) -> u64
         ensures { (h : History) → Stands self.now h → result ≡ newest h }
     {
-        self.latest.stamp
+        self.frames.stamp()
     }
 
     /// What a live viewer may do: the role that its join gave it.
     pub fn role(&self, viewer: u32) -> Role
-        requires { IsTrue (is_live self.now.book viewer) }
+        requires { IsTrue (is_live self.now.seats.book viewer) }
         ensures { (h : History) → Stands self.now h → role_in h viewer ≡ Some result }
     {
-        self.book.role(viewer)
+        self.seats.role(viewer)
     }
 
     /// How many bytes wait for the Telnet host.
@@ -95,6 +88,6 @@ impl Desk {
     pub fn newest_frame(&self) -> &[u8]
         ensures { (h : History) → Stands self.now h → result.now ≡ texts (newest_frame h) }
     {
-        text_from(&self.text, self.last)
+        self.frames.newest()
     }
 }

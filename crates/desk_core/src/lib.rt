@@ -2,26 +2,25 @@
 //! entries are added.
 //!
 //! Contracts see a desk as what it keeps (`DeskState`), and `Stands` says for which histories it may
-//! stand (`specs/Desk.antt`). Each call answers by the rule of its call in gate_model
-//! (`specs/Calls.antt` there) for every history for which the desk stood, and leaves a desk that
-//! stands for that history with the entry that the call added. A call that is refused leaves the desk
-//! and the buffer as they were. Every entry is stored.
+//! stand (`specs/Desk.antt`): each part of a desk has a relation of its own to the history. Each call
+//! ends in one way (`Ended` in `specs/Calls.antt`): it answers by the rule of its call in gate_model
+//! (`Step` in `specs/Calls.antt` there) for every history for which the desk stood, and leaves a desk
+//! that stands for that history with the entry that the call added. A call that is refused leaves the
+//! desk and the buffer as they were, and one that is refused for want of memory was stopped by nothing
+//! else. No entry is stored: the history is in no memory.
 #![tactic(auto)]
 
 mod desk;
 mod drawing;
+mod frames;
+mod giving;
 mod host;
 pub mod laws;
+mod log;
 mod outgoing;
 mod progress;
-#[cfg(test)]
-mod run_tests;
-mod storing;
-#[cfg(test)]
-mod tests;
+mod seats;
 mod typing;
-#[cfg(test)]
-mod viewer_tests;
 
 pub use desk::Desk;
 pub use gate_model::{

@@ -2,7 +2,7 @@
 use Rattle.std.proofs.Common.{◌≡◌, ◌≢◌, ℕ, suc, ◌+◌, ◌≤◌, ◌<◌, List, [], ◌∷◌, ◌++◌, length, length-append, drop, set, take, slice_index, true, false, Option, Some, None, ◌⊎◌, ⊎_elim, refl, sym, ap, ◌∙◌, arith}
 use Rattle.std.proofs.lemmas.Bool.{cases_lt, cases_eq, cases_Bool}
 use Rattle.std.proofs.lemmas.Bool.Decides.{nat_tests}
-use Rattle.std.proofs.lemmas.List.{drop_all, drop_at, take_more_set, length-take-le}
+use Rattle.std.proofs.lemmas.List.{drop_all, drop_at, take_more_set, length-take-le, take-append-drop}
 use Rattle.std.specs.List.{cons_option}
 use Rattle.bstr.specs.Utf8.{Decoded, decoded, bad, good, lead_len, or_replacement}
 use Rattle.bstr.proofs.lemmas.PieceLemmas.{by-shape, piece-bounds, value-1, value-2, value-3, value-4}
@@ -154,6 +154,26 @@ module _ (held : List ℕ) (b : ℕ) (waits : is_unfinished held ≡ true) (some
       ∙ ap (λ o. after (or_replacement o ∷ []) (read head_char (drop (decoded whole).size whole))) (sym none)
       ∙ ap (λ t. after (0xFFFD ∷ []) (read head_char t)) (drop_at held (b ∷ []) (decoded whole).size (sym size))
       ∙ ap (after (0xFFFD ∷ [])) next
+
+-- ---- a character at the front of a piece
+
+pub read-front : (piece : List ℕ) (c n : ℕ) → Some c ≡ (decoded piece).char → n ≡ (decoded piece).size → (n ≤ length piece) × (read head_char (take n piece) ≡ (c ∷ [], []))
+read-front [] c n found size = let none = found in cc
+read-front (b ∷ bs) c n found size =
+    let piece = b ∷ bs in
+    let bounds = piece-bounds piece (omega arith) in
+    let front = take n piece in
+    let within : n ≤ length piece = omega (arith, bounds, size) in
+    let long : length front ≡ n = length-take-le n piece within in
+    let all : front ++ drop n piece ≡ piece = take-append-drop n piece in
+    let whole : decoded (front ++ drop n piece) ≡ decoded piece = ap decoded all in
+    let same : decoded front ≡ decoded piece = decoded-front front (drop n piece) (omega (arith, long, bounds, size)) (omega (arith, long, size, ap (λ (p : Decoded). p.size) whole)) ∙ whole in
+    let char : (decoded front).char ≡ Some c = ap (λ (p : Decoded). p.char) same ∙ sym found in
+    let settled : is_unfinished front ≡ false = ⊎_elim
+    (λ (yes : is_unfinished front ≡ true). let none = sym char ∙ unfinished-none front yes in cc)
+    (λ no. no)
+    (cases_Bool (is_unfinished front)) in
+    (within, read-only front (decoded front) settled refl (ap (λ (p : Decoded). p.size) same ∙ sym size ∙ sym long) ∙ ap (λ o. (or_replacement o ∷ [], [])) char)
 
 -- ---- where the bytes stand
 

@@ -1,14 +1,15 @@
 -- One more byte, from its characters and from their control functions.
-use Rattle.std.proofs.Common.{◌≡◌, ℕ, ◌≤◌, List, [], ◌∷◌, ◌++◌, Option, Some, None, append_assoc, refl, sym, ap, subst, ◌∙◌, arith}
+use Rattle.std.proofs.Common.{◌≡◌, ℕ, All, map, ◌≤◌, List, [], ◌∷◌, ◌++◌, Option, Some, None, append_assoc, refl, sym, ap, subst, ◌∙◌, arith}
 use Rattle.std.proofs.lemmas.Bool.Decides.{nat_tests}
 use Rattle.std.specs.List.{cons_option}
+use Rattle.std.proofs.lemmas.List.Elements.{All-cons, All-head, All-tail}
 use Rattle.bstr.proofs.lemmas.PieceLemmas.{lossy_chars-nil}
 use Rattle.gate_model.specs.declared.control.Control.{Control}
 use Rattle.gate_model.specs.declared.control.Control.TheVariants.{Print}
 use Rattle.gate_model.specs.Characters.{characters, pending, head_char}
 use Rattle.gate_model.specs.Controls.{controls, unfinished, control_of, head_control}
 use Rattle.gate_model.specs.Reading.{read, after}
-use Rattle.gate_model.proofs.CharacterLaws.{characters_read}
+use Rattle.gate_model.proofs.CharacterLaws.{characters_read, head_char-is}
 use Rattle.gate_model.proofs.ControlLaws.{head_control-is}
 use Rattle.gate_model.proofs.Cutting.{read-unfinished, resumes}
 use Rattle.gate_model.proofs.UnfinishedLaws.{characters-cut, controls-cut}
@@ -17,9 +18,10 @@ use Rattle.ecma_parser.specs.declared.machine.Machine.{Machine}
 use Rattle.ecma_parser.specs.declared.state.State.TheVariants.{Ground}
 use Rattle.ecma_parser.specs.Held.{held_bytes, GivesCharacters}
 use Rattle.ecma_parser.specs.Past.{HaveRead}
+use Rattle.ecma_parser.specs.Printable.{IsPrintable}
 use Rattle.ecma_parser.specs.State.{Stands, StandsFor, Gives}
 use Rattle.ecma_parser.proofs.HeldLaws.{read-ascii}
-use Rattle.ecma_parser.proofs.StateLaws.{ground-outside}
+use Rattle.ecma_parser.proofs.StateLaws.{ground-outside, gives-on}
 
 -- what one more byte gives, and what is read after it
 pub record Steps (bytes : List ℕ) (byte : ℕ) (given : List Control) (held : Held) (m : Machine) : Type 0 where
@@ -103,3 +105,70 @@ new-past held m none stands =
       bytes_held = none;
       stands = subst (Stands m) (sym rest) stands;
     }
+
+-- ---- a run of bytes below 0x80
+
+read-run : (run : List ℕ) → All (λ b. b ≤ 0x7F) run → read head_char run ≡ (run, [])
+read-run [] all = read-unfinished head_char head_char-is [] refl
+read-run (b ∷ bs) all =
+    resumes head_char head_char-is (b ∷ []) bs
+    ∙ ap (λ (r : List ℕ × List ℕ). after r.0 (read head_char (r.1 ++ bs))) (read-ascii b (All-head (λ b. b ≤ 0x7F) b bs all))
+    ∙ ap (after (b ∷ [])) (read-run bs (All-tail (λ b. b ≤ 0x7F) b bs all))
+
+pub record Runs (bytes run : List ℕ) (given : List Control) (held : Held) (m : Machine) : Type 0 where
+  pub controls : controls (characters (bytes ++ run)) ≡ controls (characters bytes) ++ given
+  pub past : HaveRead held m (bytes ++ run)
+
+-- a run of whole characters
+pub run-whole : (bytes run cs : List ℕ) (held : Held) (m new : Machine) (given : List Control)
+    → HaveRead held m bytes → held_bytes held ≡ [] → read head_char run ≡ (cs, []) → ((rest : List ℕ) → Stands m rest → Gives (rest ++ cs) given new)
+    → Runs bytes run given held new
+run-whole bytes run cs held m new given past none whole reads =
+    let one = reads (unfinished (characters bytes)) past.stands in
+    let empty : pending bytes ≡ [] = sym past.bytes_held ∙ none in
+    let found : (characters (pending bytes ++ run), pending (pending bytes ++ run)) ≡ (cs, []) =
+    sym (characters_read (pending bytes ++ run)) ∙ ap (λ t. read head_char (t ++ run)) empty ∙ whole in
+    let cut = characters-cut bytes run in
+    let text : characters (bytes ++ run) ≡ characters bytes ++ cs =
+    cut.given ∙ ap (λ (r : List ℕ × List ℕ). characters bytes ++ r.0) found in
+    let both = controls-cut (characters bytes) cs in
+    record {
+      controls = ap controls text ∙ both.given ∙ ap (λ (r : List Control × List ℕ). controls (characters bytes) ++ r.0) one.is;
+      past = record {
+        bytes_held = none ∙ sym (ap (λ (r : List ℕ × List ℕ). r.1) found) ∙ sym cut.held;
+        stands = subst (Stands new) (sym (ap unfinished text ∙ both.held ∙ ap (λ (r : List Control × List ℕ). r.1) one.is)) one.stands;
+      };
+    }
+
+pub run-ascii : (bytes run : List ℕ) (held : Held) (m new : Machine) (given : List Control)
+    → HaveRead held m bytes → held_bytes held ≡ [] → All (λ b. b ≤ 0x7F) run → ((rest : List ℕ) → Stands m rest → Gives (rest ++ run) given new)
+    → Runs bytes run given held new
+run-ascii bytes run held m new given past none low reads = run-whole bytes run run held m new given past none (read-run run low) reads
+
+-- ---- a run of printable bytes outside a sequence
+
+printed-one : (byte : ℕ) → IsPrintable byte → control_of byte ≡ Print byte ∷ []
+printed-one byte (from, to) = grind (arith, nat_tests)
+
+gives-text : (run : List ℕ) (m : Machine) → m.state ≡ Ground → All IsPrintable run → Gives run (map Print run) m
+gives-text [] m at_ground all = record {
+  rest = [];
+  is = read-unfinished head_control head_control-is [] refl;
+  stands = subst (λ st. StandsFor st m.sequence []) (sym at_ground) refl;
+}
+gives-text (b ∷ bs) m at_ground all =
+    let first : IsPrintable b = All-head IsPrintable b bs all in
+    let one : Gives (b ∷ []) (Print b ∷ []) m = subst (λ given. Gives (b ∷ []) given m) (printed-one b first)
+    (ground-outside b m (λ e. absurd (omega (arith, first.1, first.0, e))) (subst (λ st. StandsFor st m.sequence []) (sym at_ground) refl)) in
+    gives-on (b ∷ []) bs (Print b ∷ []) (map Print bs) m m one
+    (λ rest stands. subst (λ r. Gives (r ++ bs) (map Print bs) m) (sym (subst (λ st. StandsFor st m.sequence rest) at_ground stands))
+    (gives-text bs m at_ground (All-tail IsPrintable b bs all)))
+
+pub run-text : (bytes run : List ℕ) (held : Held) (m : Machine) → HaveRead held m bytes → held_bytes held ≡ [] → m.state ≡ Ground → All IsPrintable run
+    → Runs bytes run (map Print run) held m
+run-text bytes run held m past none at_ground all = run-ascii bytes run held m m (map Print run) past none (low run all)
+    (λ rest stands. subst (λ r. Gives (r ++ run) (map Print run) m) (sym (subst (λ st. StandsFor st m.sequence rest) at_ground stands)) (gives-text run m at_ground all))
+  where
+    low : (run : List ℕ) → All IsPrintable run → All (λ b. b ≤ 0x7F) run
+    low [] all = λ k d below. absurd (omega (arith, below))
+    low (b ∷ bs) all = All-cons (λ b. b ≤ 0x7F) b bs (omega (arith, (All-head IsPrintable b bs all).1)) (low bs (All-tail IsPrintable b bs all))

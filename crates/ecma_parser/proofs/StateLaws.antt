@@ -1,12 +1,12 @@
 -- How one more character changes what a state stands for.
-use Rattle.std.proofs.Common.{◌≡◌, ◌≢◌, ℕ, List, [], ◌∷◌, ◌++◌, Bool, true, false, cond, Some, None, append_assoc, append-nil, refl, sym, ap, subst, ◌∙◌}
+use Rattle.std.proofs.Common.{◌≡◌, ◌≢◌, ◌+◌, ℕ, take, List, [], ◌∷◌, ◌++◌, Bool, true, false, cond, Some, None, append_assoc, append-nil, refl, sym, ap, subst, ◌∙◌}
 use Rattle.std.proofs.lemmas.Bool.{cond-true, cond-false, ne_eqb}
 use Rattle.std.proofs.lemmas.List.Sums.{take_while-cons}
 use Rattle.std.specs.List.{take_while}
 use Rattle.gate_model.specs.declared.control.Control.{Control}
 use Rattle.gate_model.specs.Controls.{Found, after_while, ended_by, no_control, is_parameter, is_intermediate, is_csi_final, has_effect, sequence, csi_after, string_escape, head_string, head_palette, head_osc, is_escape_final, begins_string, escape_after, plain_escape, head_escape, control_of, head_control}
 use Rattle.gate_model.specs.Reading.{read, after}
-use Rattle.gate_model.proofs.Cutting.{read-whole, read-unfinished}
+use Rattle.gate_model.proofs.Cutting.{read-whole, read-unfinished, resumes}
 use Rattle.gate_model.proofs.ControlLaws.{head_control-is}
 use Rattle.ecma_parser.specs.declared.machine.Machine.{Machine}
 use Rattle.ecma_parser.specs.declared.sequence.Sequence.{Sequence}
@@ -266,3 +266,25 @@ param-text s rest state is stands = of_parts (subst (λ st. StandsFor st s rest)
       where
         begins : (c : ℕ) (text : List ℕ) → c ∷ text ≡ [] → ⊥
         begins c text none = cc
+
+-- what is read next, from what was unfinished
+pub gives-on : (cs more : List ℕ) (given next : List Control) (between m : Machine) → Gives cs given between
+    → ((rest : List ℕ) → Stands between rest → Gives (rest ++ more) next m) → Gives (cs ++ more) (given ++ next) m
+gives-on cs more given next between m first second =
+    let then = second first.rest first.stands in
+    record {
+      rest = then.rest;
+      is =
+          resumes head_control head_control-is cs more
+          ∙ ap (λ (r : List Control × List ℕ). after r.0 (read head_control (r.1 ++ more))) first.is
+          ∙ ap (after given) then.is;
+      stands = then.stands;
+    }
+
+-- the next byte of a piece, after bytes that completed nothing
+pub gives-next : (rest piece : List ℕ) (i b : ℕ) (next : List Control) (between m : Machine) → take (i + 1) piece ≡ take i piece ++ b ∷ []
+    → Gives (rest ++ take i piece) [] between → ((left : List ℕ) → Stands between left → Gives (left ++ b ∷ []) next m)
+    → Gives (rest ++ take (i + 1) piece) next m
+gives-next rest piece i b next between m more first second =
+    subst (λ cs. Gives cs next m) (append_assoc rest (take i piece) (b ∷ []) ∙ ap (λ t. rest ++ t) (sym more))
+    (gives-on (rest ++ take i piece) (b ∷ []) [] next between m first second)

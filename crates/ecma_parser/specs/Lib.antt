@@ -5,3 +5,4 @@ pub mod Sequence
 pub mod State
 pub mod Past
 pub mod Parser
+pub mod Printable

@@ -23,7 +23,6 @@ mod machine;
 mod parser;
 mod sequence;
 mod state;
-#[cfg(test)]
-mod tests;
 
 pub use parser::{Pair, Parser};
+pub use state::Completed;

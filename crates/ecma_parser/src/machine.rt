@@ -1,4 +1,4 @@
-ghost use Rattle.std.specs.Prelude.{◌≡◌, ◌++◌, ◌∷◌, [], ◌<◌, ℕ, List, None, IsTrue, ◌↔◌, true, false, IfSome};
+ghost use Rattle.std.specs.Prelude.{◌≡◌, ◌++◌, ◌∷◌, [], ◌<◌, ◌≤◌, All, length, slice_index, take, ℕ, List, None, IsTrue, ◌↔◌, true, false, IfSome};
 ghost use Rattle.std.specs.List.{cons_option};
 ghost use Rattle.gate_model.specs.Controls.{HasFewParameters, csi_after, escape_after, head_osc, head_palette, head_string, string_escape};
 ghost use Rattle.ecma_parser.specs.Sequence.{Holds, Continues};
@@ -60,6 +60,26 @@ impl Machine {
             State::SosPmApcString => self.string(c, false),
             State::StringEscape => self.string_escape(c),
         }
+    }
+
+    /// Reads bytes below 0x80 until one completes something, and answers how many it has read.
+    pub fn read_ascii(&mut self, piece: &[u8]) -> (Completed, usize)
+        ensures within { result.1 ≤ length piece.now }
+        ensures progress { 0 < length piece.now → slice_index piece.now 0 < 0x80 → 0 < result.1 }
+        ensures ascii { All (λ b. b ≤ 0x7F) (take result.1 piece.now) }
+        ensures gives { (rest : List ℕ) → Stands self.old rest → Gives (rest ++ take result.1 piece.now) (control_by result.0 self.new.sequence) self.new }
+    {
+        for (i, byte) in piece.iter().enumerate() {
+            if 0x80 <= *byte {
+                return (Completed::Nothing, i);
+            }
+            let completed = self.read(*byte as char);
+            match completed {
+                Completed::Nothing => {}
+                _ => return (completed, i + 1),
+            }
+        }
+        (Completed::Nothing, piece.len())
     }
 
     /// The control function that the last character completed.

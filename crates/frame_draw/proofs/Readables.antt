@@ -6,32 +6,16 @@ use Rattle.std.proofs.lemmas.Int.{ints}
 use Rattle.std.proofs.lemmas.List.Elements.{All-head, All-tail}
 use Rattle.gate_model.specs.declared.instr.Instr.{Instr}
 use Rattle.gate_model.specs.declared.instr.Instr.TheVariants.{Size, Sync}
-use Rattle.gate_model.specs.declared.glyphs.TheConstants.{PALETTE}
 use Rattle.gate_model.specs.declared.glyphs.patch.Patch.{Patch}
 use Rattle.gate_model.specs.KeyGrid.{KeyGrid}
-use Rattle.gate_model.specs.Palette.{colour_of}
+use Rattle.gate_model.specs.Palette.{colour_of, palette}
 use Rattle.gate_model.specs.GlyphRects.{IsInside, rects}
-use Rattle.gate_model.specs.InstrLaws.{IsInRange}
-use Rattle.gate_model.specs.Shape.{IsLayer}
+use Rattle.gate_model.specs.Shape.{AreReadable, IsInRange, IsLayer}
 use Rattle.gate_model.specs.Steps.{IsScreenSize}
 use Rattle.gate_model.proofs.GlyphRects.{rects_inside}
-use Rattle.frame_draw.specs.Readable.{AreReadable}
+use Rattle.gate_model.proofs.Readable.{readable_both}
 use Rattle.frame_draw.specs.Strokes.{fill, inked, inks, key_in, key_ink, paper_run, papers, rect_at, row_inks, row_papers, run_start, strokes, whole_runs}
 use Rattle.frame_draw.proofs.Papers.{start_below}
-
--- ---- lists
-pub readable_both : (first second : List Instr) → AreReadable first → AreReadable second → AreReadable (first ++ second)
-readable_both [] second r q = q
-readable_both (i ∷ is) second r q = (r.0, readable_both is second r.1 q)
-
--- the instructions before a place, and those from it on
-pub readable_front : (first second : List Instr) → AreReadable (first ++ second) → AreReadable first
-readable_front [] second r = tt
-readable_front (i ∷ is) second r = (r.0, readable_front is second r.1)
-
-pub readable_rest : (first second : List Instr) → AreReadable (first ++ second) → AreReadable second
-readable_rest [] second r = r
-readable_rest (i ∷ is) second r = readable_rest is second r.1
 
 -- ---- colours
 is_colour : List ℕ → Bool
@@ -49,9 +33,9 @@ at_place p (x ∷ xs) (suc i) d e h = at_place p xs i d (both (p x) (list_all p 
 from_lt : (a b : ℕ) → nat_lt a b ≡ true → a < b
 from_lt a b e = grind (arith, nat_tests)
 
-palette_is : (index : ℕ) → is_colour (slice_index_or PALETTE index (0 ∷ 0 ∷ 0 ∷ [])) ≡ true
+palette_is : (index : ℕ) → is_colour (slice_index_or palette index (0 ∷ 0 ∷ 0 ∷ [])) ≡ true
 unfolding is_colour
-palette_is index = at_place is_colour PALETTE index (0 ∷ 0 ∷ 0 ∷ []) refl refl
+palette_is index = at_place is_colour palette index (0 ∷ 0 ∷ 0 ∷ []) refl refl
 
 is_visible : IsLayer (pos 0)
 is_visible = search (rules, ints)
@@ -59,7 +43,7 @@ is_visible = search (rules, ints)
 fill_readable : (index : ℕ) → IsInRange (fill index)
 unfolding fill colour_of is_colour
 fill_readable index =
-    let rgb = slice_index_or PALETTE index (0 ∷ 0 ∷ 0 ∷ []) in
+    let rgb = slice_index_or palette index (0 ∷ 0 ∷ 0 ∷ []) in
     let p = both (nat_lt (slice_index rgb 0) 256) (nat_lt (slice_index rgb 1) 256 && nat_lt (slice_index rgb 2) 256) (palette_is index) in
     let q = both (nat_lt (slice_index rgb 1) 256) (nat_lt (slice_index rgb 2) 256) p.1 in
     (is_visible, from_lt (slice_index rgb 0) 256 p.0, from_lt (slice_index rgb 1) 256 q.0, from_lt (slice_index rgb 2) 256 q.1)

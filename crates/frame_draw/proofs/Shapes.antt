@@ -1,27 +1,25 @@
 -- The strokes of a screen are of the shape of a frame: each fill follows a rectangle, and no rectangle is left unfilled.
-use Rattle.std.proofs.Common.{◌≡◌, ℕ, zero, suc, ◌-◌, ◌*◌, ℤ, pos, List, [], ◌∷◌, ◌++◌, map, Bool, true, false, ◌==◌, if◌then◌else◌, IsTrue, refl, sym, ap, subst, ◌∙◌, arith, rules}
+use Rattle.std.proofs.Common.{◌≡◌, ℕ, zero, suc, ◌-◌, ◌*◌, ◌^◌, ◌<◌, ℤ, pos, List, [], ◌∷◌, ◌++◌, map, Bool, true, false, ◌==◌, if◌then◌else◌, IsTrue, refl, sym, ap, subst, ◌∙◌, arith}
 use Rattle.std.proofs.lemmas.Bool.Decides.{nat_tests}
-use Rattle.std.proofs.lemmas.Int.{ints}
 use Rattle.gate_model.specs.declared.instr.Instr.{Instr}
 use Rattle.gate_model.specs.declared.instr.Instr.TheVariants.{Size, Rect, Cfill, Copy, Sync, Disconnect, Error}
 use Rattle.gate_model.specs.declared.glyphs.patch.Patch.{Patch}
 use Rattle.gate_model.specs.KeyGrid.{KeyGrid}
 use Rattle.gate_model.specs.Layers.{nothing, play}
 use Rattle.gate_model.specs.Frames.{Opens, Redraws}
-use Rattle.gate_model.specs.Shape.{Draws, IsLayer, OpensScreen, Shape, is_size, without_layer}
+use Rattle.gate_model.specs.Shape.{Draws, OpensScreen, Shape, is_size, without_layer}
+use Rattle.gate_model.specs.Steps.{IsScreenSize}
 use Rattle.frame_draw.specs.Strokes.{fill, inked, inks, key_in, key_ink, paper_run, papers, rect_at, row_inks, row_papers, run_start, strokes, whole_runs}
 use Rattle.frame_draw.proofs.Picture.{redraws}
-
-is_visible : IsLayer (pos 0)
-is_visible = search (rules, ints)
+use Rattle.frame_draw.proofs.Readables.{frame_readable, opening_readable}
 
 module _ (cols rows : ℕ) where
   pub draws_both : (unfilled : List ℤ) (first second : List Instr) → Draws cols rows unfilled first → Draws cols rows [] second → Draws cols rows unfilled (first ++ second)
   draws_both unfilled [] second d e = subst (λ (u : List ℤ). Draws cols rows u second) (sym d) e
-  draws_both unfilled (Size k w h ∷ is) second d e = (d.0, d.1, draws_both unfilled is second d.2 e)
-  draws_both unfilled (Rect k x y w h ∷ is) second d e = (d.0, draws_both (k ∷ unfilled) is second d.1 e)
+  draws_both unfilled (Size k w h ∷ is) second d e = (d.0, draws_both unfilled is second d.1 e)
+  draws_both unfilled (Rect k x y w h ∷ is) second d e = draws_both (k ∷ unfilled) is second d e
   draws_both unfilled (Cfill k red green blue ∷ is) second d e = (d.0, draws_both (without_layer k unfilled) is second d.1 e)
-  draws_both unfilled (Copy k x y w h to to_x to_y ∷ is) second d e = (d.0, d.1, draws_both unfilled is second d.2 e)
+  draws_both unfilled (Copy k x y w h to to_x to_y ∷ is) second d e = draws_both unfilled is second d e
   draws_both unfilled (Sync t ∷ is) second d e = absurd d
   draws_both unfilled (Disconnect ∷ is) second d e = absurd d
   draws_both unfilled (Error status ∷ is) second d e = absurd d
@@ -39,16 +37,16 @@ module _ (cols rows : ℕ) where
   rects_filled : (n x y : ℕ) (ps : List Patch) (ink : ℕ) → Draws cols rows (visibles (suc n)) (map (rect_at x y) ps ++ fill ink ∷ [])
   unfolding visibles fill
   rects_filled n x y [] ink = (refl, without_visible n)
-  rects_filled n x y (p ∷ ps) ink = (is_visible, rects_filled (suc n) x y ps ink)
+  rects_filled n x y (p ∷ ps) ink = rects_filled (suc n) x y ps ink
 
   inked_draws : (x y : ℕ) (ps : List Patch) (ink : ℕ) → Draws cols rows [] (inked x y ps ink)
   unfolding inked visibles
   inked_draws x y [] ink = refl
-  inked_draws x y (p ∷ ps) ink = (is_visible, rects_filled 0 x y ps ink)
+  inked_draws x y (p ∷ ps) ink = rects_filled 0 x y ps ink
 
   run_draws : (from to y paper : ℕ) → Draws cols rows [] (paper_run from to y paper)
   unfolding paper_run fill
-  run_draws from to y paper = (is_visible, (refl, refl))
+  run_draws from to y paper = (refl, refl)
 
   whole_runs_draw : (s : KeyGrid) (y n : ℕ) → Draws cols rows [] (whole_runs s y n)
   unfolding whole_runs
@@ -87,14 +85,15 @@ whole_size : (cols rows : ℕ) → IsTrue (is_size cols rows (pos 0) (8 * cols) 
 whole_size cols rows = grind (arith, nat_tests)
 
 -- ---- the list of a frame, and the list of an opening
-pub frame_shape : (s : KeyGrid) (t : ℕ) (is : List Instr) → is ≡ strokes s ++ Sync t ∷ [] → Shape s.cols s.rows is t
-frame_shape s t is e = record { body = strokes s; ends = e; body_draws = strokes_draw s.cols s.rows s }
+pub frame_shape : (s : KeyGrid) (t : ℕ) (is : List Instr) → IsScreenSize s.cols s.rows → t < 2 ^ 64 → is ≡ strokes s ++ Sync t ∷ [] → Shape s.cols s.rows is t
+frame_shape s t is size small e = record { body = strokes s; ends = e; body_draws = strokes_draw s.cols s.rows s; in_range = frame_readable s t is size small e }
 
-pub opening_shape : (s : KeyGrid) (t : ℕ) (is : List Instr) → is ≡ (Size (pos 0) (8 * s.cols) (16 * s.rows) ∷ strokes s) ++ Sync t ∷ [] → Shape s.cols s.rows is t
-opening_shape s t is e = record {
+pub opening_shape : (s : KeyGrid) (t : ℕ) (is : List Instr) → IsScreenSize s.cols s.rows → t < 2 ^ 64 → is ≡ (Size (pos 0) (8 * s.cols) (16 * s.rows) ∷ strokes s) ++ Sync t ∷ [] → Shape s.cols s.rows is t
+opening_shape s t is size small e = record {
   body = Size (pos 0) (8 * s.cols) (16 * s.rows) ∷ strokes s;
   ends = e;
-  body_draws = (is_visible, whole_size s.cols s.rows, strokes_draw s.cols s.rows s);
+  body_draws = (whole_size s.cols s.rows, strokes_draw s.cols s.rows s);
+  in_range = opening_readable s t is size small e;
 }
 
 pub opening_first : (s : KeyGrid) (t : ℕ) (is : List Instr) → is ≡ (Size (pos 0) (8 * s.cols) (16 * s.rows) ∷ strokes s) ++ Sync t ∷ [] → OpensScreen is

@@ -1,3 +1,2 @@
--- The instructions of a frame that draws the whole screen, and the lists that are read back.
+-- The instructions of a frame that draws the whole screen.
 pub mod Strokes
-pub mod Readable

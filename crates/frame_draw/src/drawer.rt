@@ -1,7 +1,7 @@
 //! Frames that draw a whole screen: first each row's papers, in runs of equal paper, then each cell's
 //! glyph in its ink (this project's own). A frame's contract cites what it does to the visible layer
-//! (`Redraws`, `Opens`), what it may consist of (`Shape`), and that it is read back as it was written
-//! (`AreReadable`).
+//! (`Redraws`, `Opens`) and what it may consist of (`Shape`): among that, that each instruction is in
+//! range, so that it is read back as it was written.
 
 ghost use Rattle.std.specs.Prelude.{◌≡◌, ◌+◌, ◌-◌, ◌*◌, ◌<◌, ◌≤◌, pos, List, [], ◌∷◌, ◌++◌, All, IfOk, OnOk, map};
 ghost use Rattle.gate_model.specs.declared.instr.Instr.TheVariants.{Size, Sync};
@@ -9,7 +9,6 @@ ghost use Rattle.gate_model.specs.Frames.{Opens, Redraws};
 ghost use Rattle.gate_model.specs.Screens.{AreColoured};
 ghost use Rattle.gate_model.specs.Shape.{OpensScreen, Shape};
 ghost use Rattle.gate_model.specs.Steps.{IsScreenSize};
-ghost use Rattle.frame_draw.specs.Readable.{AreReadable};
 ghost use Rattle.frame_draw.specs.Strokes.{fill, inks, key_in, key_ink, paper_run, papers, row_inks, row_papers, strokes};
 
 use gate_model::glyphs::{colour_of, rects_of};
@@ -24,7 +23,6 @@ pub fn opening(alloc: Global, now: &Shown, stamp: u64) -> Result<Instrs, NoMemor
     ensures shape { IfOk result (λ is. Shape now.now.cols now.now.rows is stamp) }
     ensures opens { IfOk result (λ is. OpensScreen is) }
     ensures drawn { IfOk result (λ is. Opens is now.now) }
-    ensures readable { IfOk result (λ is. AreReadable is) }
 {
     let mut list = Vec::with_capacity(alloc, likely_length(now))?;
     list.push(Instr::Size {
@@ -43,7 +41,6 @@ pub fn frame(alloc: Global, now: &Shown, stamp: u64) -> Result<Instrs, NoMemory>
     requires coloured { AreColoured now.now.keys }
     ensures shape { IfOk result (λ is. Shape now.now.cols now.now.rows is stamp) }
     ensures redraws { IfOk result (λ is. Redraws is now.now) }
-    ensures readable { IfOk result (λ is. AreReadable is) }
 {
     let mut list = Vec::with_capacity(alloc, likely_length(now))?;
     draw_screen(&mut list, now, stamp)?;
@@ -180,88 +177,5 @@ fn fill_with(index: u8) -> Instr
         red: colour.red,
         green: colour.green,
         blue: colour.blue,
-    }
-}
-
-#[cfg(test)]
-mod tests {
-    use super::*;
-    use gate_model::NoMemory;
-
-    // A red exclamation mark and a space on black, then an underlined green space on blue.
-    fn three_cells(alloc: Global) -> Result<Shown, NoMemory>
-        ensures cols { IfOk result (λ s. s.cols ≡ 3) }
-        ensures rows { IfOk result (λ s. s.rows ≡ 1) }
-        ensures coloured { IfOk result (λ s. AreColoured s.keys) }
-    {
-        let mut keys = Vec::new(alloc);
-        keys.push(Key {
-            face: '!',
-            under: false,
-            ink: 1,
-            paper: 0,
-        })?;
-        keys.push(Key {
-            face: ' ',
-            under: false,
-            ink: 7,
-            paper: 0,
-        })?;
-        keys.push(Key {
-            face: ' ',
-            under: true,
-            ink: 2,
-            paper: 4,
-        })?;
-        Ok(Shown::new(3, 1, keys))
-    }
-
-    fn rect(x: u32, y: u32, width: u32, height: u32) -> Instr {
-        Instr::Rect {
-            layer: 0,
-            x,
-            y,
-            width,
-            height,
-        }
-    }
-
-    fn cfill(red: u8, green: u8, blue: u8) -> Instr {
-        Instr::Cfill {
-            layer: 0,
-            red,
-            green,
-            blue,
-        }
-    }
-
-    #[test]
-    fn a_screen_is_drawn_by_runs_of_paper_and_columns_of_ink(
-        rt: HostRuntime,
-    ) -> Result<(), NoMemory> {
-        let shown = three_cells(rt.alloc())?;
-        let drawn = [
-            rect(0, 0, 16, 16),
-            cfill(0, 0, 0),
-            rect(16, 0, 8, 16),
-            cfill(0, 0, 170),
-            rect(3, 2, 1, 10),
-            rect(3, 14, 1, 2),
-            cfill(170, 0, 0),
-            rect(16, 15, 8, 1),
-            cfill(0, 170, 0),
-            Instr::Sync { stamp: 5 },
-        ];
-        let again = frame(rt.alloc(), &shown, 5)?;
-        assert!(rt; again.as_slice() == drawn.as_slice());
-        let first = opening(rt.alloc(), &shown, 5)?;
-        let size = Instr::Size {
-            layer: 0,
-            width: 24,
-            height: 16,
-        };
-        assert!(rt; first.as_slice()[0] == size);
-        assert!(rt; &first.as_slice()[1..] == drawn.as_slice());
-        Ok(())
     }
 }

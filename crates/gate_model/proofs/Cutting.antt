@@ -60,5 +60,21 @@ module _ {A B : Type 0} (head : Head A B) (is : IsHead head) where
           ∙ (after-after p.0 (read head p.1).0 (read head ((read head p.1).1 ++ more))
           ∙ ap (λ (r : List B × List A). after r.0 (read head (r.1 ++ more))) (sym (read-whole xs p.1 p.0 e))))
 
+  -- what is left has nothing whole at its front
+  rest_within : (n : ℕ) (xs : List A) → length xs ≤ n → head (read head xs).1 ≡ None
+  rest_within zero xs le = found (head xs) refl
+    where
+      found : (o : Option (List B × List A)) → head xs ≡ o → head (read head xs).1 ≡ None
+      found None e = rw (read-unfinished xs e) e
+      found (Some p) e = absurd (omega (arith, is.shrinks xs p.1 p.0 e, le))
+  rest_within (suc n) xs le = found (head xs) refl (λ ys. rest_within n ys)
+    where
+      found : (o : Option (List B × List A)) → head xs ≡ o → ((ys : List A) → length ys ≤ n → head (read head ys).1 ≡ None) → head (read head xs).1 ≡ None
+      found None e shorter = rw (read-unfinished xs e) e
+      found (Some p) e shorter = rw (read-whole xs p.1 p.0 e) (shorter p.1 (omega (arith, is.shrinks xs p.1 p.0 e, le)))
+
+  pub rest-unfinished : (xs : List A) → head (read head xs).1 ≡ None
+  rest-unfinished xs = rest_within (length xs) xs (omega arith)
+
   pub resumes : Resumes head
   resumes xs more = resumes_within (length xs) xs more (omega arith)

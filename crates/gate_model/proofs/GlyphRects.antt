@@ -9,7 +9,7 @@ use Rattle.std.proofs.lemmas.List.Kept.{AllPairs-cons}
 use Rattle.std.proofs.lemmas.Grind.{common_steps}
 use Rattle.std.proofs.lemmas.Nat.{one_shl}
 use Rattle.gate_model.specs.declared.glyphs.patch.Patch.{Patch}
-use Rattle.gate_model.specs.declared.glyphs.TheConstants.{FONT, BOX}
+use Rattle.gate_model.specs.Font.{font, box}
 use Rattle.gate_model.specs.Glyphs.{columns_of, lit}
 use Rattle.gate_model.specs.GlyphRects.{IsApart, IsInside, covers, first_bit, end_bit, without_run, run_rect, underline, rects, all_rects, columns_rects, column_rects, runs_within}
 use Rattle.gate_model.proofs.GlyphTests.{all_below, both_or_neither, in_columns, covers_pixel, covers_all, is_before, all_before, is_inside, rects_pass, glyph_passes, font_passes, box_passes, left_after, column_passes, columns_pass}
@@ -55,7 +55,7 @@ chosen p false x y h k = k
 
 -- every face
 face_passes : (face : ℕ) → glyph_passes (columns_of face) ≡ true
-face_passes face = chosen glyph_passes (nat_le 32 face && nat_le face 126) _ BOX (at_place glyph_passes FONT (face - 32) BOX font_passes box_passes) box_passes
+face_passes face = chosen glyph_passes (nat_le 32 face && nat_le face 126) _ box (at_place glyph_passes font (face - 32) box font_passes box_passes) box_passes
 
 rects_of_face : (face : ℕ) (under : Bool) → rects_pass under (columns_of face) ≡ true
 unfolding glyph_passes

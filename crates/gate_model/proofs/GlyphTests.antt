@@ -3,7 +3,7 @@ use Rattle.std.proofs.Common.{◌≡◌, ℕ, zero, suc, ◌+◌, ◌-◌, ◌/�
 use lib.Count.{count_trailing_zeros}
 use Rattle.std.specs.List.{list_any, list_all}
 use Rattle.gate_model.specs.declared.glyphs.patch.Patch.{Patch}
-use Rattle.gate_model.specs.declared.glyphs.TheConstants.{FONT, BOX}
+use Rattle.gate_model.specs.Font.{font, box}
 use Rattle.gate_model.specs.Glyphs.{bit_of}
 use Rattle.gate_model.specs.GlyphRects.{covers, first_bit, end_bit, without_run, all_rects, columns_rects, column_rects, runs_within}
 
@@ -43,11 +43,11 @@ unfoldable pub glyph_passes : List ℕ → Bool
 glyph_passes columns = rects_pass true columns && (rects_pass false columns && all_below (λ i. nat_lt (slice_index columns i) 128) 5)
 
 -- the whole font
-pub font_passes : list_all glyph_passes FONT ≡ true
+pub font_passes : list_all glyph_passes font ≡ true
 unfolding glyph_passes rects_pass is_inside all_before is_before covers_all covers_pixel in_columns both_or_neither all_below columns_rects column_rects runs_within count_trailing_zeros
 font_passes = refl
 
-pub box_passes : glyph_passes BOX ≡ true
+pub box_passes : glyph_passes box ≡ true
 unfolding glyph_passes rects_pass is_inside all_before is_before covers_all covers_pixel in_columns both_or_neither all_below columns_rects column_rects runs_within count_trailing_zeros
 box_passes = refl
 

@@ -1,5 +1,5 @@
 -- What each entry does to the parts of a history, for the proofs above.
-use Rattle.std.proofs.Common.{◌≡◌, ℕ, ◌*◌, ◌<◌, List, [], ◌∷◌, ◌++◌, refl, ap, sym, ◌∙◌, append-nil}
+use Rattle.std.proofs.Common.{◌≡◌, ℕ, ◌*◌, ◌<◌, List, [], ◌∷◌, ◌++◌, refl, ap, sym, ◌∙◌, subst, append-nil}
 use Rattle.std.specs.Prelude.{nat_lt}
 use Rattle.std.proofs.lemmas.Grind.{flat_map-append}
 use Rattle.std.proofs.lemmas.List.Elements.{filter-append}
@@ -8,7 +8,7 @@ use Rattle.gate_model.specs.declared.act.Act.{Act}
 use Rattle.gate_model.specs.declared.cause.Cause.{Cause}
 use Rattle.gate_model.specs.declared.instr.Instr.{Instr}
 use Rattle.gate_model.specs.declared.entry.Entry.{Entry}
-use Rattle.gate_model.specs.declared.entry.Entry.TheVariants.{Start, Feed, Join, Read, Write, Take, Leave, Close}
+use Rattle.gate_model.specs.declared.entry.Entry.TheVariants.{Feed, Join, Read, Write, Take, Leave, Close}
 use Rattle.gate_model.specs.declared.how.How.{How}
 use Rattle.gate_model.specs.declared.sharing.Role.{Role}
 use Rattle.gate_model.specs.Layers.{draw, nothing, visible}
@@ -19,8 +19,12 @@ use Rattle.gate_model.specs.TelnetTokens.{tokens}
 use Rattle.gate_model.specs.Terminal.{opening_screen}
 use Rattle.gate_model.specs.Entries.{fed, framed}
 use Rattle.gate_model.specs.History.{History, at, bytes, columns, lines, frames, frames_after, instructions, all_frames}
-use Rattle.gate_model.specs.Steps.{IsScreenSize, IsNext, Legal}
+use Rattle.gate_model.specs.declared.answer.Answer.{Answer}
+use Rattle.gate_model.specs.declared.event.Event.{Event}
+use Rattle.gate_model.specs.Calls.{Step}
+use Rattle.gate_model.specs.Steps.{IsScreenSize, Legal}
 use Rattle.gate_model.specs.Truth.{AllDrawn}
+use Rattle.gate_model.proofs.Added.{next, stays_started}
 use Rattle.gate_model.proofs.Drawing.{draw-append}
 use Rattle.gate_model.proofs.ScreenLaws.{after_controls-append, columns-screen, rows-screen}
 
@@ -70,27 +74,13 @@ all_frames-plain h e p = let f : frames (e ∷ h) ≡ frames h = rw p.no_frame (
 -- what a legal history has
 pub legal-size : (h : History) → Legal h → IsScreenSize (columns h) (lines h)
 legal-size [] l = absurd l
-legal-size (Start cols rows mode term entries stamp frame ∷ []) l = l.size
-legal-size (Feed bs stamp frame ∷ []) l = absurd l
-legal-size (Join viewer role first ∷ []) l = absurd l
-legal-size (Read viewer how ∷ []) l = absurd l
-legal-size (Write viewer acts ∷ []) l = absurd l
-legal-size (Take count ∷ []) l = absurd l
-legal-size (Leave viewer ∷ []) l = absurd l
-legal-size (Close cause ∷ []) l = absurd l
-legal-size (Start cols rows mode term entries stamp frame ∷ f ∷ g) l = absurd l.1
-legal-size (Feed bs stamp frame ∷ f ∷ g) l = legal-size (f ∷ g) l.0
-legal-size (Join viewer role first ∷ f ∷ g) l = legal-size (f ∷ g) l.0
-legal-size (Read viewer how ∷ f ∷ g) l = legal-size (f ∷ g) l.0
-legal-size (Write viewer acts ∷ f ∷ g) l = legal-size (f ∷ g) l.0
-legal-size (Take count ∷ f ∷ g) l = legal-size (f ∷ g) l.0
-legal-size (Leave viewer ∷ f ∷ g) l = legal-size (f ∷ g) l.0
-legal-size (Close cause ∷ f ∷ g) l = legal-size (f ∷ g) l.0
+legal-size (e ∷ []) l = subst (λ (x : Entry). IsScreenSize (columns (x ∷ [])) (lines (x ∷ []))) (sym l.2.4) l.2.0.size
+legal-size (e ∷ f ∷ g) l = let same = stays_started (f ∷ g) e (next e f g l) in rw (same.cols, same.rows) (legal-size (f ∷ g) l.0)
 
--- one entry more is legal where it may follow
-pub legal-next : (h : History) (e : Entry) → Legal h → IsNext h e → Legal (e ∷ h)
-legal-next [] e l n = absurd l
-legal-next (f ∷ g) e l n = (l, n)
+-- one entry more is legal where a call adds it
+pub legal-more : (h : History) (event : Event) (answer : Answer) (e : Entry) → Legal h → Step h event answer (e ∷ []) → Legal (e ∷ h)
+legal-more [] event answer e l s = absurd l
+legal-more (f ∷ g) event answer e l s = (l, event, answer, s)
 
 -- the newest drawing
 pub drawn-now : (h : History) → Legal h → AllDrawn h → IsDrawn (draw nothing (all_frames h) visible) (shown (at h))

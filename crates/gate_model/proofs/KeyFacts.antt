@@ -1,5 +1,5 @@
 -- Worked facts of the bytes of keys and of the modifiers, computed from the definitions.
-use Rattle.std.specs.Prelude.{◌≡◌, [], ◌∷◌, true, false, refl}
+use Rattle.std.specs.Prelude.{◌≡◌, ℕ, Bool, List, [], ◌∷◌, map, true, false, refl, codes}
 use Rattle.std.specs.Char.{encode_utf8}
 use Rattle.gate_model.specs.declared.mods.Mods.{Mods}
 use Rattle.gate_model.specs.Modifiers.{mods_after}
@@ -18,158 +18,6 @@ alt = mods_after none 0xFFEA true
 abbrev both : Mods
 both = mods_after (mods_after none 0xFFE9 true) 0xFFE4 true
 
-small_letter : encoding 0x61 none false ≡ 0x61 ∷ []
-unfolding encoding encode_utf8
-small_letter = refl
-
-control_small_letter : encoding 0x61 control false ≡ 0x01 ∷ []
-unfolding encoding encode_utf8
-control_small_letter = refl
-
-control_capital_letter : encoding 0x41 control false ≡ 0x01 ∷ []
-unfolding encoding encode_utf8
-control_capital_letter = refl
-
-control_at : encoding 0x40 control false ≡ 0x00 ∷ []
-unfolding encoding encode_utf8
-control_at = refl
-
-control_low_line : encoding 0x5F control false ≡ 0x1F ∷ []
-unfolding encoding encode_utf8
-control_low_line = refl
-
-control_grave : encoding 0x60 control false ≡ 0x60 ∷ []
-unfolding encoding encode_utf8
-control_grave = refl
-
-control_brace : encoding 0x7B control false ≡ 0x7B ∷ []
-unfolding encoding encode_utf8
-control_brace = refl
-
-control_blank : encoding 0x20 control false ≡ 0x00 ∷ []
-unfolding encoding encode_utf8
-control_blank = refl
-
-control_question : encoding 0x3F control false ≡ 0x7F ∷ []
-unfolding encoding encode_utf8
-control_question = refl
-
-control_m : encoding 0x6D control false ≡ 0x0D ∷ 0x00 ∷ []
-unfolding encoding encode_utf8
-control_m = refl
-
-control_alt_m : encoding 0x4D both false ≡ 0x1B ∷ 0x0D ∷ 0x00 ∷ []
-unfolding encoding encode_utf8
-control_alt_m = refl
-
-control_digit : encoding 0x31 control false ≡ 0x31 ∷ []
-unfolding encoding encode_utf8
-control_digit = refl
-
-latin : encoding 0xE9 none false ≡ 0xC3 ∷ 0xA9 ∷ []
-unfolding encoding encode_utf8
-latin = refl
-
-control_alt_latin : encoding 0xE9 both false ≡ 0x1B ∷ 0xC3 ∷ 0xA9 ∷ []
-unfolding encoding encode_utf8
-control_alt_latin = refl
-
-no_character : encoding 0x80 none false ≡ []
-unfolding encoding encode_utf8
-no_character = refl
-
-unicode_euro : encoding 0x10020AC none false ≡ 0xE2 ∷ 0x82 ∷ 0xAC ∷ []
-unfolding encoding encode_utf8
-unicode_euro = refl
-
-alt_emoji : encoding 0x101F600 alt false ≡ 0x1B ∷ 0xF0 ∷ 0x9F ∷ 0x98 ∷ 0x80 ∷ []
-unfolding encoding encode_utf8
-alt_emoji = refl
-
-control_unicode_letter : encoding 0x1000063 control false ≡ 0x03 ∷ []
-unfolding encoding encode_utf8
-control_unicode_letter = refl
-
-unicode_return : encoding 0x100000D none false ≡ []
-unfolding encoding encode_utf8
-unicode_return = refl
-
-unicode_delete : encoding 0x100007F none false ≡ []
-unfolding encoding encode_utf8
-unicode_delete = refl
-
-unicode_surrogate : encoding 0x100D800 none false ≡ []
-unfolding encoding encode_utf8
-unicode_surrogate = refl
-
-past_unicode : encoding 0x1110000 none false ≡ []
-unfolding encoding encode_utf8
-past_unicode = refl
-
-alt_backspace : encoding 0xFF08 alt false ≡ 0x1B ∷ 0x7F ∷ []
-unfolding encoding encode_utf8
-alt_backspace = refl
-
-control_alt_return : encoding 0xFF0D both false ≡ 0x1B ∷ 0x0D ∷ 0x00 ∷ []
-unfolding encoding encode_utf8
-control_alt_return = refl
-
-keypad_enter : encoding 0xFF8D none false ≡ 0x0D ∷ 0x00 ∷ []
-unfolding encoding encode_utf8
-keypad_enter = refl
-
-up : encoding 0xFF52 none false ≡ 0x1B ∷ 0x5B ∷ 0x41 ∷ []
-unfolding encoding encode_utf8
-up = refl
-
-up_in_cursor_mode : encoding 0xFF52 none true ≡ 0x1B ∷ 0x4F ∷ 0x41 ∷ []
-unfolding encoding encode_utf8
-up_in_cursor_mode = refl
-
-control_alt_up_in_cursor_mode : encoding 0xFF52 both true ≡ 0x1B ∷ 0x1B ∷ 0x4F ∷ 0x41 ∷ []
-unfolding encoding encode_utf8
-control_alt_up_in_cursor_mode = refl
-
-home_in_cursor_mode : encoding 0xFF50 none true ≡ 0x1B ∷ 0x5B ∷ 0x31 ∷ 0x7E ∷ []
-unfolding encoding encode_utf8
-home_in_cursor_mode = refl
-
-first_function_key : encoding 0xFFBE none false ≡ 0x1B ∷ 0x5B ∷ 0x5B ∷ 0x41 ∷ []
-unfolding encoding encode_utf8
-first_function_key = refl
-
-fifth_function_key : encoding 0xFFC2 none false ≡ 0x1B ∷ 0x5B ∷ 0x5B ∷ 0x45 ∷ []
-unfolding encoding encode_utf8
-fifth_function_key = refl
-
-sixth_function_key : encoding 0xFFC3 none false ≡ 0x1B ∷ 0x5B ∷ 0x31 ∷ 0x37 ∷ 0x7E ∷ []
-unfolding encoding encode_utf8
-sixth_function_key = refl
-
-tenth_function_key : encoding 0xFFC7 none false ≡ 0x1B ∷ 0x5B ∷ 0x32 ∷ 0x31 ∷ 0x7E ∷ []
-unfolding encoding encode_utf8
-tenth_function_key = refl
-
-alt_twelfth_function_key : encoding 0xFFC9 alt false ≡ 0x1B ∷ 0x1B ∷ 0x5B ∷ 0x32 ∷ 0x34 ∷ 0x7E ∷ []
-unfolding encoding encode_utf8
-alt_twelfth_function_key = refl
-
-alt_shift : encoding 0xFFE1 alt false ≡ []
-unfolding encoding encode_utf8
-alt_shift = refl
-
-alt_control : encoding 0xFFE3 alt false ≡ []
-unfolding encoding encode_utf8
-alt_control = refl
-
-delete : encoding 0xFFFF none false ≡ 0x1B ∷ 0x5B ∷ 0x33 ∷ 0x7E ∷ []
-unfolding encoding encode_utf8
-delete = refl
-
-alt_unknown : encoding 0xFF8A alt false ≡ []
-unfolding encoding encode_utf8
-alt_unknown = refl
-
 -- each side is held for itself, and Shift is no modifier
 other_side_stays : mods_after (mods_after (mods_after none 0xFFE3 true) 0xFFE4 true) 0xFFE3 false ≡ mods_after none 0xFFE4 true
 other_side_stays = refl
@@ -179,3 +27,59 @@ released = refl
 
 shift : mods_after both 0xFFE1 true ≡ both
 shift = refl
+
+-- a press: a keysym, what is held, the cursor keys mode; and the bytes that it sends
+record Row : Type 0 where
+  keysym : ℕ
+  held : Mods
+  cursor : Bool
+  bytes : List ℕ
+
+abbrev row : ℕ → Mods → Bool → List ℕ → Row
+row keysym held cursor bytes = record { keysym = keysym; held = held; cursor = cursor; bytes = bytes }
+
+abbrev presses : List Row
+presses =
+    row 0x61 none false (codes "a")  -- small letter
+    ∷ row 0x61 control false (0x01 ∷ [])  -- control small letter
+    ∷ row 0x41 control false (0x01 ∷ [])  -- control capital letter
+    ∷ row 0x40 control false (0x00 ∷ [])  -- control at
+    ∷ row 0x5F control false (0x1F ∷ [])  -- control low line
+    ∷ row 0x60 control false (codes "`")  -- control grave
+    ∷ row 0x7B control false (codes "{")  -- control brace
+    ∷ row 0x20 control false (0x00 ∷ [])  -- control blank
+    ∷ row 0x3F control false (0x7F ∷ [])  -- control question
+    ∷ row 0x6D control false (0x0D ∷ 0x00 ∷ [])  -- control m
+    ∷ row 0x4D both false (0x1B ∷ 0x0D ∷ 0x00 ∷ [])  -- control alt m
+    ∷ row 0x31 control false (codes "1")  -- control digit
+    ∷ row 0xE9 none false (0xC3 ∷ 0xA9 ∷ [])  -- latin
+    ∷ row 0xE9 both false (0x1B ∷ 0xC3 ∷ 0xA9 ∷ [])  -- control alt latin
+    ∷ row 0x80 none false []  -- no character
+    ∷ row 0x10020AC none false (0xE2 ∷ 0x82 ∷ 0xAC ∷ [])  -- unicode euro
+    ∷ row 0x101F600 alt false (0x1B ∷ 0xF0 ∷ 0x9F ∷ 0x98 ∷ 0x80 ∷ [])  -- alt emoji
+    ∷ row 0x1000063 control false (0x03 ∷ [])  -- control unicode letter
+    ∷ row 0x100000D none false []  -- unicode return
+    ∷ row 0x100007F none false []  -- unicode delete
+    ∷ row 0x100D800 none false []  -- unicode surrogate
+    ∷ row 0x1110000 none false []  -- past unicode
+    ∷ row 0xFF08 alt false (0x1B ∷ 0x7F ∷ [])  -- alt backspace
+    ∷ row 0xFF0D both false (0x1B ∷ 0x0D ∷ 0x00 ∷ [])  -- control alt return
+    ∷ row 0xFF8D none false (0x0D ∷ 0x00 ∷ [])  -- keypad enter
+    ∷ row 0xFF52 none false (0x1B ∷ codes "[A")  -- up
+    ∷ row 0xFF52 none true (0x1B ∷ codes "OA")  -- up in cursor mode
+    ∷ row 0xFF52 both true (0x1B ∷ 0x1B ∷ codes "OA")  -- control alt up in cursor mode
+    ∷ row 0xFF50 none true (0x1B ∷ codes "[1~")  -- home in cursor mode
+    ∷ row 0xFFBE none false (0x1B ∷ codes "[[A")  -- first function key
+    ∷ row 0xFFC2 none false (0x1B ∷ codes "[[E")  -- fifth function key
+    ∷ row 0xFFC3 none false (0x1B ∷ codes "[17~")  -- sixth function key
+    ∷ row 0xFFC7 none false (0x1B ∷ codes "[21~")  -- tenth function key
+    ∷ row 0xFFC9 alt false (0x1B ∷ 0x1B ∷ codes "[24~")  -- alt twelfth function key
+    ∷ row 0xFFE1 alt false []  -- alt shift
+    ∷ row 0xFFE3 alt false []  -- alt control
+    ∷ row 0xFFFF none false (0x1B ∷ codes "[3~")  -- delete
+    ∷ row 0xFF8A alt false []  -- alt unknown
+    ∷ []
+
+sent_as_told : map (λ r. encoding r.keysym r.held r.cursor) presses ≡ map (λ r. r.bytes) presses
+unfolding encoding encode_utf8
+sent_as_told = refl

@@ -1,4 +1,4 @@
--- What is answered to tokens and to bytes, one after the other.
+-- What is answered to tokens, one after the other.
 use Rattle.std.proofs.Common.{◌≡◌, ℕ, List, [], ◌∷◌, ◌++◌, length, drop, refl, ap, sym, ◌∙◌, append-nil, append_assoc}
 use Rattle.std.proofs.Math.Seq.{drop-append_seam}
 use Rattle.std.proofs.lemmas.Grind.{flat_map-append}
@@ -13,7 +13,7 @@ use Rattle.gate_model.specs.Reports.{report}
 use Rattle.gate_model.specs.Screens.{after_controls, data_byte, data_of, functions}
 use Rattle.gate_model.specs.TelnetTokens.{tokens, sent_byte, doubled}
 use Rattle.gate_model.specs.Terminal.{Terminal, opening_screen}
-use Rattle.gate_model.specs.Replies.{reports_from, reports, reply_to, replies_after, replies}
+use Rattle.gate_model.specs.Replies.{reports_from, reports, reply_to, replies_after}
 
 -- no bytes, and no tokens
 pub no_tokens : tokens [] ≡ []
@@ -53,14 +53,6 @@ replies_after-append cols rows term before (t ∷ xs) ys =
 pub replies_after-more : (cols rows : ℕ) (term : List ℕ) (before xs : List Token) (t : Token) → replies_after cols rows term before (xs ++ t ∷ []) ≡ replies_after cols rows term before xs ++ reply_to cols rows term (before ++ xs) t
 replies_after-more cols rows term before xs t =
     replies_after-append cols rows term before xs (t ∷ []) ∙ ap (λ (rs : List ℕ). replies_after cols rows term before xs ++ rs) (append-nil (reply_to cols rows term (before ++ xs) t))
-
--- what more bytes are answered, past what was answered before
-pub replies-past : (cols rows : ℕ) (term bs more : List ℕ) (given : List Token) → tokens (bs ++ more) ≡ tokens bs ++ given
-    → drop (length (replies cols rows term bs)) (replies cols rows term (bs ++ more)) ≡ replies_after cols rows term (tokens bs) given
-replies-past cols rows term bs more given e =
-    let whole : replies cols rows term (bs ++ more) ≡ replies cols rows term bs ++ replies_after cols rows term (tokens bs) given =
-    ap (replies_after cols rows term []) e ∙ replies_after-append cols rows term [] (tokens bs) given in
-    ap (drop (length (replies cols rows term bs))) whole ∙ drop-append_seam (replies cols rows term bs) (replies_after cols rows term (tokens bs) given)
 
 -- a token without data completes no control function
 pub functions-command : (before : List Token) (t : Token) → data_byte t ≡ [] → functions (before ++ t ∷ []) ≡ functions before

@@ -9,10 +9,10 @@ use Rattle.gate_model.specs.Delivered.{last_sync_from}
 -- a body holds no sync: the last sync of a frame is its own
 pub last_sync-body : (cols rows : ℕ) (unfilled : List ℤ) (body : List Instr) (t s : ℕ) → Draws cols rows unfilled body → last_sync_from s (body ++ Sync t ∷ []) ≡ t
 last_sync-body cols rows unfilled [] t s d = refl
-last_sync-body cols rows unfilled (Size k w h ∷ is) t s d = last_sync-body cols rows unfilled is t s d.2
-last_sync-body cols rows unfilled (Rect k x y w h ∷ is) t s d = last_sync-body cols rows (k ∷ unfilled) is t s d.1
+last_sync-body cols rows unfilled (Size k w h ∷ is) t s d = last_sync-body cols rows unfilled is t s d.1
+last_sync-body cols rows unfilled (Rect k x y w h ∷ is) t s d = last_sync-body cols rows (k ∷ unfilled) is t s d
 last_sync-body cols rows unfilled (Cfill k r g b ∷ is) t s d = last_sync-body cols rows (without_layer k unfilled) is t s d.1
-last_sync-body cols rows unfilled (Copy k x y w h to to_x to_y ∷ is) t s d = last_sync-body cols rows unfilled is t s d.2
+last_sync-body cols rows unfilled (Copy k x y w h to to_x to_y ∷ is) t s d = last_sync-body cols rows unfilled is t s d
 last_sync-body cols rows unfilled (Sync u ∷ is) t s d = absurd d
 last_sync-body cols rows unfilled (Disconnect ∷ is) t s d = absurd d
 last_sync-body cols rows unfilled (Error status ∷ is) t s d = absurd d
@@ -35,10 +35,10 @@ sync_is_last cols rows unfilled (i ∷ is) (f ∷ front) t s d h =
     ((let same : front ≡ is = rest.0 in cc), rest.1)
   where
     later : (j : Instr) (js : List Instr) → Draws cols rows unfilled (j ∷ js) → ((unfilled2 : List ℤ) → Draws cols rows unfilled2 js → (front ≡ is) × (t ≡ s)) → (front ≡ is) × (t ≡ s)
-    later (Size k w h2) js d2 go = go unfilled d2.2
-    later (Rect k x y w h2) js d2 go = go (k ∷ unfilled) d2.1
+    later (Size k w h2) js d2 go = go unfilled d2.1
+    later (Rect k x y w h2) js d2 go = go (k ∷ unfilled) d2
     later (Cfill k r g b) js d2 go = go (without_layer k unfilled) d2.1
-    later (Copy k x y w h2 to to_x to_y) js d2 go = go unfilled d2.2
+    later (Copy k x y w h2 to to_x to_y) js d2 go = go unfilled d2
     later (Sync u) js d2 go = absurd d2
     later Disconnect js d2 go = absurd d2
     later (Error status) js d2 go = absurd d2

@@ -9,6 +9,7 @@ use Rattle.gate_model.specs.declared.entry.Entry.TheVariants.{Join, Read, Close}
 use Rattle.gate_model.specs.declared.instr.Instr.{Instr}
 use Rattle.gate_model.specs.declared.instr.Instr.TheVariants.{Sync, Disconnect, Error}
 use Rattle.gate_model.specs.History.{History, frames, frames_after, instructions}
+use Rattle.gate_model.specs.Statuses.{session_closed}
 
 -- the stamp of the last sync of a list; of a list without one it is the stamp before it
 abbrev pub last_sync_from : ℕ → List Instr → ℕ
@@ -22,9 +23,9 @@ last_sync is = last_sync_from 0 is
 -- what a closed session's viewers are given last
 abbrev pub farewell : Cause → Instr
 farewell ServerEnd = Disconnect
-farewell LinkFault = Error 523
-farewell Stopped = Error 523
-farewell Worn = Error 523
+farewell LinkFault = Error session_closed
+farewell Stopped = Error session_closed
+farewell Worn = Error session_closed
 
 abbrev pub closing : History → List Instr
 closing [] = []

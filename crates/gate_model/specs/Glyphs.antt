@@ -2,12 +2,12 @@
 use Rattle.std.specs.Prelude.{ℕ, ◌-◌, ◌/◌, ◌%◌, ◌^◌, List, Bool, ◌&&◌, ◌||◌, ◌==◌, nat_le, slice_index_or, slice_index, if◌then◌else◌}
 use Rattle.gate_model.specs.declared.colour.Colour.{Colour}
 use Rattle.gate_model.specs.declared.key.Key.{Key}
-use Rattle.gate_model.specs.declared.glyphs.TheConstants.{FONT, BOX}
+use Rattle.gate_model.specs.Font.{font, box}
 use Rattle.gate_model.specs.Palette.{colour_of}
 
 -- the five columns of a face, from left to right; every face that isn't in the font is a box
 abbrev pub columns_of : ℕ → List ℕ
-columns_of face = if nat_le 32 face && nat_le face 126 then slice_index_or FONT (face - 32) BOX else BOX
+columns_of face = if nat_le 32 face && nat_le face 126 then slice_index_or font (face - 32) box else box
 
 -- bit r of a column, the least first
 abbrev pub bit_of : ℕ → ℕ → Bool

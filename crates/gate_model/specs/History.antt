@@ -45,6 +45,15 @@ capacity [] = 0
 capacity (Start cols rows mode term entries stamp frame ∷ g) = entries
 capacity (e ∷ g) = capacity g
 
+-- a size of the screen
+pub record ScreenSize : Type 0 where
+  pub columns : ℕ
+  pub rows : ℕ
+
+-- the size in force: of the frames, of what the host is told, and of what it is answered. It is Start's
+abbrev pub size_now : History → ScreenSize
+size_now h = record { columns = columns h; rows = lines h }
+
 -- the bytes of every Feed
 abbrev pub bytes : History → List ℕ
 bytes [] = []

@@ -1,23 +1,12 @@
 -- Laws of instructions, which public functions of `laws::instructions` prove.
-use Rattle.std.specs.Prelude.{◌≡◌, ℕ, ◌≤◌, ◌<◌, ◌^◌, List, Some, map, encode_utf8_all}
+use Rattle.std.specs.Prelude.{◌≡◌, ℕ, List, Some, map, encode_utf8_all}
 use Rattle.gate_model.specs.declared.instr.Instr.{Instr}
-use Rattle.gate_model.specs.declared.instr.Instr.TheVariants.{Size, Rect, Cfill, Copy, Sync, Disconnect, Error}
 use Rattle.gate_model.specs.Text.{elements_of, text}
 use Rattle.gate_model.specs.Spelling.{Spells}
-use Rattle.gate_model.specs.Shape.{IsLayer}
+use Rattle.gate_model.specs.Shape.{IsInRange}
 use Rattle.gate_model.specs.ClientMeaning.{act_of}
 use Rattle.gate_model.specs.HelloMeaning.{Greeting, Selects, HasSize, Connects, SaysOther, greeting_of}
 use Rattle.gate_model.specs.ServerMeaning.{instr_of}
-
--- the values of an instruction that is read back: those of their types, layers from -1,024 to 0, sizes to 4,096
-abbrev pub IsInRange : Instr → Type 0
-IsInRange (Size layer width height) = IsLayer layer × (width ≤ 4096) × (height ≤ 4096)
-IsInRange (Rect layer x y width height) = IsLayer layer × (x < 2 ^ 32) × (y < 2 ^ 32) × (width < 2 ^ 32) × (height < 2 ^ 32)
-IsInRange (Cfill layer red green blue) = IsLayer layer × (red < 2 ^ 8) × (green < 2 ^ 8) × (blue < 2 ^ 8)
-IsInRange (Copy from x y width height to to_x to_y) = IsLayer from × (x < 2 ^ 32) × (y < 2 ^ 32) × (width < 2 ^ 32) × (height < 2 ^ 32) × IsLayer to × (to_x < 2 ^ 32) × (to_y < 2 ^ 32)
-IsInRange (Sync stamp) = stamp < 2 ^ 64
-IsInRange Disconnect = Unit {0}
-IsInRange (Error status) = status < 2 ^ 16
 
 -- what the gateway writes is read back as it was
 abbrev pub WrittenIsReadBack : Type 0

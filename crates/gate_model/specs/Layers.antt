@@ -48,6 +48,10 @@ is_covered a x y = nat_le a.x x && nat_lt x (a.x + a.width) && nat_le a.y y && n
 abbrev pub open_path : Layer → List Area
 open_path l = if l.filled then [] else l.path
 
+-- no layer has a rectangle that isn't filled
+abbrev pub HasNoPaths : Layers → Type 0
+HasNoPaths m = (k : ℤ) → open_path (m k) ≡ []
+
 -- the size is set, the common part stays and every other pixel is clear
 abbrev pub sized : Layer → ℕ → ℕ → Layer
 sized l w h = record l { width = w; height = h; pixel = λ x y. if is_in x y l && nat_lt x w && nat_lt y h then l.pixel x y else None }

@@ -2,6 +2,7 @@
 pub mod Limits
 pub mod Sequences
 pub mod Reading
+pub mod Statuses
 pub mod Text
 pub mod Spelling
 pub mod Numerals
@@ -15,6 +16,7 @@ pub mod TelnetTokens
 pub mod OptionAnswers
 pub mod KeyGrid
 pub mod Palette
+pub mod Font
 pub mod Glyphs
 pub mod GlyphRects
 pub mod Pictures
@@ -45,9 +47,9 @@ pub mod History
 pub mod Delivered
 pub mod Rights
 pub mod Output
-pub mod Steps
 pub mod Refusals
 pub mod Calls
+pub mod Steps
 pub mod Runs
 pub mod Truth
 pub mod CellLaws

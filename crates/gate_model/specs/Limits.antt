@@ -1,4 +1,4 @@
--- The limits of the gateway (this project's own).
+-- The limits of the gateway (this project's own). `limits` has the same numbers for code.
 use Rattle.std.specs.Prelude.{ℕ, ◌^◌}
 
 -- the most columns and rows of a screen
@@ -7,6 +7,10 @@ most_columns = 512
 
 abbrev pub most_rows : ℕ
 most_rows = 256
+
+-- the most characters of a terminal type
+abbrev pub most_term : ℕ
+most_term = 40
 
 -- the most bytes of one piece of the Telnet stream
 abbrev pub most_piece : ℕ
@@ -34,3 +38,21 @@ most_live = 64
 
 abbrev pub most_joined : ℕ
 most_joined = 1000000
+
+-- the most bytes of a Telnet subnegotiation that has a meaning, counted undoubled
+abbrev pub most_in_sub : ℕ
+most_in_sub = 1024
+
+-- the most buffers, and the most pixels of a layer's width and height
+abbrev pub most_buffers : ℕ
+most_buffers = 1024
+
+abbrev pub most_extent : ℕ
+most_extent = 4096
+
+-- the most bytes of an instruction with its `;`, and the most elements of one
+abbrev pub most_bytes : ℕ
+most_bytes = 8192
+
+abbrev pub most_elements : ℕ
+most_elements = 128

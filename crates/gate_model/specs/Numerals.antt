@@ -4,6 +4,7 @@ use Rattle.std.specs.Prelude.{ℕ, ◌-◌, ◌^◌, ℤ, pos, neg_ℤ, List, []
 use Rattle.std.specs.Int.{is_in_range}
 use Rattle.std.specs.Char.{is_ascii_digit}
 use Rattle.std.specs.List.{list_all}
+use Rattle.gate_model.specs.Limits.{most_buffers}
 use Rattle.gate_model.specs.Spelling.{number_of}
 
 -- the value of element k as this reads it, or nothing; the opcode is element 0
@@ -13,6 +14,10 @@ value_at reads k elements = option_and_then reads (slice_get elements k)
 -- 1 to 20 digits, leading zeros among them
 abbrev pub is_number : List ℕ → Bool
 is_number value = is_in_range 1 20 (length value) && list_all is_ascii_digit value
+
+-- the number, where it is one
+abbrev pub number_in : List ℕ → Option ℕ
+number_in value = if is_number value then Some (number_of value) else None
 
 -- a number from `least` to `most`
 abbrev pub number_within : ℕ → ℕ → List ℕ → Option ℕ
@@ -30,4 +35,4 @@ coordinate_of (c ∷ cs) = if c == 0x2D then option_map (λ n. neg_ℤ (pos n)) 
 -- the number of a layer: 0, or a `-` and 1 to 1,024
 abbrev pub layer_of : List ℕ → Option ℤ
 layer_of [] = None
-layer_of (c ∷ cs) = if c == 0x2D then option_map (λ n. neg_ℤ (pos n)) (number_within 1 1024 cs) else option_map (λ n. pos n) (number_within 0 0 (c ∷ cs))
+layer_of (c ∷ cs) = if c == 0x2D then option_map (λ n. neg_ℤ (pos n)) (number_within 1 most_buffers cs) else option_map (λ n. pos n) (number_within 0 0 (c ∷ cs))

@@ -8,7 +8,7 @@ use Rattle.gate_model.specs.declared.mods.Mods.{Mods}
 use Rattle.gate_model.specs.Encoding.{encoding}
 use Rattle.gate_model.specs.Modifiers.{mods_after}
 use Rattle.gate_model.specs.Entries.{taken_by}
-use Rattle.gate_model.specs.History.{History, at, bytes, columns, lines, terminal_type}
+use Rattle.gate_model.specs.History.{History, at, bytes, size_now, terminal_type}
 use Rattle.gate_model.specs.Replies.{replies}
 use Rattle.gate_model.specs.Rights.{may, mods}
 use Rattle.gate_model.specs.TelnetTokens.{doubled}
@@ -23,7 +23,7 @@ typed cursor_mode held (a ∷ acts) = typed cursor_mode held acts
 
 -- what bytes are answered in the session
 abbrev pub answered : History → List ℕ → List ℕ
-answered h bytes = replies (columns h) (lines h) (terminal_type h) bytes
+answered h bytes = replies (size_now h).columns (size_now h).rows (terminal_type h) bytes
 
 -- what the entry e sends after the entries g: of a Feed, what the bytes through it are answered past what
 -- those before it are; of a Write, what a viewer types who may

@@ -5,17 +5,11 @@ use Rattle.gate_model.specs.declared.answer.Answer.{Answer}
 use Rattle.gate_model.specs.declared.answer.Answer.TheVariants.{Join as joined_as}
 use Rattle.gate_model.specs.declared.entry.Entry.{Entry}
 use Rattle.gate_model.specs.declared.event.Event.{Event}
-use Rattle.gate_model.specs.declared.event.Event.TheVariants.{Feed as feed, Read as read, Write as write}
+use Rattle.gate_model.specs.declared.event.Event.TheVariants.{Read as read}
 use Rattle.gate_model.specs.declared.instr.Instr.{Instr}
-use Rattle.gate_model.specs.Calls.{IsPiece, IsWrite, Step}
+use Rattle.gate_model.specs.Calls.{Step}
 use Rattle.gate_model.specs.Delivered.{delivered, given}
 use Rattle.gate_model.specs.History.{History}
-
--- the call meets its condition
-abbrev pub MeetsCondition : Event → Type 0
-MeetsCondition (feed bytes now) = IsPiece bytes
-MeetsCondition (write viewer acts) = IsWrite acts
-MeetsCondition event = Unit {0}
 
 -- what the entries that a call adds give the viewer that joins, or reads
 abbrev pub handed_out : History → Event → Answer → List Entry → List Instr

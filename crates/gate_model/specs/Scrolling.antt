@@ -1,5 +1,5 @@
 -- Scrolling within the margins (ECMA-48, LF, NEL, RI, SU, SD, IL, DL, and DECSTBM).
-use Rattle.std.specs.Prelude.{ℕ, ◌+◌, ◌-◌, ◌^◌, min, Bool, ◌&&◌, ◌||◌, ◌==◌, nat_lt, nat_le, if◌then◌else◌}
+use Rattle.std.specs.Prelude.{ℕ, ◌+◌, ◌-◌, min, Bool, ◌&&◌, ◌||◌, ◌==◌, nat_lt, nat_le, if◌then◌else◌}
 use Rattle.gate_model.specs.declared.control.Params.{Params}
 use Rattle.gate_model.specs.Arguments.{first_amount, parameter}
 use Rattle.gate_model.specs.Cells as cells
@@ -10,12 +10,11 @@ use Rattle.gate_model.specs.Terminal.{Terminal}
 abbrev pub is_whole : Terminal → Bool
 is_whole t = t.top == 0 && t.bottom + 1 == t.grid.rows
 
--- SU: the lines of the margins move up by n. Where the whole screen moves, the lines are counted, at
--- most 2^32 - 1 of them
+-- SU: the lines of the margins move up by n. Where the whole screen moves, the lines are counted
 abbrev pub scrolled_up : ℕ → Terminal → Terminal
 scrolled_up n t = record t {
   grid = cells.scrolled_up t.top t.bottom n t.grid;
-  shift = if is_whole t then min (t.shift + min n t.grid.rows) (2 ^ 32 - 1) else t.shift;
+  shift = if is_whole t then t.shift + min n t.grid.rows else t.shift;
 }
 
 -- SD: the lines of the margins move down by n

@@ -4,11 +4,12 @@
 use Rattle.std.specs.Prelude.{ℕ, ℤ, List, Option, Some, None, option_and_then, option_map, if◌then◌else◌, slice_get, bytes_eq, codes}
 use Rattle.gate_model.specs.declared.instr.Instr.{Instr}
 use Rattle.gate_model.specs.declared.instr.Instr.TheVariants.{Size, Rect, Cfill, Copy, Sync, Disconnect, Error}
+use Rattle.gate_model.specs.Limits.{most_extent}
 use Rattle.gate_model.specs.Numerals.{value_at, number_within, number_of_bits, layer_of}
 
 -- the width or the height of a layer
 abbrev pub extent_of : List ℕ → Option ℕ
-extent_of = number_within 0 4096
+extent_of = number_within 0 most_extent
 
 -- the mask "over", and an opaque alpha
 abbrev pub over_of : List ℕ → Option ℕ

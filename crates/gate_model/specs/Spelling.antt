@@ -2,13 +2,7 @@
 -- limits are this project's own). An element is a list of code points; the text is bytes.
 use Rattle.std.specs.Prelude.{◌≡◌, ℕ, ◌+◌, ◌-◌, ◌*◌, ◌≤◌, true, List, [], ◌∷◌, ◌++◌, length, encode_utf8_all}
 use Rattle.std.specs.Str.{all_scalars}
-
--- the most elements, and the most bytes with the `;`
-abbrev pub most_elements : ℕ
-most_elements = 128
-
-abbrev pub most_bytes : ℕ
-most_bytes = 8192
+use Rattle.gate_model.specs.Limits.{most_bytes, most_elements}
 
 -- an ASCII digit
 abbrev pub IsDigit : ℕ → Type 0

@@ -5,6 +5,7 @@ use Rattle.std.specs.Prelude.{ℕ, ◌++◌, List, [], ◌∷◌, length, ◌==�
 use Rattle.std.specs.Int.{is_in_range}
 use Rattle.gate_model.specs.declared.token.Token.{Token}
 use Rattle.gate_model.specs.declared.token.Token.TheVariants.{Byte, Do, Dont, Will, Wont, Sub, Single}
+use Rattle.gate_model.specs.Limits.{most_in_sub}
 use Rattle.gate_model.specs.Reading.{Head, read}
 
 -- what a head finds
@@ -16,10 +17,6 @@ abbrev pub iac : ℕ
 iac = 255
 
 -- ---- subnegotiations: IAC SB, bytes with each 255 doubled, IAC SE (RFC 855)
-
--- the most bytes between SB and IAC SE that have a meaning, counted undoubled (this project's own)
-abbrev pub most_in_sub : ℕ
-most_in_sub = 1024
 
 -- what a whole subnegotiation of these bytes gives
 abbrev pub sub_token : List ℕ → List Token

@@ -29,8 +29,8 @@ pub record Modes : Type 0 where
 
 -- `pending` says that the last column was just printed and the next character wraps. `top` and
 -- `bottom` are the margins, both included; `stops` tells of each column whether a tab stop is there;
--- `last` is the last printed character; `shift` is the number of lines, at most 2^32 - 1, that the
--- whole screen has scrolled up.
+-- `last` is the last printed character; `shift` is the number of lines that the whole screen has
+-- scrolled up.
 pub record Terminal : Type 0 where
   pub grid : CellGrid
   pub x : ℕ

@@ -4,6 +4,7 @@ use Rattle.std.specs.Prelude.{ℕ, List, [], ◌∷◌, ◌++◌, length, decima
 use Rattle.std.specs.Fmt.{signed_decimal}
 use Rattle.gate_model.specs.declared.instr.Instr.{Instr}
 use Rattle.gate_model.specs.declared.instr.Instr.TheVariants.{Size, Rect, Cfill, Copy, Sync, Disconnect, Error}
+use Rattle.gate_model.specs.Statuses.{no_memory, server_busy, not_found, conflict, upstream_not_found, session_closed, bad_request, forbidden, too_many}
 
 -- the number of code points in shortest decimal, `.`, and the value in UTF-8
 abbrev pub element : List ℕ → List ℕ
@@ -21,15 +22,15 @@ text_of_elements (opcode ∷ others) = element opcode ++ flat_map next_element o
 -- the text of a refusal, by its status; a status that isn't listed has none (this project's own)
 abbrev pub refusal_text : ℕ → List ℕ
 refusal_text status =
-    if status == 512 then codes "no memory" else (
-    if status == 513 then codes "server busy" else (
-    if status == 516 then codes "resource not found" else (
-    if status == 517 then codes "resource conflict" else (
-    if status == 519 then codes "upstream not found" else (
-    if status == 523 then codes "session closed" else (
-    if status == 768 then codes "bad request" else (
-    if status == 771 then codes "forbidden" else (
-    if status == 797 then codes "too many" else []))))))))
+    if status == no_memory then codes "no memory" else (
+    if status == server_busy then codes "server busy" else (
+    if status == not_found then codes "resource not found" else (
+    if status == conflict then codes "resource conflict" else (
+    if status == upstream_not_found then codes "upstream not found" else (
+    if status == session_closed then codes "session closed" else (
+    if status == bad_request then codes "bad request" else (
+    if status == forbidden then codes "forbidden" else (
+    if status == too_many then codes "too many" else []))))))))
 
 -- what the gateway sends, in the order of the manual's reference; 14 is the mask "over", and 255 is opaque
 abbrev pub elements_of : Instr → List (List ℕ)

@@ -234,7 +234,5 @@ mod tests {
                 );
             }
         }
-        assert_eq!(rt; rects_of('A', true).as_slice().len(), 9);
-        assert_eq!(rt; rects_of(' ', false).as_slice().len(), 0);
     }
 }

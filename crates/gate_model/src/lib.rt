@@ -5,7 +5,7 @@
 //! A history is the list of a session's entries. *True history*, the definition that the headline
 //! cites, says of a history that whatever any viewer was given up to a sync draws exactly the
 //! picture of the screen that the history up to that sync defines (`specs/Truth.antt`). No function
-//! here waits, and none but the tables of `glyphs` computes.
+//! here waits, and none but the tables of `glyphs` and `statuses` computes. Limits stand in `limits`.
 #![tactic(auto)]
 
 mod act;
@@ -30,6 +30,7 @@ mod join_refusal;
 mod joined;
 mod key;
 pub mod laws;
+pub mod limits;
 mod memory;
 mod mods;
 mod no_viewer;
@@ -38,6 +39,7 @@ mod read_refusal;
 mod setup;
 mod sharing;
 mod shown;
+pub mod statuses;
 mod taken;
 pub mod telnet_codes;
 mod text;

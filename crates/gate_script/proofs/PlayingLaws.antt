@@ -14,7 +14,7 @@ use Rattle.gate_model.specs.Spelling.{SpellsElements, Spells, number_of}
 use Rattle.gate_model.specs.Text.{elements_of, text, texts}
 use Rattle.gate_model.specs.Numerals.{value_at, is_number, number_within, number_of_bits, layer_of}
 use Rattle.gate_model.specs.ServerMeaning.{extent_of, over_of, opaque_of, size_instr, rect_instr, cfill_instr, copy_instr, error_instr, instr_named, instr_of}
-use Rattle.gate_model.specs.InstrLaws.{IsInRange}
+use Rattle.gate_model.specs.Shape.{IsInRange}
 use Rattle.gate_model.proofs.Drawing.{draw-append}
 use Rattle.gate_model.proofs.Spelt.{prefix_free}
 use Rattle.gate_model.proofs.TextLaws.{text_spells}

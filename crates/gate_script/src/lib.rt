@@ -8,14 +8,10 @@
 #![tactic(auto)]
 
 mod acts;
-#[cfg(test)]
-mod acts_tests;
 mod commands;
 mod form;
 mod grammar;
 mod hexadecimal;
-#[cfg(test)]
-mod host_tests;
 mod input;
 mod line;
 mod numbers;
@@ -29,10 +25,6 @@ mod seeing;
 mod session;
 mod size;
 mod stop;
-#[cfg(test)]
-mod tests;
-#[cfg(test)]
-mod viewer_tests;
 mod words;
 
 pub use commands::command;

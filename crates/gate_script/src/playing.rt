@@ -1,7 +1,7 @@
 //! What a viewer sees: the text that it was given, read and played on a canvas.
 
 ghost use Rattle.std.specs.Prelude.{◌≡◌, ◌++◌, ◌≤◌, ℕ, List, Some, length, IfOk, OnErr, OnOk};
-ghost use Rattle.gate_model.specs.InstrLaws.{IsInRange};
+ghost use Rattle.gate_model.specs.Shape.{IsInRange};
 ghost use Rattle.gate_model.specs.Layers.{Layers, draw, nothing, play};
 ghost use Rattle.gate_model.specs.ServerMeaning.{instr_of};
 ghost use Rattle.gate_model.specs.Text.{text, texts};

@@ -4,6 +4,7 @@ ghost use Rattle.std.specs.Prelude.{◌≡◌, ◌≢◌, ◌+◌, ◌≤◌, �
 ghost use Rattle.gate_model.specs.Limits.{most_entries};
 ghost use Rattle.gate_model.specs.Steps.{IsScreenSize};
 ghost use Rattle.gate_outside.specs.Edge.{Rose};
+ghost use Rattle.gate_script.specs.Plays.{setup_of};
 
 use crate::acts::read_acts;
 use crate::playing::{play_text, played};
@@ -41,7 +42,6 @@ impl Session {
     ghost use Rattle.gate_script.specs.declared.stop.Stop.TheVariants.{ReadFault, WriteFault};
     ghost use Rattle.gate_script.specs.Acts.{IsReading};
     ghost use Rattle.gate_script.specs.Lines.{Line, start, server, join, read, write, take_up_to, leave, close, pixel, same, read_untold, acknowledge, done};
-    ghost use Rattle.gate_script.specs.Plays.{setup_of};
     ghost use Rattle.gate_script.specs.Told.{frames_line, joined_line, read_told};
     ghost use Rattle.gate_script.specs.Running.{At, Ends, HasCause, IsOpenDesk, Put, Reported, Told, read_shown, stopped_at};
     ghost use Rattle.gate_script.specs.Seeing.{PlaysOn, TakesAway};
@@ -61,15 +61,10 @@ impl Session {
         ensures unseen { IfOk result (λ s. s.canvases.items ≡ []) }
         ensures still_open { IfOk result (λ s. IsOpenDesk s.desk) }
     {
-        let setup = Setup {
-            cols: size.cols,
-            rows: size.rows,
-            mode,
-            term: Text::of(String::from_str(alloc, "linux")?),
-            entries,
-        };
+        let setup = setup_of(alloc, size, mode, entries)?;
+        let desk = Desk::start(alloc, setup, now)?;
         Ok(Session {
-            desk: Desk::start(alloc, setup, now)?,
+            desk,
             canvases: Vec::new(alloc),
             given: Vec::new(alloc),
             line: Vec::new(alloc),
@@ -491,4 +486,18 @@ impl Session {
             None => refuse(&mut self.line, 516, answers),
         }
     }
+}
+
+// What a session is opened with.
+fn setup_of(alloc: Global, size: Size, mode: Share, entries: u64) -> Result<Setup, NoMemory>
+    ensures { IfOk result (λ setup. setup ≡ setup_of size mode entries) }
+{
+    let term = Text::of(String::from_str(alloc, "linux")?);
+    Ok(Setup {
+        cols: size.cols,
+        rows: size.rows,
+        mode,
+        term,
+        entries,
+    })
 }

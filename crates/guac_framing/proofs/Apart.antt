@@ -9,17 +9,18 @@ use Rattle.gate_model.proofs.Spelt.{as_others, chars_go_on, digits_same, element
 use Rattle.guac_framing.specs.declared.next.BadKind.{BadKind}
 use Rattle.guac_framing.specs.declared.next.BadKind.TheVariants.{Digit, Length, Separator, Utf8, TooMany, TooLong}
 use Rattle.guac_framing.specs.Standing.{InLength, InValue, BehindValue}
-use Rattle.guac_framing.specs.Found.{HasKind, IsBegun, IsForbidden}
+use Rattle.gate_model.specs.ControlLaws.{BeginsCharacter}
+use Rattle.guac_framing.specs.Found.{HasKind, IsForbidden}
 use Rattle.guac_framing.proofs.Seen.{NoElements, see_length, see_value}
 use Rattle.guac_framing.proofs.Rejects.{first_of, length_rejects_digit, length_rejects_sixth, char_rejects, behind_rejects_separator, behind_rejects_many}
 
 -- ---- a front of a character holds no whole one
-no_whole : (begun : List ℕ) (c : ℕ) (y : List ℕ) → IsBegun begun → encode_utf8 c ++ y ≡ begun → ⊥
+no_whole : (begun : List ℕ) (c : ℕ) (y : List ℕ) → BeginsCharacter begun → encode_utf8 c ++ y ≡ begun → ⊥
 no_whole begun c y g e =
-    let joined : encode_utf8 c ++ (y ++ g.1 ∷ g.2) ≡ encode_utf8 g.0 ++ [] =
-    sym (append_assoc (encode_utf8 c) y (g.1 ∷ g.2)) ∙ ap (λ l. l ++ g.1 ∷ g.2) e ∙ sym g.4 ∙ sym (append-nil (encode_utf8 g.0)) in
-    let p = encode_same c g.0 (y ++ g.1 ∷ g.2) [] joined in
-    omega (arith, ap length p.1, length-append y (g.1 ∷ g.2))
+    let joined : encode_utf8 c ++ (y ++ g.1) ≡ encode_utf8 g.0 ++ [] =
+    sym (append_assoc (encode_utf8 c) y (g.1)) ∙ ap (λ l. l ++ g.1) e ∙ sym g.4 ∙ sym (append-nil (encode_utf8 g.0)) in
+    let p = encode_same c g.0 (y ++ g.1) [] joined in
+    omega (arith, ap length p.1, length-append y g.1, g.3)
 
 -- of two lists with the same byte behind them
 without_last : (a b : List ℕ) (x : ℕ) → a ++ x ∷ [] ≡ b ++ x ∷ [] → a ≡ b
@@ -41,7 +42,7 @@ length_or_behind f ds vs ws i b =
     let n = see_length f ds (59 ∷ []) (44 ∷ f) [] vs ws i b.others refl in
     no_end n.extra _ n.behind
 
-value_or_behind : (f due begun chars : List ℕ) (vs ws : List (List ℕ)) (left : ℕ) → f ≡ due ++ begun → InValue due ws chars (suc left) → IsBegun begun → BehindValue f vs → ⊥
+value_or_behind : (f due begun chars : List ℕ) (vs ws : List (List ℕ)) (left : ℕ) → f ≡ due ++ begun → InValue due ws chars (suc left) → BeginsCharacter begun → BehindValue f vs → ⊥
 value_or_behind f due begun chars vs ws left split i g b =
     let e : 44 ∷ (f ++ 59 ∷ []) ≡ 44 ∷ (due ++ (begun ++ 59 ∷ [])) = ap (λ l. 44 ∷ (l ++ 59 ∷ [])) split ∙ ap (λ l. 44 ∷ l) (append_assoc due begun (59 ∷ [])) in
     let n = see_value due (begun ++ 59 ∷ []) (44 ∷ f) [] chars ws vs (suc left) i b.others e in
@@ -77,7 +78,7 @@ elements_apart (v ∷ vs) (w ∷ ws) done other ds digits u n s t all k less e =
     elements_apart vs ws s.1 t.1 ds digits u n s.4 t.4 all k less p.2
 
 -- less than a character and what stands before it, beside as many characters
-less_than_value : (chars begun : List ℕ) (left : ℕ) (v y : List ℕ) → IsBegun begun → length v ≡ length chars + suc left → encode_utf8_all v ++ y ≡ encode_utf8_all chars ++ begun → ⊥
+less_than_value : (chars begun : List ℕ) (left : ℕ) (v y : List ℕ) → BeginsCharacter begun → length v ≡ length chars + suc left → encode_utf8_all v ++ y ≡ encode_utf8_all chars ++ begun → ⊥
 less_than_value chars begun left v y g n e =
     let r = chars_go_on chars v y begun (omega (arith, n)) e in
     by r.0 (omega (arith, n, ap length r.1, length-append chars r.0)) r.2
@@ -86,7 +87,7 @@ less_than_value chars begun left v y g n e =
     by [] l f = omega (arith, l)
     by (c ∷ last) l f = no_whole begun c (encode_utf8_all last ++ y) g (sym (append_assoc (encode_utf8 c) (encode_utf8_all last) y) ∙ f)
 
-length_or_value : (f ds due begun chars : List ℕ) (vs ws : List (List ℕ)) (left : ℕ) → f ≡ due ++ begun → InValue due ws chars (suc left) → IsBegun begun → InLength f vs ds → ⊥
+length_or_value : (f ds due begun chars : List ℕ) (vs ws : List (List ℕ)) (left : ℕ) → f ≡ due ++ begun → InValue due ws chars (suc left) → BeginsCharacter begun → InLength f vs ds → ⊥
 length_or_value f ds due begun chars vs ws left split i g l =
     let w = encode_utf8_all chars in
     elements_apart vs ws l.done i.done ds i.digits (w ++ begun) (length chars + suc left) l.others i.others l.all i.counted (λ v y n e. less_than_value chars begun left v y g n e)
@@ -108,7 +109,7 @@ one_begins (c ∷ a) (d ∷ b) x y e =
     ]
 
 -- a byte that no character has behind a front of one
-never_forbidden : (begun : List ℕ) (b : ℕ) → IsBegun begun → ((c : ℕ) (rest : List ℕ) → IsScalar c → encode_utf8 c ≢ begun ++ b ∷ rest) → (c : ℕ) (x y : List ℕ) → IsScalar c → encode_utf8 c ++ x ≡ begun ++ b ∷ y → ⊥
+never_forbidden : (begun : List ℕ) (b : ℕ) → BeginsCharacter begun → ((c : ℕ) (rest : List ℕ) → IsScalar c → encode_utf8 c ≢ begun ++ b ∷ rest) → (c : ℕ) (x y : List ℕ) → IsScalar c → encode_utf8 c ++ x ≡ begun ++ b ∷ y → ⊥
 never_forbidden begun b g forbids c x y s e =
     elim (one_begins (encode_utf8 c) begun x (b ∷ y) e) [ inl p ↦ longer p.0 p.1 p.2 | inr p ↦ no_whole begun c p.0 g p.1 ]
   where

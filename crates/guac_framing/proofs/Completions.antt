@@ -10,7 +10,8 @@ use Rattle.gate_model.specs.Spelling.{number_of, SpellsElement, SpellsOthers, Sp
 use Rattle.gate_model.proofs.Digits.{tail_same}
 use Rattle.guac_framing.specs.Begun.{Begins}
 use Rattle.guac_framing.specs.Standing.{InLength, InValue, BehindValue}
-use Rattle.guac_framing.specs.Found.{HasCompletion, IsBegun}
+use Rattle.gate_model.specs.ControlLaws.{BeginsCharacter}
+use Rattle.guac_framing.specs.Found.{HasCompletion}
 use Rattle.guac_framing.proofs.Leads.{one}
 use Rattle.guac_framing.proofs.Begins.{completing}
 
@@ -148,11 +149,11 @@ behind_completes f (v ∷ vs) i = record {
 }
 
 -- less than a character
-pub begun_by : (begun : List ℕ) (n least most : ℕ) → Begins begun (suc n) least most → IsBegun begun
+pub begun_by : (begun : List ℕ) (n least most : ℕ) → Begins begun (suc n) least most → BeginsCharacter begun
 begun_by begun n least most k =
     let rest = completing (suc n) least most k.room in
     let c = k.whole rest.0 rest.1 in
-    (c.0, rest.1.0, rest.1.1, c.1, c.2 ∙ ap (λ l. begun ++ l) rest.1.2)
+    (c.0, rest.1.0 ∷ rest.1.1, c.1, omega arith, c.2 ∙ ap (λ l. begun ++ l) rest.1.2)
 
-pub nothing_begun : IsBegun []
-nothing_begun = (97, 97, [], low_scalar 97 (omega arith), one 97 (omega arith))
+pub nothing_begun : BeginsCharacter []
+nothing_begun = (97, 97 ∷ [], low_scalar 97 (omega arith), omega arith, one 97 (omega arith))

@@ -2,7 +2,9 @@
 -- of a fault are this project's own).
 use Rattle.std.specs.Prelude.{◌≡◌, ◌≢◌, ℕ, suc, ◌+◌, ◌<◌, ◌≤◌, List, [], ◌∷◌, ◌++◌, length, take, slice_index}
 use Rattle.std.specs.Char.{IsScalar, encode_utf8}
-use Rattle.gate_model.specs.Spelling.{IsDigit, SpellsElements, Spells, most_elements}
+use Rattle.gate_model.specs.ControlLaws.{BeginsCharacter}
+use Rattle.gate_model.specs.Limits.{most_elements}
+use Rattle.gate_model.specs.Spelling.{IsDigit, SpellsElements, Spells}
 use Rattle.guac_framing.specs.declared.next.BadAt.{BadAt}
 use Rattle.guac_framing.specs.declared.next.BadKind.{BadKind}
 use Rattle.guac_framing.specs.declared.next.BadKind.TheVariants.{Digit, Length, Separator, Utf8, TooMany, TooLong}
@@ -27,10 +29,6 @@ pub record IsBadPlace (bytes : List ℕ) (place : ℕ) : Type 0 where
   pub before : HasCompletion (take place bytes)
   pub through : (rest : List ℕ) → HasNoInstruction (take (place + 1) bytes ++ rest)
 
--- the bytes are a front of a character, and not the whole
-abbrev pub IsBegun : List ℕ → Type 0
-IsBegun begun = (c last : ℕ) × (rest : List ℕ) × IsScalar c × (encode_utf8 c ≡ begun ++ last ∷ rest)
-
 -- in a value, no character continues with the byte b
 pub record IsForbidden (front : List ℕ) (b : ℕ) : Type 0 where
   pub values : List (List ℕ)
@@ -40,7 +38,7 @@ pub record IsForbidden (front : List ℕ) (b : ℕ) : Type 0 where
   pub begun : List ℕ
   pub split : front ≡ due ++ begun
   pub value : InValue due values chars (suc left)
-  pub begins : IsBegun begun
+  pub begins : BeginsCharacter begun
   pub forbids : (c : ℕ) (rest : List ℕ) → IsScalar c → encode_utf8 c ≢ begun ++ b ∷ rest
 
 -- why the byte b is bad behind the front

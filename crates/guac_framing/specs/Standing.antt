@@ -2,7 +2,8 @@
 -- if one stood before the first.
 use Rattle.std.specs.Prelude.{◌≡◌, ℕ, ◌+◌, ◌<◌, ◌≤◌, true, List, ◌∷◌, ◌++◌, length, encode_utf8_all}
 use Rattle.std.specs.Str.{all_scalars}
-use Rattle.gate_model.specs.Spelling.{AllDigits, IsLength, SpellsOthers, most_elements}
+use Rattle.gate_model.specs.Limits.{most_elements}
+use Rattle.gate_model.specs.Spelling.{AllDigits, IsLength, SpellsOthers}
 
 -- elements, and the digits of the next one's length so far
 pub record InLength (front : List ℕ) (values : List (List ℕ)) (digits : List ℕ) : Type 0 where

@@ -6,7 +6,7 @@ ghost use Rattle.guac_framing.specs.Begun.{Begins, BeginsNone};
 ghost use Rattle.guac_framing.specs.Standing.{InValue};
 ghost use Rattle.guac_framing.specs.Scanned.{EndsCharacter};
 
-use crate::limits::MOST_BYTES;
+use crate::limits::MOST_INSTRUCTION;
 use crate::next::{BadKind, Stop};
 
 /// What is due of a character that has begun: how many bytes, and the range of the next.
@@ -59,7 +59,7 @@ pub(crate) fn read_character(bytes: &[u8], at: usize, left: usize) -> Result<usi
     let Some(due) = due_after(bytes[at]) else {
         return Err(Stop::bad(at, BadKind::Utf8));
     };
-    if at + due.bytes + left + 2 > MOST_BYTES {
+    if at + due.bytes + left + 2 > MOST_INSTRUCTION {
         return Err(Stop::bad(at, BadKind::TooLong));
     }
     read_due(bytes, at, due)

@@ -4,7 +4,7 @@ ghost use Rattle.std.specs.Prelude.{◌≡◌, ℕ, ◌+◌, ◌<◌, ◌≤◌,
 ghost use Rattle.guac_framing.specs.Answers.{IsStopped};
 ghost use Rattle.guac_framing.specs.Standing.{InLength, InValue};
 
-use crate::limits::{MOST_BYTES, MOST_DIGITS};
+use crate::limits::{MOST_DIGITS, MOST_INSTRUCTION};
 use crate::next::{BadKind, Stop};
 
 /// Reads the digits of a length and the `.` behind them, and answers the number and the place behind the
@@ -25,7 +25,7 @@ pub(crate) fn read_length(bytes: &[u8], start: usize) -> Result<(usize, usize), 
                 return Err(Stop::bad(at, BadKind::Length));
             }
             length = length * 10 + usize::from(byte - b'0');
-            if at + length + 3 > MOST_BYTES {
+            if at + length + 3 > MOST_INSTRUCTION {
                 return Err(Stop::bad(at, BadKind::TooLong));
             }
         } else if byte == b'.' && at > start {

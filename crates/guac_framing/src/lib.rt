@@ -15,8 +15,6 @@ mod next;
 mod reader;
 mod separator;
 mod span;
-#[cfg(test)]
-mod tests;
 mod value;
 
 pub use element::{put_element, put_end, put_number};

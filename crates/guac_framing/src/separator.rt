@@ -5,7 +5,7 @@ ghost use Rattle.guac_framing.specs.Answers.{IsStopped};
 ghost use Rattle.guac_framing.specs.Standing.{BehindValue};
 ghost use Rattle.guac_framing.specs.Behind.{IfOther, IfEnd};
 
-use crate::limits::{MOST_BYTES, MOST_ELEMENTS};
+use crate::limits::{MOST_ELEMENTS, MOST_INSTRUCTION};
 use crate::next::{BadKind, Stop};
 
 /// What a value is followed by.
@@ -31,7 +31,7 @@ pub(crate) fn read_separator(bytes: &[u8], at: usize, count: usize) -> Result<Se
     match bytes[at] {
         b';' => Ok(Separator::End),
         b',' if count == MOST_ELEMENTS => Err(Stop::bad(at, BadKind::TooMany)),
-        b',' if at + 4 > MOST_BYTES => Err(Stop::bad(at, BadKind::TooLong)),
+        b',' if at + 4 > MOST_INSTRUCTION => Err(Stop::bad(at, BadKind::TooLong)),
         b',' => Ok(Separator::Other),
         _ => Err(Stop::bad(at, BadKind::Separator)),
     }

@@ -3,7 +3,8 @@
 //! A client's instruction asks for an act (`act_of` of gate_model's `specs/ClientMeaning.antt`), and in the
 //! handshake says who connects (`greeting_of` of `specs/HelloMeaning.antt`). The writers append exactly the
 //! text that `specs/Text.antt` defines, and the reader of the gateway's own instructions gives back what
-//! they wrote (`instr_of` of `specs/ServerMeaning.antt`). An instruction without a meaning is None.
+//! they wrote (`instr_of` of `specs/ServerMeaning.antt`). An instruction without a meaning is None. Decimal
+//! numbers are read as `specs/Numerals.antt` says.
 #![tactic(auto)]
 
 mod client;
@@ -12,8 +13,6 @@ mod handshake;
 mod hello;
 mod part;
 mod server;
-#[cfg(test)]
-mod tests;
 mod texts;
 mod values;
 
@@ -22,3 +21,4 @@ pub use handshake::read_hello;
 pub use hello::Hello;
 pub use server::read_server;
 pub use texts::{text_of, texts_of};
+pub use values::{number, number_within};

@@ -8,6 +8,7 @@ ghost use Rattle.gate_model.specs.declared.instr.Instr.TheVariants.{Sync};
 use crate::constants::{OPAQUE, OVER};
 use crate::values::{layer_at, number_at, u8_at, u32_at, value};
 use gate_model::Instr;
+use gate_model::limits::MOST_EXTENT;
 use guac_framing::Frame;
 
 /// The instruction, where it is one that the gateway sends (the Guacamole manual, "Guacamole protocol
@@ -46,7 +47,7 @@ fn read_size(frame: &Frame<'_>) -> Option<Instr>
 fn extent_at(frame: &Frame<'_>, k: usize) -> Option<u32>
     ensures { result ≡ value_at extent_of k frame.now }
 {
-    let extent = number_at(frame, k, 0, 4096)?;
+    let extent = number_at(frame, k, 0, MOST_EXTENT as u64)?;
     Some(extent as u32)
 }
 

@@ -8,7 +8,7 @@ ghost use Rattle.gate_model.specs.declared.instr.Instr.{Instr};
 
 use crate::constants::{OPAQUE, OVER};
 use crate::part::{Part, put_parts};
-use gate_model::{Instr, NoMemory};
+use gate_model::{Instr, NoMemory, statuses};
 
 /// Appends the text of the instruction (the Guacamole manual, "Guacamole protocol reference"). Refused
 /// for want of memory, it leaves the buffer as it was.
@@ -93,15 +93,15 @@ fn message_of(status: u16) -> &'static str
     ensures { chars result.now ≡ refusal_text status }
 {
     match status {
-        512 => "no memory",
-        513 => "server busy",
-        516 => "resource not found",
-        517 => "resource conflict",
-        519 => "upstream not found",
-        523 => "session closed",
-        768 => "bad request",
-        771 => "forbidden",
-        797 => "too many",
+        statuses::NO_MEMORY => "no memory",
+        statuses::SERVER_BUSY => "server busy",
+        statuses::NOT_FOUND => "resource not found",
+        statuses::CONFLICT => "resource conflict",
+        statuses::UPSTREAM_NOT_FOUND => "upstream not found",
+        statuses::SESSION_CLOSED => "session closed",
+        statuses::BAD_REQUEST => "bad request",
+        statuses::FORBIDDEN => "forbidden",
+        statuses::TOO_MANY => "too many",
         _ => "",
     }
 }

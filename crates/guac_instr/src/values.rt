@@ -3,9 +3,10 @@
 ghost use Rattle.std.specs.Prelude.{◌≡◌, ◌≤◌, option_copied, slice_get, true, length, IfSome};
 ghost use Rattle.std.specs.Char.{is_ascii_digit};
 ghost use Rattle.std.specs.List.{list_all};
-ghost use Rattle.gate_model.specs.Numerals.{coordinate_of, is_number, layer_of, number_of_bits, number_within, value_at};
+ghost use Rattle.gate_model.specs.Numerals.{coordinate_of, is_number, layer_of, number_in, number_of_bits, number_within, value_at};
 ghost use Rattle.gate_model.specs.Spelling.{number_of};
 
+use gate_model::limits::MOST_BUFFERS;
 use guac_framing::Frame;
 
 /// The most digits of a number (this project's own).
@@ -76,7 +77,7 @@ fn layer_of(value: &[u8]) -> Option<i32>
     ensures { result ≡ layer_of value.now }
 {
     if let [b'-', digits @ ..] = value {
-        let number = number_within(digits, 1, 1024)?;
+        let number = number_within(digits, 1, MOST_BUFFERS)?;
         Some(-(number as i32))
     } else {
         let number = number_within(value, 0, 0)?;
@@ -84,15 +85,24 @@ fn layer_of(value: &[u8]) -> Option<i32>
     }
 }
 
-// The number of the digits, where it is from `least` to `most`.
-fn number_within(digits: &[u8], least: u64, most: u64) -> Option<u64>
+/// The number of 1 to 20 decimal digits, leading zeros among them, or None for any other bytes (this
+/// project's own).
+pub fn number(digits: &[u8]) -> Option<u128>
+    ensures { result ≡ number_in digits.now }
+{
+    if is_number(digits) {
+        Some(number_of(digits))
+    } else {
+        None
+    }
+}
+
+/// The same, where it is from `least` to `most`.
+pub fn number_within(digits: &[u8], least: u64, most: u64) -> Option<u64>
     ensures exact { result ≡ number_within least most digits.now }
     ensures within { IfSome result (λ n. (least ≤ n) × (n ≤ most)) }
 {
-    if !is_number(digits) {
-        return None;
-    }
-    let number = number_of(digits);
+    let number = number(digits)?;
     if u128::from(least) <= number && number <= u128::from(most) {
         Some(number as u64)
     } else {

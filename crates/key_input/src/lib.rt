@@ -8,8 +8,6 @@ mod key_bytes;
 mod keysym;
 mod modifiers;
 mod named;
-#[cfg(test)]
-mod tests;
 
 pub use encoding::encode;
 pub use key_bytes::KeyBytes;

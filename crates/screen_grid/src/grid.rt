@@ -1,7 +1,8 @@
-ghost use Rattle.std.specs.Prelude.{◌≡◌, ◌+◌, ◌*◌, ◌<◌, ◌≤◌, ◌↔◌, IfOk, IsTrue};
+ghost use Rattle.std.specs.Prelude.{◌≡◌, ◌+◌, ◌*◌, ◌<◌, ◌≤◌, ◌↔◌, IfOk, IsTrue, length};
 ghost use Rattle.gate_model.specs.Cells.{blank_grid, cell_at, place, put, erased, inserted, deleted, scrolled_up, scrolled_down};
+ghost use Rattle.screen_grid.specs.Runs.{put_run};
 
-use crate::runs::{BLANK, move_left, move_right};
+use crate::window::Window;
 use gate_model::{Cell, NoMemory};
 use std::alloc::Global;
 use std::marker::Model;
@@ -12,7 +13,7 @@ use std::marker::Model;
 pub struct Grid {
     columns: u16,
     lines: u16,
-    held: Vec<Cell>,
+    held: Window,
 }
 
 impl Model for Grid {
@@ -21,9 +22,9 @@ impl Model for Grid {
 
     ghost Value = { CellGrid };
 
-    ghost view = { λ g. record { cols = g.columns; rows = g.lines; cells = g.held.items } };
+    ghost view = { λ g. record { cols = g.columns; rows = g.lines; cells = g.held } };
 
-    ghost invariant = { λ g. length g.held.items ≡ g.lines * g.columns };
+    ghost invariant = { λ g. length g.held ≡ g.lines * g.columns };
 }
 
 impl Grid {
@@ -33,7 +34,7 @@ impl Grid {
         ensures blank { IfOk result (λ g. g ≡ blank_grid cols rows) }
     {
         let count = rows as usize * cols as usize;
-        let held = vec![in alloc; BLANK; count]?;
+        let held = Window::new(alloc, count)?;
         Ok(Grid {
             columns: cols,
             lines: rows,
@@ -46,7 +47,7 @@ impl Grid {
     pub fn copy(&self, alloc: Global) -> Result<Grid, NoMemory>
         ensures same { IfOk result (λ g. g ≡ self.now) }
     {
-        let held = Vec::from_slice(alloc, &self.held)?;
+        let held = self.held.copy(alloc)?;
         Ok(Grid {
             columns: self.columns,
             lines: self.lines,
@@ -68,7 +69,7 @@ impl Grid {
         requires row { y < self.now.rows }
         ensures cell { result ≡ cell_at x y self.now }
     {
-        self.held[self.place(x, y)]
+        self.held.cell(self.place(x, y))
     }
 
     /// Puts a cell at column `x` of row `y`. The place is in the grid (this project's own rule).
@@ -78,7 +79,18 @@ impl Grid {
         ensures cells { self.new ≡ put x y cell self.old }
     {
         let place = self.place(x, y);
-        self.held[place] = cell;
+        self.held.put(place, cell);
+    }
+
+    /// Puts cells like `pen` into row `y` from column `x` on, one for each byte of `text`, with the byte
+    /// as its character. The row is in the grid, and so are the columns (this project's own rule).
+    pub fn put_run(&mut self, x: u16, y: u16, text: &[u8], pen: Cell)
+        requires row { y < self.old.rows }
+        requires columns { x + length text.now ≤ self.old.cols }
+        ensures cells { self.new ≡ put_run x y text.now pen self.old }
+    {
+        let start = self.place(x, y);
+        self.held.put_run(start, text, pen);
     }
 
     /// Blanks the cells of row `y` from column `from` up to, not including, column `to`. The row and
@@ -91,7 +103,7 @@ impl Grid {
     {
         let start = self.place(from, y);
         let end = self.place(to, y);
-        self.held[start..end].fill(BLANK);
+        self.held.erase(start, end);
     }
 
     /// Moves the cells of row `y` from column `x` on right by `n`, at most to the end of the row. Blanks
@@ -104,7 +116,7 @@ impl Grid {
     {
         let start = self.place(x, y);
         let end = self.place(self.columns, y);
-        move_right(&mut self.held[start..end], n as usize);
+        self.held.move_right(start, end, n as usize);
     }
 
     /// Takes `n` cells of row `y` away from column `x` on, at most to the end of the row. Those right of
@@ -117,7 +129,7 @@ impl Grid {
     {
         let start = self.place(x, y);
         let end = self.place(self.columns, y);
-        move_left(&mut self.held[start..end], n as usize);
+        self.held.move_left(start, end, n as usize);
     }
 
     /// Moves the rows from `top` to `bottom`, both included, up by `n`, at most all of them. Blank
@@ -129,9 +141,13 @@ impl Grid {
         ensures cells { self.new ≡ scrolled_up top bottom n self.old }
     {
         let count = n as usize * self.columns as usize;
+        if top == 0 && bottom + 1 == self.lines {
+            self.held.slide(count);
+            return;
+        }
         let start = self.place(0, top);
         let end = self.place(0, bottom + 1);
-        move_left(&mut self.held[start..end], count);
+        self.held.move_left(start, end, count);
     }
 
     /// Moves the rows from `top` to `bottom`, both included, down by `n`, at most all of them. Blank
@@ -145,7 +161,7 @@ impl Grid {
         let count = n as usize * self.columns as usize;
         let start = self.place(0, top);
         let end = self.place(0, bottom + 1);
-        move_right(&mut self.held[start..end], count);
+        self.held.move_right(start, end, count);
     }
 
     // The place of column `x` of row `y`, counted row by row.

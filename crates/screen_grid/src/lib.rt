@@ -8,8 +8,6 @@
 
 mod grid;
 mod runs;
+mod window;
 
 pub use grid::Grid;
-
-#[cfg(test)]
-mod tests;

@@ -1,5 +1,6 @@
-ghost use Rattle.std.specs.Prelude.{◌≡◌, ◌≤◌, length, replicate};
+ghost use Rattle.std.specs.Prelude.{◌≡◌, ◌≤◌, length, map, replicate};
 ghost use Rattle.gate_model.specs.Cells.{blank, moved_left, moved_right};
+ghost use Rattle.screen_grid.specs.Runs.{like};
 
 use gate_model::Cell;
 
@@ -29,4 +30,24 @@ pub(crate) fn move_right(run: &mut [Cell], n: usize)
     let kept = run.len() - gone;
     run.copy_within(..kept, gone);
     run[..gone].fill(BLANK);
+}
+
+// Every cell becomes blank.
+pub(crate) fn erase(run: &mut [Cell])
+    ensures { run.new ≡ replicate (length run.old) blank }
+{
+    run.fill(BLANK);
+}
+
+// The cells become cells like `pen`, each with its byte of `text` as its character.
+pub(crate) fn draw(run: &mut [Cell], text: &[u8], pen: Cell)
+    requires { length run.old ≡ length text.now }
+    ensures { run.new ≡ map (like pen) text.now }
+{
+    for (i, byte) in text.iter().enumerate() {
+        run[i] = Cell {
+            ch: char::from(*byte),
+            ..pen
+        };
+    }
 }

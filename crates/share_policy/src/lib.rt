@@ -7,9 +7,6 @@ ghost use Rattle.gate_model.specs.Roles.{grant_of};
 
 use gate_model::{Asked, Forbidden, Role, Share};
 
-#[cfg(test)]
-mod tests;
-
 /// The role of a joiner under a share mode (this project's own rule).
 ///
 /// The creator of a session, who asks as `Owner`, types in every mode, and a recorder, which asks as

@@ -11,7 +11,5 @@
 mod codes;
 mod options;
 mod replies;
-#[cfg(test)]
-mod tests;
 
 pub use options::Options;

@@ -1,7 +1,8 @@
 -- How one more byte changes what a state stands for.
-use Rattle.std.proofs.Common.{◌≡◌, ◌≢◌, ◌≤◌, ◌<◌, ◌+◌, ℕ, take, arith, List, [], ◌∷◌, ◌++◌, Some, None, append_assoc, append-nil, refl, sym, ap, subst, ◌∙◌}
+use Rattle.std.proofs.Common.{◌≡◌, ◌≢◌, ◌≤◌, ◌<◌, ◌+◌, ℕ, take, map, All, arith, List, [], ◌∷◌, ◌++◌, Some, None, append_assoc, append-nil, refl, sym, ap, subst, ◌∙◌, Result, Ok, Err, IfOk, OnErr}
 use Rattle.std.proofs.lemmas.Bool.{cond-false, ne_eqb}
 use Rattle.std.proofs.lemmas.Bool.Decides.{nat_tests}
+use Rattle.std.proofs.lemmas.List.Elements.{All-head, All-tail}
 use Rattle.gate_model.specs.declared.token.Token.{Token}
 use Rattle.gate_model.specs.declared.token.Token.TheVariants.{Byte, Single}
 use Rattle.gate_model.specs.Reading.{read, after}
@@ -13,6 +14,9 @@ use Rattle.telnet_wire.specs.declared.reader.Reader.{Reader}
 use Rattle.telnet_wire.specs.declared.state.State.{State}
 use Rattle.telnet_wire.specs.declared.state.State.TheVariants.{Data, Command, AfterWill, AfterWont, AfterDo, AfterDont, Within, WithinCommand}
 use Rattle.telnet_wire.specs.Past.{HaveRead}
+use Rattle.telnet_wire.specs.declared.part.Part.{Part}
+use Rattle.telnet_wire.specs.Parts.{given}
+use Rattle.gate_model.specs.declared.memory.NoMemory.{NoMemory}
 use Rattle.telnet_wire.specs.State.{sub_command, Follows, ReadsAs, StandsFor, Stands, Gives}
 
 -- ---- one more byte, for any state
@@ -185,3 +189,26 @@ pub new-past : (reader : Reader) → Stands reader [] → HaveRead reader []
 new-past reader stands =
     let rest : unfinished_token [] ≡ [] = ap (λ (r : List Token × List ℕ). r.1) (read-unfinished head_token head_token-is [] refl) in
     subst (Stands reader) (sym rest) stands
+
+-- ---- a run of data bytes
+
+pub gives-run : (bytes : List ℕ) (reader : Reader) → All (λ b. b ≢ iac) bytes → Stands reader [] → Gives bytes (map Byte bytes) reader
+gives-run [] reader all stands = record { rest = []; is = read-unfinished head_token head_token-is [] refl; stands = stands }
+gives-run (b ∷ bs) reader all stands =
+    let later = gives-run bs reader (All-tail (λ b. b ≢ iac) b bs all) stands in
+    record {
+      rest = later.rest;
+      is = read-whole head_token head_token-is (b ∷ bs) bs (Byte b ∷ []) (cond-false _ _ _ (ne_eqb b iac (All-head (λ b. b ≢ iac) b bs all))) ∙ ap (after (Byte b ∷ [])) later.is;
+      stands = later.stands;
+    }
+
+-- where nothing was unfinished
+pub gives-run-after : (rest bytes : List ℕ) (reader : Reader) → All (λ b. b ≢ iac) bytes → rest ≡ [] → Stands reader [] → Gives (rest ++ bytes) (map Byte bytes) reader
+gives-run-after rest bytes reader all is stands = subst (λ r. Gives (r ++ bytes) (map Byte bytes) reader) (sym is) (gives-run bytes reader all stands)
+
+-- what the front of a piece gives
+module _ (piece : List ℕ) (old reader : Reader) where
+  pub next-past : (result : Result (Part × ℕ) NoMemory) → IfOk result (λ r. (rest : List ℕ) → Stands old rest → Gives (rest ++ take r.1 piece) (given r.0) reader)
+      → OnErr result (reader ≡ old) → ((bytes : List ℕ) × HaveRead old bytes) → ((bytes : List ℕ) × HaveRead reader bytes)
+  next-past (Ok r) reads same known = (known.0 ++ take r.1 piece, (steps known.0 (take r.1 piece) (given r.0) old reader known.1 reads).past)
+  next-past (Err e) reads same known = (known.0, subst (λ reader. HaveRead reader known.0) (sym same) known.1)

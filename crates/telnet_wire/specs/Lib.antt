@@ -2,4 +2,5 @@
 pub mod Kept
 pub mod State
 pub mod Past
+pub mod Parts
 pub mod Wire

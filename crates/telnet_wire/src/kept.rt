@@ -2,16 +2,14 @@ ghost use Rattle.std.specs.Prelude.{◌≡◌, ◌++◌, ◌∷◌, [], ℕ, Lis
 ghost use Rattle.std.specs.List.{cons_option};
 ghost use Rattle.gate_model.specs.TelnetTokens.{sub_token};
 
+use gate_model::limits::MOST_IN_SUB;
 use gate_model::{Bytes, NoMemory, Token};
 use std::alloc::Global;
-
-/// The most bytes of a subnegotiation that has a meaning, the option among them.
-const MOST: usize = 1024;
 
 /// The bytes of a subnegotiation so far, undoubled, as long as they are few enough to have a meaning.
 #[derive(Clone, Copy)]
 pub struct Kept {
-    bytes: [u8; MOST],
+    bytes: [u8; MOST_IN_SUB],
     // The number of bytes, and 1,025 where there are more.
     count: usize,
 }
@@ -24,7 +22,7 @@ impl Kept {
         ensures { Holds result [] }
     {
         Kept {
-            bytes: [0; MOST],
+            bytes: [0; MOST_IN_SUB],
             count: 0,
         }
     }
@@ -40,11 +38,11 @@ impl Kept {
     pub fn push(&mut self, byte: u8)
         ensures { (list : List ℕ) → Holds self.old list → Holds self.new (list ++ byte ∷ []) }
     {
-        if self.count < MOST {
+        if self.count < MOST_IN_SUB {
             self.bytes[self.count] = byte;
             self.count += 1;
         } else {
-            self.count = MOST + 1;
+            self.count = MOST_IN_SUB + 1;
         }
     }
 
@@ -52,7 +50,7 @@ impl Kept {
     pub fn token(&self, alloc: Global) -> Result<Option<Token>, NoMemory>
         ensures { IfOk result (λ token. (list : List ℕ) → Holds self.now list → cons_option token [] ≡ sub_token list) }
     {
-        if self.count > MOST {
+        if self.count > MOST_IN_SUB {
             return Ok(None);
         }
         let bytes = self.bytes[..self.count].to_vec(alloc)?;

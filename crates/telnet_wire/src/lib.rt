@@ -15,11 +15,11 @@
 
 mod doubling;
 mod kept;
+mod part;
 mod reader;
 mod state;
-#[cfg(test)]
-mod tests;
 mod wire;
 
 pub use doubling::escape;
+pub use part::Part;
 pub use wire::Wire;

@@ -1,12 +1,21 @@
-ghost use Rattle.std.specs.Prelude.{◌≡◌, ◌++◌, ◌∷◌, [], ℕ, List, IfOk};
+ghost use Rattle.std.specs.Prelude.{◌≡◌, ◌++◌, ◌∷◌, [], ℕ, List, IfOk, OnErr, ◌≤◌, ◌≢◌, All, length, take};
 ghost use Rattle.std.specs.List.{cons_option};
 ghost use Rattle.gate_model.specs.TelnetTokens.{head_sub};
 
 use crate::kept::Kept;
+use crate::part::Part;
 use crate::state::State;
 use gate_model::telnet_codes::{DO, DONT, GA, IAC, NOP, SB, SE, WILL, WONT};
 use gate_model::{NoMemory, Token, Tokens};
 use std::alloc::Global;
+
+// The number of bytes before the first IAC.
+fn data_length(piece: &[u8]) -> usize
+    ensures few { result ≤ length piece.now }
+    ensures data { All (λ b. b ≢ 255) (take result piece.now) }
+{
+    memchr::memchr(IAC, piece).unwrap_or(piece.len())
+}
 
 /// Reads bytes as Telnet tokens. Refused for want of memory, it may have read some of them.
 #[derive(Clone, Copy)]
@@ -18,6 +27,7 @@ pub struct Reader {
 impl Reader {
     ghost use Rattle.telnet_wire.specs.Kept.{Holds};
     ghost use Rattle.telnet_wire.specs.State.{Follows, Stands, Gives, sub_command};
+    ghost use Rattle.telnet_wire.specs.Parts.{given};
 
     /// A reader that has read nothing.
     pub fn new() -> Reader
@@ -43,9 +53,33 @@ impl Reader {
         Ok(Tokens::of(tokens))
     }
 
+    /// Reads the front of the piece: the data bytes before the first IAC, or one byte.
+    pub fn next<'a>(
+        &mut self,
+        alloc: Global,
+        piece: &'a [u8],
+    ) -> Result<(Part<'a>, usize), NoMemory>
+        requires { 1 ≤ length piece.now }
+        ensures few { IfOk result (λ r. 1 ≤ r.1 × r.1 ≤ length piece.now) }
+        ensures gives { IfOk result (λ r. (rest : List ℕ) → Stands self.old rest → Gives (rest ++ take r.1 piece.now) (given r.0) self.new) }
+        ensures unchanged { OnErr result (self.new ≡ self.old) }
+    {
+        if let State::Data = self.state {
+            let count = data_length(piece);
+            if count > 0 {
+                return Ok((Part::Run(&piece[..count]), count));
+            }
+        }
+        match self.read(alloc, piece[0])? {
+            Some(token) => Ok((Part::One(token), 1)),
+            None => Ok((Part::Nothing, 1)),
+        }
+    }
+
     // Reads one more byte, and gives the token that it completes.
     fn read(&mut self, alloc: Global, byte: u8) -> Result<Option<Token>, NoMemory>
-        ensures { IfOk result (λ token. (rest : List ℕ) → Stands self.old rest → Gives (rest ++ byte ∷ []) (cons_option token []) self.new) }
+        ensures gives { IfOk result (λ token. (rest : List ℕ) → Stands self.old rest → Gives (rest ++ byte ∷ []) (cons_option token []) self.new) }
+        ensures unchanged { OnErr result (self.new ≡ self.old) }
     {
         match self.state {
             State::Data => Ok(self.data(byte)),
@@ -121,7 +155,8 @@ impl Reader {
 
     // A byte after IAC within a subnegotiation.
     fn within_command(&mut self, alloc: Global, byte: u8) -> Result<Option<Token>, NoMemory>
-        ensures { IfOk result (λ token. (rest before : List ℕ) → Holds self.old.kept before → Follows rest byte (sub_command before) → Gives (rest ++ byte ∷ []) (cons_option token []) self.new) }
+        ensures gives { IfOk result (λ token. (rest before : List ℕ) → Holds self.old.kept before → Follows rest byte (sub_command before) → Gives (rest ++ byte ∷ []) (cons_option token []) self.new) }
+        ensures unchanged { OnErr result (self.new ≡ self.old) }
     {
         match byte {
             IAC => {
@@ -130,8 +165,9 @@ impl Reader {
                 Ok(None)
             }
             SE => {
+                let token = self.kept.token(alloc)?;
                 self.state = State::Data;
-                self.kept.token(alloc)
+                Ok(token)
             }
             _ => Ok(self.command(byte)),
         }

@@ -6,7 +6,7 @@ use Rattle.atomic_table.specs.Table.{opening}
 use Rattle.turn_lock.specs.Places.{NoneTwice, IsAt, IsUnmarked, is_zero, zero_places}
 use Rattle.turn_lock.specs.Rule.{Each, EachTwo, Knows, Apart, Ruled}
 use Rattle.turn_lock.specs.Views.{beginning, HasPlaces}
-use Rattle.turn_lock.proofs.Elements.{later_refl, contains_none, contains_head, contains_tail, contains_cases}
+use Rattle.turn_lock.proofs.Elements.{later_refl, later_none, contains_none, contains_head, contains_tail, contains_cases}
 
 choose : (P : List ℕ → Type 0) (b : Bool) (xs ys : List ℕ) → (b ≡ true → P xs) → (b ≡ false → P ys) → P (if b then xs else ys)
 choose P true xs ys f g = f refl
@@ -63,6 +63,7 @@ module _ {X E : Type 0} (stands : X → List E → Type 0) (mark : E → Option 
     bounded = omega arith;
     each = each_one (Knows mark h 0 0 false []) (beginning mark h) record {
       seen = later_refl h;
+      met = later_none h;
       known = omega arith;
       ticket = λ t e. absurd (cc);
       inside = λ e. absurd (cc);

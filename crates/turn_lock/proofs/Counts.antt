@@ -37,6 +37,7 @@ module _ {X E : Type 0} (stands : X → List E → Type 0) (mark : E → Option 
           each = each_set (Knows mark r.history r.next r.serving (is_out r.value) r.given) s.views id w
               record {
                 seen = k.seen;
+                met = k.met;
                 known = omega arith;
                 ticket = k.ticket;
                 inside = k.inside;

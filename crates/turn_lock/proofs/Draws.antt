@@ -18,6 +18,7 @@ module _ {X E : Type 0} (stands : X → List E → Type 0) (mark : E → Option 
   more_tickets : (h : List E) (next more serving : ℕ) (out : Bool) (given : List ℕ) (u : View E) → next ≤ more → Knows mark h next serving out given u → Knows mark h more serving out given u
   more_tickets h next more serving out given u le k = record {
     seen = k.seen;
+    met = k.met;
     known = k.known;
     ticket = λ t e. let z = k.ticket t e in (z.0, (let y = z.1 in omega arith));
     inside = k.inside;
@@ -53,6 +54,7 @@ module _ {X E : Type 0} (stands : X → List E → Type 0) (mark : E → Option 
           each = each_set (Knows mark r.history (t + 1) r.serving (is_out r.value) r.given) s.views id w
               record {
                 seen = k.seen;
+                met = k.met;
                 known = k.known;
                 ticket = λ u e. let same : t ≡ u = cc in (omega arith, omega arith);
                 inside = λ e. absurd (cc);

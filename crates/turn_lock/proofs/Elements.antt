@@ -1,6 +1,7 @@
 -- Lemmas on elements of a list, on places, and on histories that grew.
 use Rattle.std.proofs.Common.{◌≡◌, ◌⊎◌, inl, inr, ⊎_elim, ℕ, zero, suc, ◌<◌, ◌≤◌, List, [], ◌∷◌, ◌++◌, length, refl, ap, sym, ◌∙◌, subst, arith, length-append, append_assoc}
 use Rattle.std.specs.Prelude.{Contains, slice_index_or}
+use Rattle.std.proofs.lemmas.List.{append-nil}
 use Rattle.std.proofs.lemmas.List.Elements.{Contains-append_right, Contains-append_cases}
 use Rattle.gate_model.specs.Sequences.{IsLater}
 use Rattle.turn_lock.specs.Places.{NoneTwice, IsAt}
@@ -25,6 +26,9 @@ module _ {A : Type 0} where
   pub later_refl : (h : List A) → IsLater h h
   later_refl h = ([], refl)
 
+  pub later_none : (h : List A) → IsLater [] h
+  later_none h = (h, sym (append-nil h))
+
   pub later_cons : (x : A) (old new : List A) → IsLater old new → IsLater old (x ∷ new)
   later_cons x old new l = (x ∷ l.0, ap (λ (z : List A). x ∷ z) l.1)
 
@@ -33,6 +37,15 @@ module _ {A : Type 0} where
 
   pub later_length : (old new : List A) → IsLater old new → length old ≤ length new
   later_length old new l = omega (arith, ap length l.1, length-append l.0 old)
+
+  both_more : (more others xs ys : List A) → more ++ xs ≡ others ++ ys → length xs ≤ length ys → IsLater xs ys
+  both_more more [] xs ys e le = (more, sym e)
+  both_more [] (o ∷ others) xs ys e le = absurd (omega (arith, ap length e, length-append others ys))
+  both_more (m ∷ more) (o ∷ others) xs ys e le = both_more more others xs ys (cc) le
+
+  -- of two lists that begin the same list, the one that is no longer begins the other
+  pub later_both : (xs ys all : List A) → IsLater xs all → IsLater ys all → length xs ≤ length ys → IsLater xs ys
+  later_both xs ys all a b le = both_more a.0 b.0 xs ys (sym a.1 ∙ b.1) le
 
   pub at_below : (h : List A) (p : ℕ) (e : A) → IsAt h p e → p < length h
   at_below [] p e a = absurd a

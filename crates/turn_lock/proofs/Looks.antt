@@ -12,7 +12,7 @@ use Rattle.turn_lock.specs.Rule.{Knows, Apart, Ruled, is_out, slot_of}
 use Rattle.turn_lock.specs.Steps.{Seated, looked}
 use Rattle.turn_lock.specs.Views.{entered}
 use Rattle.turn_lock.specs.declared.view.View.{View}
-use Rattle.turn_lock.proofs.Elements.{later_refl, later_length}
+use Rattle.turn_lock.proofs.Elements.{later_refl, later_trans, later_length}
 use Rattle.turn_lock.proofs.Keeping.{apart_flip, unchanged, seen_places}
 use Rattle.turn_lock.proofs.Pairs.{each_set, two_set, found_set, set_at}
 
@@ -31,6 +31,7 @@ module _ {X E : Type 0} (stands : X → List E → Type 0) (mark : E → Option 
   slot_taken : (h : List E) (next serving : ℕ) (out : Bool) (given : List ℕ) (u : View E) → Knows mark h next serving out given u → Knows mark h next serving true given u
   slot_taken h next serving out given u k = record {
     seen = k.seen;
+    met = k.met;
     known = k.known;
     ticket = k.ticket;
     inside = λ e. let z = k.inside e in (z.0, z.1, refl);
@@ -52,6 +53,7 @@ module _ {X E : Type 0} (stands : X → List E → Type 0) (mark : E → Option 
       (λ (there : (x : X) × (r.value ≡ some x)).
       let w = entered r.history v in
       let x = there.0 in
+      let met = later_trans v.met v.seen r.history k.met k.seen in
       let own : v.ticket ≡ Some r.serving = hit ∙ ap Some served in
       let places : ArePlaces (length r.history) v.mine = record { within = λ p c. let y = k.places.within p c in omega arith; once = k.places.once } in (
         w,
@@ -70,6 +72,7 @@ module _ {X E : Type 0} (stands : X → List E → Type 0) (mark : E → Option 
           each = each_set (Knows mark r.history r.next r.serving true r.given) s.views id w
               record {
                 seen = later_refl r.history;
+                met = met;
                 known = k.known;
                 ticket = k.ticket;
                 inside = λ _. (own, refl, refl);
@@ -94,7 +97,7 @@ module _ {X E : Type 0} (stands : X → List E → Type 0) (mark : E → Option 
           no_zero = r.no_zero;
           marked = r.marked;
         },
-        ((λ _. (r.history, x, ap (λ l. (w, (0, Some x) ∷ l)) empty, k.seen, k.known, r.stood x there.1)), (λ miss. absurd (miss hit)), record { places = places; owns = k.owns }),
+        ((λ _. (r.history, x, ap (λ l. (w, (0, Some x) ∷ l)) empty, k.seen, k.known, r.stood x there.1)), (λ miss. absurd (miss hit)), record { places = places; owns = k.owns }, met),
       ))
       (λ (gone : r.value ≡ none).
       let f = r.holder (ap is_out gone) in
@@ -108,6 +111,6 @@ module _ {X E : Type 0} (stands : X → List E → Type 0) (mark : E → Option 
         keeps,
         tt,
         unchanged stands mark s r 2 n id v at refl,
-        ((λ hit. absurd (miss hit)), (λ _. refl), seen_places mark r.history r.next r.serving (is_out r.value) r.given v k),
+        ((λ hit. absurd (miss hit)), (λ _. refl), seen_places mark r.history r.next r.serving (is_out r.value) r.given v k, k.met),
       ))
       (is_ticket v.ticket n)

@@ -14,6 +14,7 @@ module _ {X E : Type 0} (stands : X → List E → Type 0) (mark : E → Option 
   next_served : (h : List E) (next serving : ℕ) (out : Bool) (given : List ℕ) (u : View E) → ¬ (u.inside ≡ true) → ¬ (u.ticket ≡ Some serving) → Knows mark h next serving out given u → Knows mark h next (serving + 1) false given u
   next_served h next serving out given u outside later k = record {
     seen = k.seen;
+    met = k.met;
     known = k.known;
     ticket = λ t e. let z = k.ticket t e in let low = z.0 in let not : t ≢ serving = λ f. later (e ∙ ap Some f) in (omega arith, z.1);
     inside = λ e. absurd (outside e);
@@ -53,6 +54,7 @@ module _ {X E : Type 0} (stands : X → List E → Type 0) (mark : E → Option 
           each = each_set (Knows mark r.history r.next (r.serving + 1) false r.given) s.views id w
               record {
                 seen = k.seen;
+                met = k.met;
                 known = k.known;
                 ticket = λ t e. absurd (cc);
                 inside = λ e. absurd (cc);

@@ -23,6 +23,7 @@ module _ {X E : Type 0} (stands : X → List E → Type 0) (mark : E → Option 
       → Knows mark (e ∷ h) next serving out given u
   entry_added h e next serving out given u outside foreign k = record {
     seen = later_cons e u.seen h k.seen;
+    met = k.met;
     known = let l = k.known in omega arith;
     ticket = k.ticket;
     inside = λ a. absurd (outside a);
@@ -62,6 +63,7 @@ module _ {X E : Type 0} (stands : X → List E → Type 0) (mark : E → Option 
           each = each_set (Knows mark (e ∷ r.history) r.next r.serving (is_out r.value) r.given) s.views id w
               record {
                 seen = ([], ap (λ (l : List E). e ∷ l) (sym has.1));
+                met = later_cons e v.met v.seen k.met;
                 known = let l = k.known in omega arith;
                 ticket = k.ticket;
                 inside = λ _. (has.0, ap (λ (l : List E). e ∷ l) has.1, has.2);

@@ -7,7 +7,7 @@ use Rattle.turn_lock.specs.Places.{IsAt}
 use Rattle.turn_lock.specs.Rule.{Each, EachTwo, Found, Knows, Apart, Ruled, is_out}
 use Rattle.turn_lock.specs.Views.{giving, part_of, MayGive, more_given}
 use Rattle.turn_lock.specs.declared.view.View.{View}
-use Rattle.turn_lock.proofs.Elements.{contains_none, contains_head, contains_tail, contains_cases}
+use Rattle.turn_lock.proofs.Elements.{later_none, contains_none, contains_head, contains_tail, contains_cases}
 use Rattle.turn_lock.proofs.Keeping.{apart_flip}
 use Rattle.turn_lock.proofs.Pairs.{each_set, each_end, two_set, two_end, found_set, found_end, set_at}
 
@@ -16,6 +16,7 @@ module _ {X E : Type 0} (stands : X → List E → Type 0) (mark : E → Option 
   mark_given : (h : List E) (next serving : ℕ) (out : Bool) (given : List ℕ) (m : ℕ) (u : View E) → ((ms : List ℕ) → ¬ (u.given ≡ Some ms)) → Knows mark h next serving out given u → Knows mark h next serving out (m ∷ given) u
   mark_given h next serving out given m u not_first k = record {
     seen = k.seen;
+    met = k.met;
     known = k.known;
     ticket = k.ticket;
     inside = k.inside;
@@ -30,6 +31,7 @@ module _ {X E : Type 0} (stands : X → List E → Type 0) (mark : E → Option 
       → Knows mark h next serving out given (part_of mine v)
   part_knows h next serving out given mine v k free there = record {
     seen = k.seen;
+    met = later_none v.seen;
     known = k.known;
     ticket = λ t e. absurd (cc);
     inside = λ e. absurd (cc);
@@ -91,6 +93,7 @@ module _ {X E : Type 0} (stands : X → List E → Type 0) (mark : E → Option 
       let gave : w.given ≡ Some (m ∷ r.given) = ap (more_given m) is_first ∙ ap (λ (l : List ℕ). Some (m ∷ l)) all in
       let mine : Knows mark r.history r.next r.serving (is_out r.value) (m ∷ r.given) w = record {
         seen = k.seen;
+        met = k.met;
         known = k.known;
         ticket = k.ticket;
         inside = k.inside;

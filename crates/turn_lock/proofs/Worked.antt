@@ -23,7 +23,7 @@ first_places : (beginning mark four).mine ≡ 3 ∷ 1 ∷ []
 first_places = refl
 
 -- a split gives the mark to a view without places
-part_is : part_of (Some 1) (beginning mark four) ≡ record { seen = four; mine = []; known = 0; ticket = None; inside = false; mark = Some 1; given = None }
+part_is : part_of (Some 1) (beginning mark four) ≡ record { seen = four; met = []; mine = []; known = 0; ticket = None; inside = false; mark = Some 1; given = None }
 part_is = refl
 
 given_is : (giving (Some 1) (beginning mark four)).given ≡ Some (1 ∷ [])
@@ -36,6 +36,10 @@ gained_is = refl
 -- a join has the longer view and all places
 joined_is : (joined (part_of None (beginning mark four)) (gained 1 (part_of (Some 1) (beginning mark four)))).seen ≡ 1 ∷ four
 joined_is = refl
+
+-- and the shorter is what was met
+met_is : (joined (part_of None (beginning mark four)) (gained 1 (part_of (Some 1) (beginning mark four)))).met ≡ four
+met_is = refl
 
 places_are : (joined (beginning mark four) (gained 1 (part_of (Some 1) (beginning mark four)))).mine ≡ 3 ∷ 1 ∷ 4 ∷ []
 places_are = refl

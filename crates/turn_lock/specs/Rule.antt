@@ -36,8 +36,9 @@ is_out (some x) = false
 module _ {E : Type 0} (mark : E → Option ℕ) (history : List E) (next serving : ℕ) (out : Bool) (given : List ℕ) where
   -- what holds of one view. The numbers are those of the parts of `Ruled`
   pub record Knows (v : View E) : Type 0 where
-    -- 1: what was seen begins the history, which has at least the known number of entries
+    -- 1: what was seen begins the history, which has at least the known number of entries. What was met begins what was seen
     pub seen : IsLater v.seen history
+    pub met : IsLater v.met v.seen
     pub known : v.known ≤ length history
     -- 2: a ticket is at least the one that is served, and below the next
     pub ticket : (t : ℕ) → v.ticket ≡ Some t → (serving ≤ t) × (t < next)

@@ -11,7 +11,7 @@ more_given m (Some ms) = Some (m ∷ ms)
 module _ {E : Type 0} where
   -- the first pass at the making, whose value stands for h
   abbrev pub beginning : (E → Option ℕ) → List E → View E
-  beginning mark h = record { seen = h; mine = zero_places mark h; known = 0; ticket = None; inside = false; mark = Some 0; given = Some [] }
+  beginning mark h = record { seen = h; met = []; mine = zero_places mark h; known = 0; ticket = None; inside = false; mark = Some 0; given = Some [] }
 
   -- draw: the ticket is t
   abbrev pub with_ticket : ℕ → View E → View E
@@ -40,19 +40,27 @@ module _ {E : Type 0} where
 
   -- split: the new pass, with no place, and the mark if there is one
   abbrev pub part_of : Option ℕ → View E → View E
-  part_of m v = record { seen = v.seen; mine = []; known = v.known; ticket = None; inside = false; mark = m; given = None }
+  part_of m v = record { seen = v.seen; met = []; mine = []; known = v.known; ticket = None; inside = false; mark = m; given = None }
 
   -- the longer of two lists
   abbrev pub longer : List E → List E → List E
   longer xs ys = if nat_lt (length xs) (length ys) then ys else xs
 
-  -- join: the longer seen, the greater known, and the places of both
+  -- and the shorter
+  abbrev pub shorter : List E → List E → List E
+  shorter xs ys = if nat_lt (length xs) (length ys) then xs else ys
+
+  -- join: the longer seen, the shorter met, the greater known, and the places of both
   abbrev pub joined : View E → View E → View E
-  joined v w = record v { seen = longer v.seen w.seen; known = max v.known w.known; mine = v.mine ++ w.mine }
+  joined v w = record v { seen = longer v.seen w.seen; met = shorter v.seen w.seen; known = max v.known w.known; mine = v.mine ++ w.mine }
+
+  -- meet: what the other has seen is met, and the known number is the greater of the two
+  abbrev pub meeting : View E → View E → View E
+  meeting w v = record v { met = w.seen; known = max v.known w.known }
 
   -- join: the other pass, which is spent and knows nothing
   abbrev pub spent : View E
-  spent = record { seen = []; mine = []; known = 0; ticket = None; inside = false; mark = None; given = None }
+  spent = record { seen = []; met = []; mine = []; known = 0; ticket = None; inside = false; mark = None; given = None }
 
   -- a split may give the mark: the pass is the first, and the mark is new and not 0
   abbrev pub MayGive : Option ℕ → View E → Type 0

@@ -1,6 +1,6 @@
 //! What each kind of step tells its pass, and how views are split and joined.
-ghost use Rattle.turn_lock.specs.Steps.{drawn, looked, raised, passed_on, counted};
-ghost use Rattle.turn_lock.specs.Views.{giving, part_of, joined, spent};
+ghost use Rattle.turn_lock.specs.Steps.{drawn, looked, raised, passed_on, counted, told};
+ghost use Rattle.turn_lock.specs.Views.{giving, part_of, joined, meeting, spent};
 
 use crate::kept::{Adds, Kept};
 use crate::view::View;
@@ -49,6 +49,13 @@ impl<V, E> Play<Option<V>, View<E>> for Count {
     ghost then = { counted };
 }
 
+/// A look at the number of entries, which tells what was met.
+pub(crate) struct Tell;
+
+impl<V, E> Play<Option<V>, View<E>> for Tell {
+    ghost then = { told };
+}
+
 /// Names the mark that a split gives, or none.
 pub(crate) trait Marks {
     ghost use Rattle.std.specs.Prelude.{ℕ, Option};
@@ -78,6 +85,15 @@ pub(crate) struct JoinViews;
 
 impl<E> Join<View<E>> for JoinViews {
     ghost both = { joined };
+
+    ghost spent = { spent };
+}
+
+/// A join to a pass that has its turn, which only meets what the other had seen.
+pub(crate) struct MeetViews;
+
+impl<E> Join<View<E>> for MeetViews {
+    ghost both = { λ v w. meeting w v };
 
     ghost spent = { spent };
 }

@@ -17,6 +17,7 @@ pub(crate) const SERVING: usize = 2;
 const VALUE: usize = 0;
 
 impl<V: Kept + Drop> TurnLock<V> {
+    ghost use Rattle.gate_model.specs.Sequences.{IsLater};
     ghost use Rattle.turn_lock.specs.Passes.{name_of, lock_of, view_of, IsOutside, IsWaiting, IsInside, IsNext};
     ghost use Rattle.turn_lock.specs.Steps.{HasEntered};
     ghost use Rattle.turn_lock.specs.Views.{with_ticket, passed, gained, MayAdd, HasPlaces};
@@ -39,6 +40,7 @@ impl<V: Kept + Drop> TurnLock<V> {
         ensures entered { (view_of pass.old).ticket ≡ Some result → HasEntered V.stands pass.old.seat.me pass.new.seat.me }
         ensures stayed { ¬ ((view_of pass.old).ticket ≡ Some result) → pass.new.seat.me ≡ pass.old.seat.me }
         ensures places { HasPlaces V.mark (view_of pass.new) }
+        ensures met { IsLater (view_of pass.new).met (view_of pass.new).seen }
     {
         let shared = &self.table.shared;
         shared.load::<Look<V>>(&mut pass.seat, SERVING)

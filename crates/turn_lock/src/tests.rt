@@ -93,6 +93,24 @@ fn take_turns<R: Wait>(rt: &R, lock: &TurnLock<Tally>, pass: &mut Pass<Tally>, k
     }
 }
 
+// A turn that adds nothing. The pass has then seen all that the other has, whoever added it.
+fn catch_up<R: Wait>(
+    rt: &R,
+    lock: &TurnLock<Tally>,
+    pass: &mut Pass<Tally>,
+    other: &mut Pass<Tally>,
+) -> u64
+    requires outside { IsOutside lock.now pass.old × IsOutside lock.now other.old }
+    ensures outside { IsOutside lock.now pass.new × IsOutside lock.now other.new }
+    ensures all { result ≡ length (view_of pass.new).seen }
+    ensures seen { IsLater (view_of other.new).seen (view_of pass.new).seen }
+{
+    let mut turn = lock.turn(rt, pass);
+    let count = turn.meet(other);
+    end_turn::<Brand>(turn, false, false);
+    count
+}
+
 // Two threads take 1,000 turns each, at the same time. The value counts every turn, in whatever order they came.
 #[test]
 fn two_threads_take_a_thousand_turns_each(rt: HostRuntime) -> Result<(), Fail> {
@@ -117,7 +135,8 @@ fn two_threads_take_a_thousand_turns_each(rt: HostRuntime) -> Result<(), Fail> {
     Ok(())
 }
 
-// While one pass has its turn, another learns the number of entries, in the same thread.
+// While one pass has its turn, another learns the number of entries, in the same thread. The turn
+// counts as many.
 #[test]
 fn newest_answers_while_a_turn_is_held(rt: HostRuntime) -> Result<(), Fail> {
     let tally = Tally {
@@ -127,11 +146,28 @@ fn newest_answers_while_a_turn_is_held(rt: HostRuntime) -> Result<(), Fail> {
     let (lock, mut first) = TurnLock::new::<Brand>(rt.alloc(), tally)?;
     let mut other = lock.split(&mut first, None);
     take_turn(&rt, &lock, &mut first, false);
-    let turn = lock.turn(&rt, &mut first);
+    let mut turn = lock.turn(&rt, &mut first);
     assert_eq!(rt; lock.newest(&mut other), 1);
+    assert_eq!(rt; turn.meet(&mut other), 1);
     turn.pass_on::<Brand>(false);
     take_turn(&rt, &lock, &mut other, false);
     assert_eq!(rt; lock.newest(&mut first), 2);
+    Ok(())
+}
+
+// A pass that has a turn after another has seen what that one left.
+#[test]
+fn a_turn_catches_up_with_another_pass(rt: HostRuntime) -> Result<(), Fail> {
+    let tally = Tally {
+        trues: 0,
+        falses: 0,
+    };
+    let (lock, mut first) = TurnLock::new::<Brand>(rt.alloc(), tally)?;
+    let mut other = lock.split(&mut first, None);
+    take_turn(&rt, &lock, &mut other, false);
+    take_turn(&rt, &lock, &mut other, false);
+    assert_eq!(rt; catch_up(&rt, &lock, &mut first, &mut other), 2);
+    assert_eq!(rt; catch_up(&rt, &lock, &mut other, &mut first), 2);
     Ok(())
 }
 

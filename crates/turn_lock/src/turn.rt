@@ -1,11 +1,11 @@
 //! A turn: the value is out with one pass, until that pass hands it on.
-ghost use Rattle.std.specs.Prelude.{◌≡◌, true, false};
+ghost use Rattle.std.specs.Prelude.{◌≡◌, ◌≤◌, true, false, length};
 ghost use Rattle.std.specs.Borrow.{sem};
 ghost use Rattle.gate_model.specs.Sequences.{IsLater};
 ghost use Rattle.turn_lock.specs.Lending.{LendsValue};
 ghost use Rattle.turn_lock.specs.Passes.{view_of, IsOutside, IsInside, IsNext};
 ghost use Rattle.turn_lock.specs.Turns.{lock_in, pass_in, view_in, value_in};
-ghost use Rattle.turn_lock.specs.Views.{passed, gained, HasPlaces};
+ghost use Rattle.turn_lock.specs.Views.{passed, gained, meeting, HasPlaces};
 
 use crate::kept::{Adds, Kept};
 use crate::lock::TurnLock;
@@ -27,6 +27,25 @@ impl<'a, V: Kept + Drop> Turn<'a, V> {
         ensures value { result.now ≡ value_in self.old }
     {
         &mut self.value
+    }
+
+    /// Tells that the pass has seen, in its turn, all of the one history: as many entries as the lock
+    /// counts, and all that `other` has seen or known, whichever pass of the lock that is. Both are as
+    /// before, but that the turn has met what the other has seen.
+    pub fn meet(&mut self, other: &mut Pass<V>) -> u64
+        requires inside { IsInside (lock_in self.old) (pass_in self.old).now }
+        requires outside { IsOutside (lock_in self.old) other.old }
+        ensures all { result ≡ length (view_in self.old).seen }
+        ensures seen { IsLater (view_of other.old).seen (view_in self.old).seen }
+        ensures known { (view_of other.old).known ≤ result }
+        ensures other { IsOutside (lock_in self.old) other.new × (view_of other.new ≡ view_of other.old) }
+        ensures lock { lock_in self.new ≡ lock_in self.old }
+        ensures pass { (pass_in self.new).ghost_name ≡ (pass_in self.old).ghost_name }
+        ensures value { value_in self.new ≡ value_in self.old }
+        ensures inside { IsInside (lock_in self.new) (pass_in self.new).now }
+        ensures view { view_in self.new ≡ meeting (view_of other.old) (view_in self.old) }
+    {
+        self.lock.meet(self.pass, other)
     }
 
     /// Ends the turn and hands the value on, which stands for all that the pass had seen, followed by

@@ -6,6 +6,9 @@ use std::collections::LinkedList;
 pub struct View<E> {
     /// What was seen of the history: all of it but the newest entries. The newest entry comes first.
     pub seen: LinkedList<E>,
+    /// What the pass and another had both seen when they last joined or met, or no entry. It begins
+    /// what was seen.
+    pub met: LinkedList<E>,
     /// The places of the entries that the pass added, counted from the oldest entry, which has place 0.
     pub mine: LinkedList<u64>,
     /// A number of entries that the history has, and maybe more.

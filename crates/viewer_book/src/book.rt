@@ -4,12 +4,10 @@ ghost use Rattle.gate_model.specs.Limits.{most_joined, most_live};
 ghost use Rattle.viewer_book.specs.Book.{IsBook, added, changed, ended_at, has_number, holding, is_live, live_count, moved_to, nobody, removed, viewer_at};
 
 use crate::viewer::Viewer;
+use gate_model::limits::MOST_LIVE;
 use gate_model::{Mods, NoMemory, Role};
 use std::alloc::Global;
 use std::marker::Model;
-
-/// The most viewers that are live at once.
-const MOST_LIVE: usize = 64;
 
 /// The viewers of one session: how many have joined, and what is kept of each that is live, in the
 /// order of their numbers. Contracts see a book as a `BookState` (this project's own rule).

@@ -9,8 +9,6 @@
 
 mod book;
 pub mod laws;
-#[cfg(test)]
-mod tests;
 mod viewer;
 
 pub use book::Book;

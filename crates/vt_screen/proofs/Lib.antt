@@ -6,3 +6,4 @@ pub mod Blanking
 pub mod KeyRows
 pub mod Sound
 pub mod PrintedAgain
+pub mod RunLaws

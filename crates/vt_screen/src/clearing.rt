@@ -2,33 +2,25 @@
 //! that have no effect in their case.
 
 ghost use Rattle.std.specs.Prelude.{◌≡◌, ◌≤◌};
-ghost use Rattle.gate_model.specs.Controls.{HasFewParameters};
 ghost use Rattle.gate_model.specs.Effects.{always_clears, clears_wrap, sequence_clears};
 
 use crate::Screen;
 use crate::arguments::{first_choice, listed};
 use crate::modes::names_mode;
-use gate_model::{Control, Params};
+use gate_model::Params;
 
 impl Screen {
-    // Whether the function clears a pending wrap, by the state before it.
-    pub(crate) fn clears_wrap(&self, control: &Control) -> bool
-        requires { HasFewParameters control.now }
-        ensures { result ≡ clears_wrap control.now self.now }
+    ghost use Rattle.gate_model.specs.declared.control.Control.TheVariants.{Csi};
+
+    // Whether the control sequence clears a pending wrap, by the state before it.
+    pub(crate) fn control_clears(&self, private: bool, params: &Params, last: u8) -> bool
+        requires { params.now.count ≤ 16 }
+        ensures { result ≡ clears_wrap (Csi private params.now last) self.now }
     {
-        match control {
-            Control::Print(_) => false,
-            Control::Code(code) => matches!(*code, 0x08..=0x0d),
-            Control::Esc(last) => matches!(*last, b'7' | b'8' | b'E' | b'M' | b'c'),
-            Control::Csi {
-                private,
-                params,
-                last,
-            } => match *private {
-                true => matches!(*last, b'h' | b'l') && names_mode(true, listed(params)),
-                false => self.sequence_clears(params, *last),
-            },
+        if private {
+            return matches!(last, b'h' | b'l') && names_mode(true, listed(params));
         }
+        self.sequence_clears(params, last)
     }
 
     // The same of a control sequence that isn't private.

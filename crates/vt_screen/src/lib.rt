@@ -18,6 +18,7 @@ mod reply;
 mod report;
 mod saved;
 mod screen;
+mod scrolled;
 mod scrolling;
 mod showing;
 mod stops;
@@ -25,8 +26,3 @@ mod table;
 
 pub use reply::Reply;
 pub use screen::Screen;
-
-#[cfg(test)]
-mod tests;
-#[cfg(test)]
-mod written;

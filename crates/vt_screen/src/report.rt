@@ -5,24 +5,22 @@ ghost use Rattle.gate_model.specs.Reports.{device_report, position_report, repor
 
 use crate::arguments::first_choice;
 use crate::{Reply, Screen};
-use gate_model::{Control, Params};
+use gate_model::Params;
 
 // DA: a VT102.
 const DEVICE: &[u8] = b"\x1b[?6c";
 
 impl Screen {
-    // The report of a control function, or none.
-    pub(crate) fn report(&self, control: &Control) -> Reply
-        ensures { result ≡ report control.now self.now }
+    ghost use Rattle.gate_model.specs.declared.control.Control.TheVariants.{Csi};
+
+    // The report of a control sequence, or none.
+    pub(crate) fn control_report(&self, private: bool, params: &Params, last: u8) -> Reply
+        ensures { result ≡ report (Csi private params.now last) self.now }
     {
-        match control {
-            Control::Csi {
-                private: false,
-                params,
-                last,
-            } => self.sequence_report(params, *last),
-            _ => Reply::none(),
+        if private {
+            return Reply::none();
         }
+        self.sequence_report(params, last)
     }
 
     // The same of a control sequence that isn't private: DSR 6, or DA 0.

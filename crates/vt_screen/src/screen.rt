@@ -1,4 +1,4 @@
-ghost use Rattle.std.specs.Prelude.{◌≡◌, IfOk};
+ghost use Rattle.std.specs.Prelude.{◌≡◌, ◌-◌, ◌^◌, min, IfOk};
 ghost use Rattle.gate_model.specs.Effects.{reset};
 ghost use Rattle.gate_model.specs.Steps.{IsScreenSize};
 ghost use Rattle.gate_model.specs.Terminal.{opening_screen};
@@ -6,6 +6,7 @@ ghost use Rattle.gate_model.specs.Terminal.{opening_screen};
 use crate::modes::Modes;
 use crate::pen::Pen;
 use crate::saved::Saved;
+use crate::scrolled::Scrolled;
 use crate::stops::TabStops;
 use gate_model::NoMemory;
 use screen_grid::Grid;
@@ -29,7 +30,7 @@ pub struct Screen {
     pub(crate) saved: Option<Saved>,
     pub(crate) last: Option<char>,
     pub(crate) modes: Modes,
-    pub(crate) shift: u32,
+    pub(crate) shift: Scrolled,
 }
 
 impl Model for Screen {
@@ -67,7 +68,7 @@ impl Screen {
             saved: None,
             last: None,
             modes: Modes::first(),
-            shift: 0,
+            shift: Scrolled::none(),
         })
     }
 
@@ -91,23 +92,23 @@ impl Screen {
             saved: self.saved,
             last: self.last,
             modes: self.modes,
-            shift: self.shift,
+            shift: self.shift.copy(),
         })
     }
 
     /// The lesser of 2^32 - 1 and the number of lines that the whole screen has scrolled up since
     /// `clear_shift`.
     pub fn shift(&self) -> u32
-        ensures { result ≡ self.now.shift }
+        ensures { result ≡ min self.now.shift (2 ^ 32 - 1) }
     {
-        self.shift
+        self.shift.counted()
     }
 
     /// Counts the lines from none again.
     pub fn clear_shift(&mut self)
         ensures { self.new ≡ record self.old { shift = 0 } }
     {
-        self.shift = 0;
+        self.shift = Scrolled::none();
     }
 
     /// Whether the arrow keys send what they do in cursor mode (DECCKM).

@@ -20,7 +20,7 @@ impl Screen {
         ensures { self.new ≡ scrolled_up n self.old }
     {
         if self.is_whole() {
-            self.shift = self.shift.saturating_add(n.min(self.rows) as u32);
+            self.shift = self.shift.more(n.min(self.rows));
         }
         self.grid.scroll_up(self.top, self.bottom, n);
     }

@@ -3,7 +3,7 @@
 
 ghost use Rattle.std.specs.Prelude.{◌≡◌, ◌≤◌};
 ghost use Rattle.gate_model.specs.Controls.{HasFewParameters};
-ghost use Rattle.gate_model.specs.Effects.{act, code_effect, cursor_effect, editing_effect, effect, escape_effect, private_effect, reset, sequence_effect};
+ghost use Rattle.gate_model.specs.Effects.{code_effect, cursor_effect, editing_effect, effect, escape_effect, private_effect, reset, sequence_effect};
 ghost use Rattle.gate_model.specs.Reports.{report};
 
 use crate::arguments::{first_amount, first_choice, listed};
@@ -13,6 +13,8 @@ use crate::{Reply, Screen};
 use gate_model::{Control, Params};
 
 impl Screen {
+    ghost use Rattle.gate_model.specs.declared.control.Control.TheVariants.{Code, Esc, Csi};
+
     /// Does what the control function says, and answers its report, if it has one. The `count` of a
     /// `Csi` is at most 16 (ECMA-48; the effects are this project's own).
     pub fn apply(&mut self, control: &Control) -> Reply
@@ -20,47 +22,57 @@ impl Screen {
         ensures state { self.new ≡ effect control.now self.old }
         ensures reply { result ≡ report control.now self.old }
     {
-        if let Control::Print(ch) = control {
-            self.print(*ch);
-            return Reply::none();
-        }
-        self.apply_any(control)
-    }
-
-    // The same of any function. Apart, so that a character that is printed doesn't pay for it.
-    #[inline(never)]
-    fn apply_any(&mut self, control: &Control) -> Reply
-        requires few { HasFewParameters control.now }
-        ensures state { self.new ≡ effect control.now self.old }
-        ensures reply { result ≡ report control.now self.old }
-    {
-        let clears = self.clears_wrap(control);
-        let reply = self.report(control);
-        self.act(control);
-        if clears {
-            self.pending = false;
-        }
-        reply
-    }
-
-    // What the function does, but for a wrap that is pending.
-    fn act(&mut self, control: &Control)
-        requires { HasFewParameters control.now }
-        ensures { self.new ≡ act control.now self.old }
-    {
         match control {
             Control::Print(ch) => self.print(*ch),
-            Control::Code(code) => self.apply_code(*code),
-            Control::Esc(last) => self.apply_escape(*last),
+            Control::Code(code) => self.apply_character(*code),
+            Control::Esc(last) => self.apply_final(*last),
             Control::Csi {
                 private,
                 params,
                 last,
-            } => match *private {
-                true => self.apply_private(params, *last),
-                false => self.apply_sequence(params, *last),
-            },
+            } => return self.apply_control(*private, params, *last),
         }
+        Reply::none()
+    }
+
+    /// Does what the control character says: the same as `apply` with a `Code`.
+    pub fn apply_character(&mut self, code: u8)
+        ensures { self.new ≡ effect (Code code) self.old }
+    {
+        self.apply_code(code);
+        if matches!(code, 0x08..=0x0d) {
+            self.pending = false;
+        }
+    }
+
+    /// Does what the escape sequence with this final byte says: the same as `apply` with an `Esc`.
+    pub fn apply_final(&mut self, last: u8)
+        ensures { self.new ≡ effect (Esc last) self.old }
+    {
+        self.apply_escape(last);
+        if matches!(last, b'7' | b'8' | b'E' | b'M' | b'c') {
+            self.pending = false;
+        }
+    }
+
+    /// Does what the control sequence with these parameters, of which there are at most 16, and this final
+    /// byte says, and answers its report, if it has one: the same as `apply` with a `Csi`.
+    pub fn apply_control(&mut self, private: bool, params: &Params, last: u8) -> Reply
+        requires few { params.now.count ≤ 16 }
+        ensures state { self.new ≡ effect (Csi private params.now last) self.old }
+        ensures reply { result ≡ report (Csi private params.now last) self.old }
+    {
+        let clears = self.control_clears(private, params, last);
+        let reply = self.control_report(private, params, last);
+        if private {
+            self.apply_private(params, last);
+        } else {
+            self.apply_sequence(params, last);
+        }
+        if clears {
+            self.pending = false;
+        }
+        reply
     }
 
     // BS, HT, LF, VT, FF and CR.

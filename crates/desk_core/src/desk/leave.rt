@@ -1,25 +1,30 @@
 //! Viewers that leave.
 
+ghost use Rattle.std.specs.Prelude.{◌≡◌, [], Ok, OnErr};
 ghost use Rattle.gate_model.specs.History.{History};
+ghost use Rattle.gate_model.specs.declared.answer.Answer.TheVariants.{Leave as left};
+ghost use Rattle.gate_model.specs.declared.event.Event.TheVariants.{Leave};
 
 use crate::desk::Desk;
-use crate::storing::store;
-use gate_model::{Entry, NoMemory, NoViewer};
+use gate_model::laws::entries_are_few;
+use gate_model::{Entry, NoViewer};
 
 impl Desk {
     ghost use Rattle.desk_core.specs.Desk.{Stands};
-    ghost use Rattle.desk_core.specs.Calls.{LeaveEnds};
+    ghost use Rattle.desk_core.specs.Calls.{Ended};
 
     /// The viewer leaves. Its number is never given again (this project's own rule).
-    pub fn leave(&mut self, viewer: u32) -> Result<Result<(), NoViewer>, NoMemory>
-        ensures step { (h : History) → Stands self.old h → LeaveEnds h viewer result self.old self.new }
+    pub fn leave(&mut self, viewer: u32) -> Result<(), NoViewer>
+        ensures step { (h : History) → Stands self.old h → Ended h (Leave viewer) (Ok (left result)) self.old self.new [] [] }
+        ensures unchanged { OnErr result (self.new ≡ self.old) }
     {
-        if !self.book.is_live(viewer) {
-            return Ok(Err(NoViewer));
+        if !self.seats.is_live(viewer) {
+            return Err(NoViewer);
         }
-        store(&mut self.stored, Entry::Leave { viewer })?;
-        self.entries += 1;
-        self.book.remove(viewer);
-        Ok(Ok(()))
+        // So the number of entries doesn't overflow.
+        entries_are_few();
+        self.log.add(&Entry::Leave { viewer });
+        self.seats.remove(viewer);
+        Ok(())
     }
 }

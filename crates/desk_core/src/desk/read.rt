@@ -1,27 +1,25 @@
 //! What viewers are given.
 
-ghost use Rattle.std.specs.Prelude.{◌≡◌, ◌+◌, ◌-◌, ◌<◌, ◌≤◌, ◌^◌, false, length, min, IsTrue};
-ghost use Rattle.std.specs.Option.{ForSome};
+ghost use Rattle.std.specs.Prelude.{◌≡◌, ◌+◌, ◌-◌, ◌^◌, min};
 ghost use Rattle.gate_model.specs.History.{History};
 ghost use Rattle.gate_model.specs.Refusals.{read_stop};
-ghost use Rattle.viewer_book.specs.Book.{changed, ended_at, is_live, moved_to, viewer_at};
-ghost use Rattle.desk_core.specs.Viewers.{brought};
+ghost use Rattle.gate_model.specs.declared.event.Event.TheVariants.{Read};
 
 use crate::desk::Desk;
-use crate::storing::{store_giving, text_from};
+use crate::giving::give_all;
+use gate_model::laws::entries_are_few;
 use gate_model::{Entry, How, ReadAnswer, ReadRefusal};
-use viewer_book::Book;
 
 impl Desk {
     ghost use Rattle.desk_core.specs.Desk.{Stands};
-    ghost use Rattle.desk_core.specs.Calls.{OnGiven, OnNothing, ReadEnds};
+    ghost use Rattle.desk_core.specs.Calls.{Ended, OnGiven, OnNothing, read_answer};
 
     /// Appends the text of each frame that the viewer lacks, and answers their number, at most
     /// 2^32 - 1, and the newest stamp; where it lacks none it answers `Empty`. In a closed session it
     /// then appends the closing instruction, and answers `Ended` from the next read on (this project's
     /// own rule).
     pub fn read(&mut self, viewer: u32, into: &mut Vec<u8>) -> Result<ReadAnswer, ReadRefusal>
-        ensures step { (h : History) → Stands self.old h → ReadEnds h viewer result self.new into.old.items into.new.items }
+        ensures step { (h : History) → Stands self.old h → Ended h (Read viewer) (read_answer result) self.old self.new into.old.items into.new.items }
         ensures unchanged { OnNothing result (self.new ≡ self.old) }
         ensures counts { OnGiven result (self.new.entries ≡ self.old.entries + 1) }
         ensures buffer { OnNothing result (into.new.items ≡ into.old.items) }
@@ -29,21 +27,18 @@ impl Desk {
         if let Some(stop) = self.read_stop(viewer) {
             return stop;
         }
-        let place = viewer as usize - 1;
-        let reached = self.viewers[place];
-        let entry = Entry::Read {
-            viewer,
-            how: How::Suffix,
-        };
-        let lacked = text_from(&self.text, reached.bytes);
-        store_giving(&mut self.stored, entry, lacked, self.cause, into)?;
-        self.entries += 1;
-        self.viewers[place] = self.latest;
-        let stamp = self.latest.stamp;
+        let reached = self.seats.reached(viewer);
+        give_all(self.frames.text_from(reached.bytes), self.cause, into)?;
+        let how = How::Suffix;
+        // So the number of entries doesn't overflow.
+        entries_are_few();
+        self.log.add(&Entry::Read { viewer, how });
+        let latest = self.frames.reached();
+        let stamp = self.frames.stamp();
         let closed = self.cause.is_some();
-        bring(&mut self.book, viewer, stamp, closed);
+        self.seats.bring(viewer, stamp, closed, latest);
         Ok(ReadAnswer::Frames {
-            count: clamped(self.latest.frames - reached.frames),
+            count: clamped(latest.frames - reached.frames),
             stamp,
             closed,
         })
@@ -53,38 +48,23 @@ impl Desk {
     fn read_stop(&self, viewer: u32) -> Option<Result<ReadAnswer, ReadRefusal>>
         ensures { (h : History) → Stands self.now h → result ≡ read_stop h viewer }
     {
-        if !self.book.is_live(viewer) {
+        if !self.seats.is_live(viewer) {
             return Some(Err(ReadRefusal::NoViewer));
         }
-        if self.book.ended(viewer) {
+        if self.seats.ended(viewer) {
             return Some(Ok(ReadAnswer::Ended));
         }
         if self.cause.is_some() {
             return None;
         }
-        if self.book.position(viewer) == self.latest.stamp {
+        if self.seats.position(viewer) == self.frames.stamp() {
             return Some(Ok(ReadAnswer::Empty));
         }
-        if self.entries >= self.capacity {
-            return Some(Err(ReadRefusal::Worn {
-                entries: self.entries,
-            }));
+        if self.log.is_full(self.setup.entries) {
+            let entries = self.log.entries();
+            return Some(Err(ReadRefusal::Worn { entries }));
         }
         None
-    }
-}
-
-// Brings the viewer to the stamp, and in a closed session past the closing instruction.
-fn bring(book: &mut Book, viewer: u32, stamp: u64, closed: bool)
-    requires live { IsTrue (is_live book.old viewer) }
-    requires reached { ForSome (viewer_at book.old viewer) (λ v. v.position ≤ stamp) }
-    requires rises { closed ≡ false → ForSome (viewer_at book.old viewer) (λ v. v.position < stamp) }
-    ensures { book.new ≡ changed book.old viewer (brought stamp closed) }
-{
-    if closed {
-        book.end(viewer, stamp);
-    } else {
-        book.deliver(viewer, stamp);
     }
 }
 

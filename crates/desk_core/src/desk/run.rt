@@ -4,7 +4,7 @@ ghost use Rattle.std.specs.Prelude.{◌≡◌, ℕ, ◌<◌, [], get_or, length}
 ghost use Rattle.gate_model.specs.History.{History};
 ghost use Rattle.gate_model.specs.declared.event.Event.{Event};
 ghost use Rattle.gate_model.specs.declared.event.Event.TheVariants.{Take};
-ghost use Rattle.gate_model.specs.Runs.{MeetsCondition};
+ghost use Rattle.gate_model.specs.Calls.{MeetsCondition};
 ghost use Rattle.desk_core.specs.Calls.{feed_answer, join_answer, read_answer, write_answer};
 
 use crate::desk::Desk;
@@ -16,7 +16,7 @@ use std::alloc::Global;
 
 impl Desk {
     ghost use Rattle.desk_core.specs.Desk.{Stands};
-    ghost use Rattle.desk_core.specs.Calls.{CallEnds, RunEnds};
+    ghost use Rattle.desk_core.specs.Calls.{Ended, RunEnds};
 
     /// Makes the calls one after the other, answers each in order, and appends what its joins and reads
     /// append. It stops at the first want of memory, and what was done before stands (this project's own
@@ -41,32 +41,35 @@ impl Desk {
     // Makes the call.
     fn call(&mut self, alloc: Global, event: &Event, into: &mut Vec<u8>) -> Result<Answer, NoMemory>
         requires { MeetsCondition event.now }
-        ensures step { (h : History) → Stands self.old h → CallEnds h event.now result self.old self.new into.old.items into.new.items }
+        ensures step { (h : History) → Stands self.old h → Ended h event.now result self.old self.new into.old.items into.new.items }
     {
         match event {
             Event::Feed { bytes, now } => feed_answer(self.feed(alloc, bytes.as_slice(), *now)),
-            Event::Join { asked } => join_answer(self.join(alloc, *asked, into)),
+            Event::Join { asked } => join_answer(self.join(*asked, into)),
             Event::Read { viewer } => read_answer(self.read(*viewer, into)),
             Event::Write { viewer, acts } => {
                 write_answer(self.write(alloc, *viewer, acts.as_slice()))
             }
             Event::Take { most } => self.take_at_most(alloc, *most),
-            Event::Leave { viewer } => Ok(Answer::Leave(self.leave(*viewer)?)),
-            Event::Close { cause } => Ok(Answer::Close(self.close(*cause)?)),
+            Event::Leave { viewer } => Ok(Answer::Leave(self.leave(*viewer))),
+            Event::Close { cause } => Ok(Answer::Close(self.close(*cause))),
         }
     }
 
     // Takes at most so many bytes.
     fn take_at_most(&mut self, alloc: Global, most: u64) -> Result<Answer, NoMemory>
-        ensures step { (h : History) → Stands self.old h → CallEnds h (Take most) result self.old self.new [] [] }
+        ensures step { (h : History) → Stands self.old h → Ended h (Take most) result self.old self.new [] [] }
     {
         let room = most.min(self.outgoing.len() as u64) as usize;
+        if room == 0 {
+            let bytes = Bytes::of(Vec::new(alloc));
+            let closed = self.cause.is_some();
+            return Ok(Answer::Take { bytes, closed });
+        }
         let mut bytes = vec![in alloc; 0; room]?;
-        let taken = self.take(&mut bytes)?;
-        Ok(Answer::Take {
-            bytes: Bytes::of(bytes),
-            closed: taken.closed,
-        })
+        let closed = self.take(&mut bytes).closed;
+        let bytes = Bytes::of(bytes);
+        Ok(Answer::Take { bytes, closed })
     }
 }
 

@@ -1,41 +1,36 @@
 //! What is taken for the Telnet host.
 
-ghost use Rattle.std.specs.Prelude.{◌≡◌, ◌+◌, ◌≤◌, length, IfOk, OnErr};
+ghost use Rattle.std.specs.Prelude.{◌≡◌, ◌≤◌, [], drop, length, take, Ok};
 ghost use Rattle.gate_model.specs.History.{History};
+ghost use Rattle.gate_model.specs.declared.answer.Answer.TheVariants.{Take as taken};
+ghost use Rattle.gate_model.specs.declared.event.Event.TheVariants.{Take};
 
 use crate::desk::Desk;
-use crate::storing::store;
-use gate_model::{Entry, NoMemory, Taken};
+use gate_model::laws::entries_are_few;
+use gate_model::{Entry, Taken};
 
 impl Desk {
     ghost use Rattle.desk_core.specs.Desk.{Stands};
-    ghost use Rattle.desk_core.specs.Calls.{TakeEnds};
+    ghost use Rattle.desk_core.specs.Calls.{Ended};
 
     /// Moves the next bytes that wait for the Telnet host to the front of the buffer, as many as there
     /// is room for, and answers their number. Where there are none nothing changes, and no entry is
     /// added (this project's own rule).
-    pub fn take(&mut self, into: &mut [u8]) -> Result<Taken, NoMemory>
-        ensures step { (h : History) → Stands self.old h → TakeEnds h into.old result self.new into.new }
-        ensures within { IfOk result (λ t. t.count ≤ length into.old) }
-        ensures unchanged { OnErr result (self.new ≡ self.old) }
-        ensures buffer { OnErr result (into.new ≡ into.old) }
+    pub fn take(&mut self, into: &mut [u8]) -> Taken
+        ensures step { (h : History) → Stands self.old h → Ended h (Take (length into.old)) (Ok (taken (take result.count into.new) result.closed)) self.old self.new [] [] }
+        ensures within { result.count ≤ length into.old }
+        ensures rest { drop result.count into.new ≡ drop result.count into.old }
     {
-        let count = into.len().min(self.outgoing.len());
-        if count == 0 {
-            return Ok(Taken {
-                count: 0,
-                closed: self.cause.is_some(),
-            });
-        }
-        let entry = Entry::Take {
-            count: count as u64,
-        };
-        store(&mut self.stored, entry)?;
-        self.entries += 1;
+        let closed = self.cause.is_some();
         let count = self.outgoing.take(into);
-        Ok(Taken {
-            count,
-            closed: self.cause.is_some(),
-        })
+        if count == 0 {
+            return Taken { count, closed };
+        }
+        // So the number of entries doesn't overflow.
+        entries_are_few();
+        self.log.add(&Entry::Take {
+            count: count as u64,
+        });
+        Taken { count, closed }
     }
 }

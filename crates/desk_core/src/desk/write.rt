@@ -1,19 +1,23 @@
 //! What viewers ask for.
 
-ghost use Rattle.std.specs.Prelude.{◌≡◌, ◌+◌, ◌≤◌, ◌^◌, count_by, if◌then◌else◌, length, OnErr, OnOk};
+ghost use Rattle.std.specs.Prelude.{◌≡◌, ◌+◌, ◌≤◌, ◌^◌, [], count_by, false, if◌then◌else◌, length, IfOk, IsTrue, OnErr, OnOk};
 ghost use Rattle.gate_model.specs.Calls.{is_key_act};
-ghost use Rattle.gate_model.specs.History.{History};
+ghost use Rattle.gate_model.specs.History.{History, is_closed};
+ghost use Rattle.gate_model.specs.Refusals.{write_refusal};
+ghost use Rattle.gate_model.specs.Rights.{may};
+ghost use Rattle.gate_model.specs.declared.event.Event.TheVariants.{Write};
+ghost use Rattle.viewer_book.specs.Book.{is_live};
 
 use crate::desk::Desk;
-use crate::storing::store;
-use crate::typing::{typed_by, types};
-use gate_model::{Act, Acts, Entry, WriteRefusal, Written};
+use crate::typing::{Typed, typed_by, types};
+use gate_model::{Act, NoMemory, WriteRefusal, Written};
 use std::alloc::Global;
 
 impl Desk {
     ghost use Rattle.gate_model.specs.Calls.{IsWrite};
     ghost use Rattle.desk_core.specs.Desk.{Stands};
-    ghost use Rattle.desk_core.specs.Calls.{WriteEnds};
+    ghost use Rattle.desk_core.specs.Calls.{Ended, write_answer};
+    ghost use Rattle.desk_core.specs.Parts.{Types};
 
     /// Takes at most 4,096 acts of a viewer, and lets wait for the Telnet host what the presses among
     /// them send, if the viewer may type. It answers how many keys count and how many are denied (this
@@ -25,37 +29,61 @@ impl Desk {
         acts: &[Act],
     ) -> Result<Written, WriteRefusal>
         requires { IsWrite acts.now }
-        ensures step { (h : History) → Stands self.old h → WriteEnds h viewer acts.now result self.new }
+        ensures step { (h : History) → Stands self.old h → Ended h (Write viewer acts.now) (write_answer result) self.old self.new [] [] }
         ensures unchanged { OnErr result (self.new ≡ self.old) }
         ensures counts { OnOk result (self.new.entries ≡ self.old.entries + 1) }
         ensures few { OnOk result (self.new.entries ≤ 2 ^ 40) }
     {
-        if !self.book.is_live(viewer) {
-            return Err(WriteRefusal::NoViewer);
+        if let Some(refusal) = self.write_refusal(viewer) {
+            return Err(refusal);
+        }
+        let may_type = self.may_type(viewer);
+        let typed = self.typed(alloc, viewer, acts, may_type)?;
+        self.outgoing.append(&typed.bytes)?;
+        self.log.write(viewer, acts);
+        self.seats.set_mods(viewer, typed.held);
+        Ok(counted(may_type, keys_among(acts)))
+    }
+
+    // Why a write is refused, if it is.
+    fn write_refusal(&self, viewer: u32) -> Option<WriteRefusal>
+        ensures { (h : History) → Stands self.now h → result ≡ write_refusal h viewer }
+    {
+        if !self.seats.is_live(viewer) {
+            return Some(WriteRefusal::NoViewer);
         }
         if let Some(cause) = self.cause {
-            return Err(WriteRefusal::Closed(cause));
+            return Some(WriteRefusal::Closed(cause));
         }
-        if self.entries >= self.capacity {
-            return Err(WriteRefusal::Worn {
-                entries: self.entries,
-            });
+        if self.log.is_full(self.setup.entries) {
+            let entries = self.log.entries();
+            return Some(WriteRefusal::Worn { entries });
         }
-        let keys = keys_among(acts);
-        let may_type = types(self.book.role(viewer));
-        let held = self.book.mods(viewer);
+        None
+    }
+
+    // Whether the viewer may type in an open session.
+    fn may_type(&self, viewer: u32) -> bool
+        requires { IsTrue (is_live self.now.seats.book viewer) }
+        ensures { (h : History) → Stands self.now h → is_closed h ≡ false → result ≡ may h viewer }
+    {
+        types(self.seats.role(viewer))
+    }
+
+    // What the viewer's acts send, if it may type.
+    fn typed(
+        &self,
+        alloc: Global,
+        viewer: u32,
+        acts: &[Act],
+        may_type: bool,
+    ) -> Result<Typed, NoMemory>
+        requires { IsTrue (is_live self.now.seats.book viewer) }
+        ensures { (h : History) → Stands self.now h → may_type ≡ may h viewer → IfOk result (Types h viewer acts.now) }
+    {
+        let held = self.seats.mods(viewer);
         let cursor_mode = self.host.screen.cursor_mode();
-        let typed = typed_by(alloc, acts, may_type, held, cursor_mode)?;
-        let acts = Acts::of(Vec::from_slice(alloc, acts)?);
-        let waiting = self.outgoing.len();
-        self.outgoing.append(&typed.bytes)?;
-        if store(&mut self.stored, Entry::Write { viewer, acts }).is_err() {
-            self.outgoing.truncate(waiting);
-            return Err(WriteRefusal::NoMemory);
-        }
-        self.entries += 1;
-        self.book.set_mods(viewer, typed.held);
-        Ok(counted(may_type, keys))
+        typed_by(alloc, acts, may_type, held, cursor_mode)
     }
 }
 

@@ -1,5 +1,6 @@
 //! Laws of Telnet tokens.
 
+ghost use Rattle.gate_model.specs.Replies.{BytesAsTokens, RepliesGoOn};
 ghost use Rattle.gate_model.specs.TelnetLaws.{AnswersGoOn, DoubledIsData, SubnegotiationIsRead, TokensOfAnyCutting};
 
 /// The tokens of a stream are the same however it is cut into pieces.
@@ -17,4 +18,14 @@ pub fn doubled_bytes_are_read()
 /// What is answered to tokens is the same however their list is cut.
 pub fn option_answers_go_on()
     ensures { AnswersGoOn }
+{}
+
+/// Bytes are answered, byte by byte, as their tokens are, one after the other.
+pub fn bytes_as_tokens()
+    ensures { BytesAsTokens }
+{}
+
+/// What more bytes of a host are answered begins with what fewer of them are.
+pub fn replies_go_on()
+    ensures { RepliesGoOn }
 {}

@@ -13,11 +13,11 @@ returns-in_default-clause-stop c = λ values chars i.
     (stop_lead c.args.bytes.now c.args.at c.args.left values chars record { value = i; within = c.requires.within; room = c.requires.room }
     (omega (arith, c.requires.within, c.if-at-bytes.false)) c.in_default.ensures.none)
 
-pub returns-then-at-due-gt-MOST_BYTES-clause-stop : goal.returns-then-at-due-gt-MOST_BYTES-clause-stop
-returns-then-at-due-gt-MOST_BYTES-clause-stop c = λ values chars i.
-    subst (IsStopped c.args.bytes.now) (sym c.bad-then-at-due-gt-MOST_BYTES.ensures)
+pub returns-then-at-due-gt-MOST_INSTRUCTION-clause-stop : goal.returns-then-at-due-gt-MOST_INSTRUCTION-clause-stop
+returns-then-at-due-gt-MOST_INSTRUCTION-clause-stop c = λ values chars i.
+    subst (IsStopped c.args.bytes.now) (sym c.bad-then-at-due-gt-MOST_INSTRUCTION.ensures)
     (stop_long_character c.args.bytes.now c.args.at c.args.left values chars c.in-Some.due.bytes c.in-Some.due.least c.in-Some.due.most record { value = i; within = c.requires.within; room = c.requires.room }
-    (omega (arith, c.requires.within, c.if-at-bytes.false)) c.in-Some.ensures.some c.if-at-due-gt-MOST_BYTES.true)
+    (omega (arith, c.requires.within, c.if-at-bytes.false)) c.in-Some.ensures.some c.if-at-due-gt-MOST_INSTRUCTION.true)
 
 pub returns-clause-stop : goal.returns-clause-stop
-returns-clause-stop c = λ values chars i. c.read_due.ensures.stop values chars c.args.left i (omega (arith, c.if-at-due-gt-MOST_BYTES.false))
+returns-clause-stop c = λ values chars i. c.read_due.ensures.stop values chars c.args.left i (omega (arith, c.if-at-due-gt-MOST_INSTRUCTION.false))

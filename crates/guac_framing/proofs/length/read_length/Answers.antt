@@ -13,9 +13,9 @@ returns-then-at-start-eq-MOST_DIGITS-clause-stop c = λ values i.
     record { begun = i; digits = c.loop-at.invariant.digits; within = omega arith; short = c.loop-at.invariant.short; room = c.loop-at.invariant.room; first = c.requires.room }
     (omega arith) c.if-is_ascii_digit.ensures.cases (omega arith))
 
-pub returns-then-at-length-gt-MOST_BYTES-clause-stop : goal.returns-then-at-length-gt-MOST_BYTES-clause-stop
-returns-then-at-length-gt-MOST_BYTES-clause-stop c = λ values i.
-    subst (IsStopped c.args.bytes.now) (sym c.bad-then-at-length-gt-MOST_BYTES.ensures)
+pub returns-then-at-length-gt-MOST_INSTRUCTION-clause-stop : goal.returns-then-at-length-gt-MOST_INSTRUCTION-clause-stop
+returns-then-at-length-gt-MOST_INSTRUCTION-clause-stop c = λ values i.
+    subst (IsStopped c.args.bytes.now) (sym c.bad-then-at-length-gt-MOST_INSTRUCTION.ensures)
     (stop_long_length c.args.bytes.now c.args.start c.loop-at.at c.loop-at.length values
     record { begun = i; digits = c.loop-at.invariant.digits; within = omega arith; short = c.loop-at.invariant.short; room = c.loop-at.invariant.room; first = c.requires.room }
     (omega arith) c.if-is_ascii_digit.ensures.cases (omega (arith, c.loop-at.invariant.short)) (omega (arith, c.from.ensures)))

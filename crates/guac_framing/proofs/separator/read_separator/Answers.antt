@@ -17,7 +17,7 @@ pub returns-in-44-2-clause-stop : goal.returns-in-44-2-clause-stop
 returns-in-44-2-clause-stop c = λ values i n.
     subst (IsStopped c.args.bytes.now) (sym c.bad-in-44-2.ensures)
     (stop_long_element c.args.bytes.now c.args.at values record { behind = i; within = c.requires.within; room = c.requires.room }
-    (omega (arith, c.requires.within, c.if-at-bytes.false)) c.in-44.is (omega (arith, i.count, n, c.if-count-eq-MOST_ELEMENTS.false)) c.if-at-gt-MOST_BYTES.true)
+    (omega (arith, c.requires.within, c.if-at-bytes.false)) c.in-44.is (omega (arith, i.count, n, c.if-count-eq-MOST_ELEMENTS.false)) c.if-at-gt-MOST_INSTRUCTION.true)
 
 pub returns-in_default-clause-stop : goal.returns-in_default-clause-stop
 returns-in_default-clause-stop c = λ values i n.

@@ -4,18 +4,18 @@ use Rattle.telnet_wire.specs.State.{StandsFor}
 use Rattle.telnet_wire.proofs.StateLaws.{option-read}
 use Rattle.telnet_wire.proofs.reader.Reader.read.Goals as goal
 
-pub returns-in-AfterWill : goal.returns-in-AfterWill
-returns-in-AfterWill c = λ rest stands.
+pub returns-in-AfterWill-clause-gives : goal.returns-in-AfterWill-clause-gives
+returns-in-AfterWill-clause-gives c = λ rest stands.
     option-read 251 c.args.byte rest (Will c.args.byte) _ (subst (λ state. StandsFor state c.args.self.now.kept rest) c.in-AfterWill.is stands) refl refl
 
-pub returns-in-AfterWont : goal.returns-in-AfterWont
-returns-in-AfterWont c = λ rest stands.
+pub returns-in-AfterWont-clause-gives : goal.returns-in-AfterWont-clause-gives
+returns-in-AfterWont-clause-gives c = λ rest stands.
     option-read 252 c.args.byte rest (Wont c.args.byte) _ (subst (λ state. StandsFor state c.args.self.now.kept rest) c.in-AfterWont.is stands) refl refl
 
-pub returns-in-AfterDo : goal.returns-in-AfterDo
-returns-in-AfterDo c = λ rest stands.
+pub returns-in-AfterDo-clause-gives : goal.returns-in-AfterDo-clause-gives
+returns-in-AfterDo-clause-gives c = λ rest stands.
     option-read 253 c.args.byte rest (Do c.args.byte) _ (subst (λ state. StandsFor state c.args.self.now.kept rest) c.in-AfterDo.is stands) refl refl
 
-pub returns-in-AfterDont : goal.returns-in-AfterDont
-returns-in-AfterDont c = λ rest stands.
+pub returns-in-AfterDont-clause-gives : goal.returns-in-AfterDont-clause-gives
+returns-in-AfterDont-clause-gives c = λ rest stands.
     option-read 254 c.args.byte rest (Dont c.args.byte) _ (subst (λ state. StandsFor state c.args.self.now.kept rest) c.in-AfterDont.is stands) refl refl

@@ -22,4 +22,4 @@ loop-byte-preserved c = λ rest stands.
     let i = c.loop-byte.byte-index in
     subst (λ given. Gives (rest ++ take (i + 1) piece) given c.read.new.self) (sym items)
     (gives-next rest piece i (get_or piece i 0) old (cons_option token []) c.loop-byte.self c.read.new.self (take_more piece i 0 c.loop-byte-test.true)
-    (c.loop-byte.invariant rest stands) c.in_ok-token.ensures)
+    (c.loop-byte.invariant rest stands) c.in_ok-token.ensures.gives)

@@ -1,0 +1,286 @@
+-- What the parts of a desk tell of its history, and what follows where no rule stops a call.
+use Rattle.std.proofs.Common.{◌≡◌, ℕ, ◌+◌, ◌-◌, ◌<◌, ◌≤◌, ◌^◌, [], ◌∷◌, length, get_or, Bool, true, false, not, ◌&&◌, ◌||◌, ◌⊎◌, inl, inr, refl, ap, sym, ◌∙◌, subst, arith}
+use Rattle.std.specs.Prelude.{Option, Some, None, is_some, Result, Ok, Err, ◌==◌, nat_le}
+use Rattle.std.specs.Option.{option_map}
+use Rattle.std.proofs.lemmas.Bool.{eq-eqb}
+use Rattle.std.proofs.lemmas.Bool.Decides.{eqb_tells, leb_tells}
+use Rattle.gate_model.specs.declared.cause.Cause.{Cause}
+use Rattle.gate_model.specs.declared.mods.Mods.{Mods}
+use Rattle.gate_model.specs.declared.sharing.Asked.{Asked}
+use Rattle.gate_model.specs.declared.sharing.Role.{Role}
+use Rattle.gate_model.specs.declared.feed_refusal.FeedRefusal.TheVariants.{Closed as feed_closed, Worn as feed_worn}
+use Rattle.gate_model.specs.declared.join_refusal.JoinRefusal.TheVariants.{Closed as join_closed, Forbidden as join_forbidden, TooMany as join_too_many, Worn as join_worn}
+use Rattle.gate_model.specs.declared.read_answer.ReadAnswer.TheVariants.{Ended, Empty}
+use Rattle.gate_model.specs.declared.read_answer.ReadAnswer.{ReadAnswer}
+use Rattle.gate_model.specs.declared.read_refusal.ReadRefusal.{ReadRefusal}
+use Rattle.gate_model.specs.declared.read_refusal.ReadRefusal.TheVariants.{NoViewer as read_no_viewer, Worn as read_worn}
+use Rattle.gate_model.specs.declared.write_refusal.WriteRefusal.TheVariants.{NoViewer as write_no_viewer, Closed as write_closed, Worn as write_worn}
+use Rattle.gate_model.specs.Limits.{most_live, most_joined}
+use Rattle.gate_model.specs.History.{History, newest, frames, frames_after, capacity, joined, is_closed, is_full, share_mode}
+use Rattle.gate_model.specs.Delivered.{closing, farewell, last_sync, position, ended, shown_to}
+use Rattle.gate_model.specs.Rights.{is_live, live_count, role_in, is_control, may, mods}
+use Rattle.gate_model.specs.Refusals.{first_of, only_if, close_cause, is_forbidden, feed_refusal, join_refusal, read_stop, write_refusal}
+use Rattle.gate_model.specs.Calls.{lacked}
+use Rattle.gate_model.specs.Laws.{EntriesAreFew}
+use Rattle.gate_model.proofs.Facts.{Facts}
+use Rattle.gate_model.proofs.Truth.{facts_of}
+use Rattle.gate_model.proofs.Bounds.{bounds_of}
+use Rattle.gate_model.proofs.Causes.{open_without_cause, closed_with_cause}
+use Rattle.viewer_book.specs.declared.viewer.Viewer.{Viewer}
+use Rattle.viewer_book.specs.Book as book
+use Rattle.viewer_book.specs.Book.{viewer_at}
+use Rattle.desk_core.specs.declared.progress.Progress.{Progress}
+use Rattle.desk_core.specs.Viewers.{HasCome}
+use Rattle.desk_core.specs.Desk.{DeskState, Stands}
+use Rattle.desk_core.specs.Farewell.{farewell_of}
+use Rattle.desk_core.proofs.Coming.{text_within}
+use Rattle.desk_core.proofs.Seating.{SeatOf, seat_of, told}
+
+-- ---- the parts
+
+-- the numbers that a desk keeps are small
+pub record IsSmall (d : DeskState) : Type 0 where
+  pub room : d.setup.entries ≤ 2 ^ 40
+  pub stamp : d.frames.stamp ≤ 2 ^ 53 + 2 ^ 40
+  pub frames : d.frames.count ≤ 2 ^ 40
+
+pub small : (d : DeskState) (h : History) → Stands d h → IsSmall d
+small d h s =
+    let b = bounds_of h s.legal in
+    record {
+      room = omega (arith, s.setup.entries, b.room);
+      stamp = omega (arith, s.frames.stamp, b.stamps, b.few_frames, b.room);
+      frames = omega (arith, s.frames.count, b.few_frames, b.room);
+    }
+
+-- the session is open
+pub no_cause : (d : DeskState) (h : History) → Stands d h → d.cause ≡ None → close_cause h ≡ None
+no_cause d h s none = sym s.cause ∙ none
+
+pub stays_open : (d : DeskState) (h : History) → Stands d h → d.cause ≡ None → is_closed h ≡ false
+stays_open d h s none = open_without_cause h (no_cause d h s none)
+
+is_shut : (d : DeskState) (h : History) (c : Cause) → Stands d h → d.cause ≡ Some c → is_closed h ≡ true
+is_shut d h c s some = (closed_with_cause h c (sym s.cause ∙ some)).0
+
+-- whether it is closed
+pub shut_is : (d : DeskState) (h : History) → Stands d h → is_some d.cause ≡ is_closed h
+shut_is d h s = cases d.cause refl
+  where
+    cases : (o : Option Cause) → d.cause ≡ o → is_some o ≡ is_closed h
+    cases None is = sym (stays_open d h s is)
+    cases (Some c) is = sym (is_shut d h c s is)
+
+-- what a closed session says last
+pub closing_is : (d : DeskState) (h : History) → Stands d h → closing h ≡ farewell_of d.cause
+closing_is d h s = cases d.cause refl (facts_of h s.legal)
+  where
+    cases : (o : Option Cause) → d.cause ≡ o → Facts h → closing h ≡ farewell_of o
+    cases None is f = open_closing is f.closed
+      where
+        open_closing : d.cause ≡ None → ((is_closed h ≡ false) × (closing h ≡ [])) ⊎ ((is_closed h ≡ true) × ((c : Cause) × (closing h ≡ farewell c ∷ []))) → closing h ≡ []
+        open_closing is (inl p) = p.1
+        open_closing is (inr p) = absurd (let w : false ≡ true = sym (stays_open d h s is) ∙ p.0 in cc)
+    cases (Some c) is f = (closed_with_cause h c (sym s.cause ∙ is)).1
+
+-- one entry more can be counted
+pub counts_on : (d : DeskState) (h : History) → Stands d h → EntriesAreFew → d.entries < 2 ^ 64 - 1
+counts_on d h s few = omega (arith, s.entries, few h s.legal)
+
+-- ---- what follows where nothing stops a call
+
+below : (a b : ℕ) → nat_le a b ≡ false → b < a
+below a b less = elim (leb_tells a b) [ inl p ↦ absurd (let z : true ≡ false = sym p.0 ∙ less in cc) | inr p ↦ p.1 ]
+
+pub below_capacity : (h : History) → is_full h ≡ false → length h < capacity h
+below_capacity h room = below (capacity h) (length h) room
+
+-- a session that is open, and has room
+pub record Goes (h : History) : Type 0 where
+  pub cause : close_cause h ≡ None
+  pub room : is_full h ≡ false
+
+pub is_open : (h : History) → Goes h → is_closed h ≡ false
+is_open h g = open_without_cause h g.cause
+
+-- such a session has at most 2^40 entries with one more
+pub stays_few : (d : DeskState) (h : History) → Stands d h → Goes h → d.entries < 2 ^ 40
+stays_few d h s g = omega (arith, s.entries, s.setup.entries, (small d h s).room, below_capacity h g.room)
+
+pub feed_goes : (h : History) → feed_refusal h ≡ None → Goes h
+feed_goes h e = cases (close_cause h) (is_full h) refl refl e
+  where
+    cases : (o : Option Cause) (b : Bool) → close_cause h ≡ o → is_full h ≡ b → first_of (option_map feed_closed o ∷ only_if b (feed_worn (length h)) ∷ []) ≡ None → Goes h
+    cases (Some c) b x y q = absurd (let w : Some (feed_closed c) ≡ None = q in cc)
+    cases None true x y q = absurd (let w : Some (feed_worn (length h)) ≡ None = q in cc)
+    cases None false x y q = record { cause = x; room = y }
+
+pub record JoinGoes (h : History) : Type 0 where
+  pub goes : Goes h
+  pub live : live_count h < most_live
+  pub number : joined h < most_joined
+
+pub join_goes : (h : History) (asked : Asked) → join_refusal h asked ≡ None → JoinGoes h
+join_goes h asked e = cases (close_cause h) (is_forbidden (share_mode h) asked) (is_full h) (live_count h) (joined h) refl refl refl refl e
+  where
+    cases : (o : Option Cause) (b full : Bool) (live number : ℕ) → close_cause h ≡ o → is_full h ≡ full → live_count h ≡ live → joined h ≡ number
+        → first_of (option_map join_closed o ∷ only_if b join_forbidden ∷ only_if (nat_le most_live live || nat_le most_joined number) (join_too_many live number) ∷ only_if full (join_worn (length h)) ∷ []) ≡ None → JoinGoes h
+    cases (Some c) b full live number o f l n q = absurd (let w : Some (join_closed c) ≡ None = q in cc)
+    cases None true full live number o f l n q = absurd (let w : Some join_forbidden ≡ None = q in cc)
+    cases None false full live number o f l n q = crowd (nat_le most_live live) (nat_le most_joined number) full refl refl f q
+      where
+        crowd : (x y full : Bool) → nat_le most_live live ≡ x → nat_le most_joined number ≡ y → is_full h ≡ full → first_of (only_if (x || y) (join_too_many live number) ∷ only_if full (join_worn (length h)) ∷ []) ≡ None → JoinGoes h
+        crowd true y full a b f q = absurd (let w : Some (join_too_many live number) ≡ None = q in cc)
+        crowd false true full a b f q = absurd (let w : Some (join_too_many live number) ≡ None = q in cc)
+        crowd false false true a b f q = absurd (let w : Some (join_worn (length h)) ≡ None = q in cc)
+        crowd false false false a b f q = record { goes = record { cause = o; room = f }; live = omega (arith, l, below most_live live a); number = omega (arith, n, below most_joined number b) }
+
+pub record WriteGoes (h : History) (v : ℕ) : Type 0 where
+  pub live : is_live h v ≡ true
+  pub goes : Goes h
+
+pub write_goes : (h : History) (v : ℕ) → write_refusal h v ≡ None → WriteGoes h v
+write_goes h v e = cases (is_live h v) (close_cause h) (is_full h) refl refl refl e
+  where
+    cases : (a : Bool) (o : Option Cause) (b : Bool) → is_live h v ≡ a → close_cause h ≡ o → is_full h ≡ b → first_of (only_if (not a) write_no_viewer ∷ option_map write_closed o ∷ only_if b (write_worn (length h)) ∷ []) ≡ None → WriteGoes h v
+    cases false o b x y z q = absurd (let w : Some write_no_viewer ≡ None = q in cc)
+    cases true (Some c) b x y z q = absurd (let w : Some (write_closed c) ≡ None = q in cc)
+    cases true None true x y z q = absurd (let w : Some (write_worn (length h)) ≡ None = q in cc)
+    cases true None false x y z q = record { live = x; goes = record { cause = y; room = z } }
+
+-- ---- a viewer that is there
+
+-- whether the viewer may type
+pub may_is : (d : DeskState) (h : History) (v : ℕ) → Stands d h → book.is_live d.seats.book v ≡ true → is_closed h ≡ false → (role : Role) (b : Bool) → role_in h v ≡ Some role → b ≡ is_control (Some role) → b ≡ may h v
+may_is d h v s there stays role b r is =
+    let here : is_live h v ≡ true = sym (s.seats.book.here v) ∙ there in
+    is ∙ sym (rw (here, r, stays) (and_true (is_control (Some role))))
+  where
+    and_true : (x : Bool) → ((true && x) && not false) ≡ x
+    and_true true = refl
+    and_true false = refl
+
+-- a read that nothing stops
+pub record Reading (d : DeskState) (h : History) (v : ℕ) : Type 0 where
+  pub there : book.is_live d.seats.book v ≡ true
+  pub live : is_live h v ≡ true
+  pub more : ended h v ≡ false
+  pub first : 1 ≤ v
+  pub last : v ≤ length d.seats.reached
+  pub come : (p : Progress) → HasCome h (shown_to h v) (get_or d.seats.reached (v - 1) p)
+  pub behind : is_closed h ≡ false → (position h v == newest h) ≡ false
+  pub room : is_closed h ≡ false → is_full h ≡ false
+
+record Unstopped (live over shut same full : Bool) : Type 0 where
+  there : live ≡ true
+  more : over ≡ false
+  behind : shut ≡ false → same ≡ false
+  room : shut ≡ false → full ≡ false
+
+unstopped : (h : History) (v : ℕ) → read_stop h v ≡ None → Unstopped (is_live h v) (ended h v) (is_closed h) (position h v == newest h) (is_full h)
+unstopped h v e = cases (is_live h v) (ended h v) (is_closed h) (position h v == newest h) (is_full h) e
+  where
+    never : {A : Type 0} (x : Result ReadAnswer ReadRefusal) → Some x ≡ None → A
+    never x q = absurd (let w : None ≡ Some x = sym q in cc)
+
+    cases : (a b c d f : Bool) → first_of (only_if (not a) (Err read_no_viewer) ∷ only_if b (Ok Ended) ∷ only_if (not c && d) (Ok Empty) ∷ only_if (not c && f) (Err (read_worn (length h))) ∷ []) ≡ None → Unstopped a b c d f
+    cases false b c d f q = never (Err read_no_viewer) q
+    cases true true c d f q = never (Ok Ended) q
+    cases true false true d f q = record { there = refl; more = refl; behind = λ z. absurd (let w : false ≡ true = sym z in cc); room = λ z. absurd (let w : false ≡ true = sym z in cc) }
+    cases true false false true f q = never (Ok Empty) q
+    cases true false false false true q = never (Err (read_worn (length h))) q
+    cases true false false false false q = record { there = refl; more = refl; behind = λ z. refl; room = λ z. refl }
+
+pub reading : (d : DeskState) (h : History) (v : ℕ) → Stands d h → read_stop h v ≡ None → Reading d h v
+reading d h v s free =
+    let u = unstopped h v free in
+    let there : book.is_live d.seats.book v ≡ true = s.seats.book.here v ∙ u.there in
+    let seat = seat_of d.seats.book h v s.seats.book there in
+    let number : v ≡ v - 1 + 1 = omega (arith, seat.first) in
+    record {
+      there = there;
+      live = u.there;
+      more = u.more;
+      first = seat.first;
+      last = omega (arith, seat.last, s.seats.joined);
+      come = λ p. subst (λ (n : ℕ). HasCome h (shown_to h n) (get_or d.seats.reached (v - 1) p)) (sym number) (s.seats.come (v - 1) p (omega (arith, seat.first, seat.last, s.seats.joined)));
+      behind = u.behind;
+      room = u.room;
+    }
+
+-- the viewer's position is below the newest stamp, or at it in a closed session
+pub not_above : (d : DeskState) (h : History) (v : ℕ) (w : Viewer) → Stands d h → viewer_at d.seats.book v ≡ Some w → w.position ≤ d.frames.stamp
+not_above d h v w s found = omega (arith, (s.seats.book.seated v w found).position, (facts_of h s.legal).within v, s.frames.stamp)
+
+pub is_below : (d : DeskState) (h : History) (v : ℕ) (w : Viewer) → Stands d h → viewer_at d.seats.book v ≡ Some w → (position h v == newest h) ≡ false → w.position < d.frames.stamp
+is_below d h v w s found differs = cases (eqb_tells (position h v) (newest h))
+  where
+    cases : (((position h v == newest h) ≡ true) × (position h v ≡ newest h)) ⊎ (((position h v == newest h) ≡ false) × (position h v ≡ newest h → ⊥)) → w.position < d.frames.stamp
+    cases (inl q) = absurd (let z : false ≡ true = sym differs ∙ q.0 in cc)
+    cases (inr q) = omega (arith, not_above d h v w s found, (s.seats.book.seated v w found).position, s.frames.stamp, q.1)
+
+-- how many frames the viewer lacks
+pub lacks : (d : DeskState) (h : History) (v : ℕ) (p : Progress) → Stands d h → HasCome h (shown_to h v) p → d.frames.count - p.frames ≡ lacked h v
+lacks d h v p s come =
+    let same : lacked h v ≡ length (frames_after (last_sync (shown_to h v)) (frames h)) = ap (λ (n : ℕ). length (frames_after n (frames h))) ((facts_of h s.legal).place v) in
+    omega (arith, same, come.frames, s.frames.count)
+
+-- nobody has come further than the frames go
+pub record IsWithin (d : DeskState) (p : Progress) : Type 0 where
+  pub frames : p.frames ≤ d.frames.count
+  pub bytes : p.bytes ≤ length d.frames.text
+
+pub within : (d : DeskState) (h : History) (v : ℕ) (p : Progress) → Stands d h → HasCome h (shown_to h v) p → IsWithin d p
+within d h v p s come = record {
+  frames = omega (arith, come.frames, s.frames.count);
+  bytes = omega (arith, come.bytes, ap length s.frames.text, text_within h v (facts_of h s.legal));
+}
+
+-- ---- what the book tells of a viewer that is there
+
+module _ (d : DeskState) (h : History) (v : ℕ) (s : Stands d h) (there : book.is_live d.seats.book v ≡ true) where
+  pub is_there : is_live h v ≡ true
+  is_there = sym (s.seats.book.here v) ∙ there
+
+  seat : SeatOf d.seats.book h v
+  seat = seat_of d.seats.book h v s.seats.book there
+
+  pub role_is : (role : Role) → option_map (λ (w : Viewer). w.role) (viewer_at d.seats.book v) ≡ Some role → role_in h v ≡ Some role
+  role_is role is = seat.seated.role ∙ ap Some (sym (told (λ (w : Viewer). w.role) (viewer_at d.seats.book v) seat.viewer role seat.found is))
+
+  pub ended_is : (over : Bool) → option_map (λ (w : Viewer). w.ended) (viewer_at d.seats.book v) ≡ Some over → ended h v ≡ over
+  ended_is over is = sym (told (λ (w : Viewer). w.ended) (viewer_at d.seats.book v) seat.viewer over seat.found is ∙ seat.seated.ended)
+
+  pub position_is : (stamp : ℕ) → option_map (λ (w : Viewer). w.position) (viewer_at d.seats.book v) ≡ Some stamp → position h v ≡ stamp
+  position_is stamp is = sym (told (λ (w : Viewer). w.position) (viewer_at d.seats.book v) seat.viewer stamp seat.found is ∙ seat.seated.position)
+
+  pub mods_is : (held : Mods) → option_map (λ (w : Viewer). w.mods) (viewer_at d.seats.book v) ≡ Some held → held ≡ mods h v
+  mods_is held is = told (λ (w : Viewer). w.mods) (viewer_at d.seats.book v) seat.viewer held seat.found is ∙ seat.seated.mods
+
+  -- why a read gives it nothing
+  pub read_is_over : ended h v ≡ true → read_stop h v ≡ Some (Ok Ended)
+  read_is_over over = rw (is_there, over) refl
+
+  pub read_is_last : ended h v ≡ false → is_some d.cause ≡ true → read_stop h v ≡ None
+  read_is_last more shut = let q : is_closed h ≡ true = sym (shut_is d h s) ∙ shut in rw (is_there, more, q) refl
+
+  pub read_is_empty : ended h v ≡ false → is_some d.cause ≡ false → position h v ≡ d.frames.stamp → read_stop h v ≡ Some (Ok Empty)
+  read_is_empty more stays same =
+      let q : is_closed h ≡ false = sym (shut_is d h s) ∙ stays in
+      let equal : (position h v == newest h) ≡ true = eq-eqb (position h v) (newest h) (same ∙ s.frames.stamp) in
+      rw (is_there, more, q, equal) refl
+
+  behind : (position h v ≡ d.frames.stamp → ⊥) → (position h v == newest h) ≡ false
+  behind differs = elim (eqb_tells (position h v) (newest h)) [ inl q ↦ absurd (differs (q.1 ∙ sym s.frames.stamp)) | inr q ↦ q.0 ]
+
+  pub read_is_worn : ended h v ≡ false → is_some d.cause ≡ false → (position h v ≡ d.frames.stamp → ⊥) → nat_le d.setup.entries d.entries ≡ true → read_stop h v ≡ Some (Err (read_worn d.entries))
+  read_is_worn more stays differs full =
+      let q : is_closed h ≡ false = sym (shut_is d h s) ∙ stays in
+      let f : is_full h ≡ true = rw (sym s.setup.entries, sym s.entries) full in
+      rw (is_there, more, q, behind differs, f, s.entries) refl
+
+  pub read_is_allowed : ended h v ≡ false → is_some d.cause ≡ false → (position h v ≡ d.frames.stamp → ⊥) → nat_le d.setup.entries d.entries ≡ false → read_stop h v ≡ None
+  read_is_allowed more stays differs room =
+      let q : is_closed h ≡ false = sym (shut_is d h s) ∙ stays in
+      let f : is_full h ≡ false = rw (sym s.setup.entries, sym s.entries) room in
+      rw (is_there, more, q, behind differs, f) refl

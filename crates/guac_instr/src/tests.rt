@@ -1,4 +1,0 @@
-mod greeting;
-mod meaning;
-mod sent;
-mod writing;

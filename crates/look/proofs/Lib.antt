@@ -1,0 +1,5 @@
+pub mod Playable
+pub mod Streams
+pub mod Seeing
+pub mod Coming
+pub mod Lines

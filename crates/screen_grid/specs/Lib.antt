@@ -1,0 +1,2 @@
+-- What a run of characters makes of a grid.
+pub mod Runs

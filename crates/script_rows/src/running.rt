@@ -1,0 +1,61 @@
+//! A row is run over memory.
+
+use crate::row::Row;
+use anyhow::{Result, anyhow};
+use gate_outside::{MemSink, MemSource};
+use gate_script::command;
+use std::alloc::Global;
+
+const ANSWERS_ROOM: usize = 1 << 20;
+
+const FRAMES_ROOM: usize = 1 << 23;
+
+/// What the row gives, where it isn't what it has to give.
+pub fn difference(alloc: Global, row: &Row) -> Result<Option<String>> {
+    let ends = row.ends;
+    let mut source = MemSource::new(
+        row.input.to_vec(alloc)?,
+        ends.piece.max(1),
+        [ends.source].to_vec(alloc)?,
+    );
+    let mut answers = sink(alloc, ANSWERS_ROOM, 64, ends.answers)?;
+    let mut frames = sink(alloc, FRAMES_ROOM, 4096, ends.frames)?;
+    let status = command(
+        alloc,
+        row.words.as_slice(),
+        &mut source,
+        &mut answers,
+        &mut frames,
+    );
+    Ok(if status != row.status {
+        Some(format!(in alloc; "status {status}")?)
+    } else if !row.answers.is_met(answers.written()) {
+        Some(shown(alloc, "answers", answers.written())?)
+    } else if row
+        .frames
+        .as_ref()
+        .is_some_and(|wanted| !wanted.is_met(frames.written()))
+    {
+        Some(shown(alloc, "frames", frames.written())?)
+    } else {
+        None
+    })
+}
+
+// A sink that fails at the call with this number.
+fn sink(alloc: Global, room: usize, most: usize, fail: u64) -> Result<MemSink> {
+    MemSink::new(alloc, room, most.max(1), [fail].to_vec(alloc)?).map_err(|_| anyhow!("no memory"))
+}
+
+// What was written, in one line.
+fn shown(alloc: Global, what: &str, written: &[u8]) -> Result<String> {
+    let mut line = format!(in alloc; "{what}: ")?;
+    for byte in written {
+        match byte {
+            b'\n' => line.push_str(" / ")?,
+            0x20..=0x7e => line.push(char::from(*byte))?,
+            _ => write!(line, "\\x{byte:02x}")?,
+        }
+    }
+    Ok(line)
+}

@@ -1,0 +1,99 @@
+//! A book of viewers after joins, deliveries, ends and leaves.
+
+ghost use Rattle.std.specs.Prelude.{◌<◌, IsTrue};
+ghost use Rattle.viewer_book.specs.Book.{is_live};
+
+use crate::keys::push_held;
+use crate::words::{first_word, numbers};
+use anyhow::{Context, Result, bail};
+use gate_model::{Mods, Role};
+use std::alloc::Global;
+use viewer_book::Book;
+
+/// The live viewers after the calls, which stand apart by `; `.
+pub fn told(alloc: Global, input: &str) -> Result<String> {
+    let mut book = Book::new(alloc).ok().context("no memory")?;
+    for call in input.split("; ") {
+        let (name, rest) = first_word(call);
+        let numbers = numbers(alloc, rest)?;
+        make(&mut book, name, &numbers)?;
+    }
+    let mut text = String::new(alloc);
+    write!(text, "{} of {}", book.live(), book.joined())?;
+    for viewer in 1..=book.joined().min(8) {
+        if book.is_live(viewer) {
+            push_viewer(&mut text, &book, viewer)?;
+        }
+    }
+    Ok(text)
+}
+
+fn make(book: &mut Book, name: &str, numbers: &[u32]) -> Result<()> {
+    match (name, numbers) {
+        ("control", [stamp]) => add(book, Role::Control, *stamp),
+        ("view", [stamp]) => add(book, Role::View, *stamp),
+        ("keep", [stamp]) => add(book, Role::Keep, *stamp),
+        ("views", [count]) => add_views(book, *count),
+        ("leave", [viewer]) if book.is_live(*viewer) => {
+            book.remove(*viewer);
+            Ok(())
+        }
+        ("deliver", [viewer, stamp]) => deliver(book, *viewer, u64::from(*stamp)),
+        ("end", [viewer, stamp]) => end(book, *viewer, u64::from(*stamp)),
+        ("alt", [viewer]) if book.is_live(*viewer) => {
+            let mods = Mods {
+                alt_right: true,
+                ..book.mods(*viewer)
+            };
+            book.set_mods(*viewer, mods);
+            Ok(())
+        }
+        _ => bail!("no call"),
+    }
+}
+
+// A viewer joins, and has the next number.
+fn add(book: &mut Book, role: Role, stamp: u32) -> Result<()> {
+    if 64 <= book.live() || 1_000_000 <= book.joined() {
+        bail!("no room");
+    }
+    let next = book.joined().saturating_add(1);
+    let number = book.add(role, u64::from(stamp)).ok().context("no memory")?;
+    if number != next {
+        bail!("viewer {number}");
+    }
+    Ok(())
+}
+
+fn add_views(book: &mut Book, count: u32) -> Result<()> {
+    for _ in 0..count {
+        add(book, Role::View, 1)?;
+    }
+    Ok(())
+}
+
+fn deliver(book: &mut Book, viewer: u32, stamp: u64) -> Result<()> {
+    if !book.is_live(viewer) || stamp <= book.position(viewer) {
+        bail!("not above its position");
+    }
+    book.deliver(viewer, stamp);
+    Ok(())
+}
+
+fn end(book: &mut Book, viewer: u32, stamp: u64) -> Result<()> {
+    if !book.is_live(viewer) || stamp < book.position(viewer) {
+        bail!("below its position");
+    }
+    book.end(viewer, stamp);
+    Ok(())
+}
+
+fn push_viewer(text: &mut String, book: &Book, viewer: u32) -> Result<()>
+    requires { IsTrue (is_live book.now viewer) }
+{
+    let role = book.role(viewer);
+    let position = book.position(viewer);
+    let ended = if book.ended(viewer) { " ended" } else { "" };
+    write!(text, ", {viewer} {role:?} at {position}{ended} ")?;
+    push_held(text, book.mods(viewer))
+}

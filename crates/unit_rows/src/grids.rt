@@ -1,0 +1,117 @@
+//! Edits of a grid of 4 columns and 3 rows, which has the letters A to L.
+
+use crate::words::{first_word, numbers};
+use anyhow::{Context, Result, bail};
+use gate_model::Cell;
+use screen_grid::Grid;
+use std::alloc::Global;
+
+const BLANK: Cell = Cell {
+    ch: ' ',
+    ink: 7,
+    paper: 0,
+    under: false,
+};
+
+/// The grid after an edit of a copy of it, or what a new grid of a size is.
+pub fn edited(alloc: Global, input: &str) -> Result<String> {
+    let (name, rest) = first_word(input);
+    let numbers = numbers(alloc, rest)?;
+    if name == "new" {
+        return new_grid(alloc, &numbers);
+    }
+    let grid = letters(alloc)?;
+    let text = edited_copy(alloc, &grid, name, &numbers)?;
+    if text_of(alloc, &grid)?.as_str() != "ABCD|EFGH|IJKL|" {
+        bail!("the grid changed with its copy");
+    }
+    Ok(text)
+}
+
+// The text of a copy after an edit.
+fn edited_copy(alloc: Global, grid: &Grid, name: &str, numbers: &[u32]) -> Result<String> {
+    let mut copy = grid.copy(alloc).ok().context("no memory")?;
+    edit(&mut copy, name, numbers)?;
+    text_of(alloc, &copy)
+}
+
+// A cell whose colours and underline follow from its letter.
+fn cell_of(letter: u8) -> Cell {
+    Cell {
+        ch: char::from(letter),
+        ink: letter % 16,
+        paper: letter / 16,
+        under: letter % 2 == 1,
+    }
+}
+
+fn letters(alloc: Global) -> Result<Grid> {
+    let mut grid = Grid::new(alloc, 4, 3).ok().context("no memory")?;
+    for place in 0..12u8 {
+        let (x, y) = (place as u16 % 4, place as u16 / 4);
+        if grid.fits(x, y) {
+            grid.put(x, y, cell_of(b'A' + place));
+        }
+    }
+    Ok(grid)
+}
+
+fn edit(grid: &mut Grid, name: &str, numbers: &[u32]) -> Result<()> {
+    let [a, b, c] = numbers else {
+        bail!("not three numbers");
+    };
+    let (a, b, c) = (u16::try_from(*a)?, u16::try_from(*b)?, u16::try_from(*c)?);
+    match name {
+        "put" if grid.fits(a, b) => grid.put(a, b, cell_of(b'x')),
+        "erase" if b <= c && 0 < c && grid.fits(c - 1, a) => grid.erase(a, b, c),
+        "insert" if grid.fits(a, b) => grid.insert(a, b, c),
+        "delete" if grid.fits(a, b) => grid.delete(a, b, c),
+        "up" if a <= b && grid.fits(0, b) => grid.scroll_up(a, b, c),
+        "down" if a <= b && grid.fits(0, b) => grid.scroll_down(a, b, c),
+        _ => bail!("no edit"),
+    }
+    Ok(())
+}
+
+// The letters, row by row, with `.` for a blank; `!` stands for a cell that is neither blank nor as it was put.
+fn text_of(alloc: Global, grid: &Grid) -> Result<String> {
+    let mut text = String::new(alloc);
+    for place in 0..12u16 {
+        let (x, y) = (place % 4, place / 4);
+        if grid.fits(x, y) {
+            text.push(letter_of(grid.cell(x, y)))?;
+        }
+        if x == 3 {
+            text.push('|')?;
+        }
+    }
+    Ok(text)
+}
+
+fn letter_of(cell: Cell) -> char {
+    let letter = if cell.ch.is_ascii() { cell.ch as u8 } else { 0 };
+    if cell == BLANK {
+        '.'
+    } else if cell == cell_of(letter) {
+        cell.ch
+    } else {
+        '!'
+    }
+}
+
+fn new_grid(alloc: Global, numbers: &[u32]) -> Result<String> {
+    let [cols, rows] = numbers else {
+        bail!("not two numbers");
+    };
+    let (cols, rows) = (u16::try_from(*cols)?, u16::try_from(*rows)?);
+    let grid = Grid::new(alloc, cols, rows).ok().context("no memory")?;
+    let ends = !grid.fits(cols, rows.saturating_sub(1)) && !grid.fits(cols.saturating_sub(1), rows);
+    let mut text = String::new(alloc);
+    for (x, y) in [(0, 0), (cols.saturating_sub(1), rows.saturating_sub(1))] {
+        if grid.fits(x, y) && grid.cell(x, y) == BLANK {
+            write!(text, "blank at {x} {y}, ")?;
+        }
+    }
+    text.push_str(if ends { "ends there" } else { "goes on" })?;
+    Ok(text)
+}

@@ -1,0 +1,38 @@
+//! Which calls are made for the rows of a file.
+
+use crate::{books, canvases, desks, grids, keys, screens, sequences, telnet, texts};
+use anyhow::{Result, bail};
+use std::alloc::Global;
+
+/// What the calls of a topic give on an input.
+pub fn value(alloc: Global, topic: &str, input: &str) -> Result<String> {
+    match topic {
+        "tokens" => telnet::tokens(alloc, input),
+        "escapes" => telnet::escaped(alloc, input),
+        "options" => telnet::answered(alloc, input),
+        "sequences" => sequences::functions(alloc, input),
+        "grids" => grids::edited(alloc, input),
+        "screens" => screens::seen(alloc, input),
+        "looks" => screens::look(alloc, input),
+        "reports" => screens::reports(alloc, input),
+        "shifts" => screens::shifts(alloc, input),
+        "cursor_keys" => screens::cursor_keys(alloc, input),
+        "copies" => screens::copies(alloc, input),
+        "canvases" => canvases::drawn(alloc, input),
+        "dots" => canvases::dot(alloc, input),
+        "sames" => canvases::same(alloc, input),
+        "roles" => keys::role(alloc, input),
+        "keys" => keys::sent(alloc, input),
+        "modifiers" => keys::held(alloc, input),
+        "books" => books::told(alloc, input),
+        "framing" => texts::front(alloc, input),
+        "elements" => texts::elements(alloc, input),
+        "values" => texts::written(alloc, input),
+        "acts" => texts::act(alloc, input),
+        "hellos" => texts::hello(alloc, input),
+        "instructions" => texts::instruction(alloc, input),
+        "desks" => desks::answers(alloc, input),
+        "desk_roles" => desks::roles(alloc, input),
+        _ => bail!("no such topic"),
+    }
+}

@@ -1,0 +1,4 @@
+use Rattle.vt_screen.proofs.scrolled.again.Given as goal
+
+abbrev pub ghosts-named : goal.ghosts-named
+ghosts-named a = record { list = a.told.now.0.now.items }
