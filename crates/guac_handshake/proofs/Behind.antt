@@ -1,27 +1,25 @@
 -- The instructions behind `select`, one after the other.
-use Rattle.std.proofs.Common.{◌≡◌, ℕ, ◌+◌, ◌<◌, ◌≤◌, List, [], ◌∷◌, ◌++◌, length, take, Option, Some, None, Ok, Err, Bool, true, false, refl, ap, sym, ◌∙◌, subst, append_assoc, append-nil, length-append, arith, rules, drop}
+use Rattle.std.proofs.Common.{◌≡◌, ℕ, ◌+◌, ◌≤◌, List, [], ◌∷◌, ◌++◌, length, take, Option, Some, None, Ok, Err, Bool, true, false, refl, ap, sym, ◌∙◌, subst, append_assoc, append-nil, length-append, arith, drop}
 use Rattle.std.proofs.lemmas.Bool.Decides.{nat_tests}
 use Rattle.std.proofs.Math.Seq.{take-append_seam, take-length}
 use Rattle.std.specs.List.{prefix_len}
-use Rattle.std.specs.Prelude.{Result, find, fold, not, take_while, nat_lt, if◌then◌else◌}
+use Rattle.std.specs.Prelude.{Result, find, fold, not, nat_lt}
 use Rattle.gate_model.specs.HelloMeaning.{Greeting, Selects, HasSize, Connects, SaysOther, greeting_of}
-use Rattle.gate_outside.specs.Edge.{AtEnd, came}
+use Rattle.gate_outside.specs.Edge.{came}
 use Rattle.gate_outside.proofs.Moved.{came-came, came-none}
-use Rattle.guac_framing.specs.Found.{IsUnfinished, IsBadAt}
 use Rattle.guac_handshake.specs.declared.request.Selected.{Selected}
 use Rattle.guac_handshake.specs.declared.request.Request.{Request}
 use Rattle.guac_handshake.specs.declared.expected.Expected.{Expected}
-use Rattle.guac_handshake.specs.declared.expected.Expected.TheVariants.{Connect}
 use Rattle.guac_handshake.specs.declared.expected.Said.{Said}
 use Rattle.guac_handshake.specs.declared.expected.Said.TheVariants as said
 use Rattle.guac_handshake.specs.declared.stop.Stop.{Stop}
 use Rattle.guac_handshake.specs.declared.stop.Stop.TheVariants.{Refused, Ended, ReadFault, WriteFault, NoMemory}
-use Rattle.guac_handshake.specs.Asks.{Wish, Unfinished, Wants, Refuses, asks_behind, before_connect, begin_wish, beginning, connect_wish, connects_as, connects_in, is_connect, join_wish, joining, last_size, size_after}
+use Rattle.guac_handshake.specs.Asks.{Wish, Unfinished, Wants, Refuses, asks_behind, before_connect, begin_wish, beginning, connects_as, connects_in, is_connect, join_wish, joining, last_size, size_after}
 use Rattle.guac_handshake.specs.declared.ask.Ask.{Ask}
 use Rattle.gate_model.specs.declared.sharing.Asked.{Asked}
 use Rattle.guac_handshake.specs.declared.request.Selected.TheVariants.{Telnet, Known}
-use Rattle.guac_handshake.specs.Heard.{HasHeard, HeardBy, StopsAt, said_behind, said_of, wish_said}
-use Rattle.guac_handshake.specs.Greetings.{Answers, HasConnected, RefusedEarly, OutOfForm, Broken}
+use Rattle.guac_handshake.specs.Heard.{HasHeard, StopsAt, said_behind, said_of, wish_said}
+use Rattle.guac_handshake.specs.Greetings.{Answers, HasConnected, OutOfForm, Broken}
 use Rattle.guac_handshake.specs.Splits.{IsInstruction, Splits}
 use Rattle.guac_handshake.specs.Statuses.{bad_request}
 

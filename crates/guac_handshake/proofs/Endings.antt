@@ -1,5 +1,5 @@
 -- How a greeting ends.
-use Rattle.std.proofs.Common.{◌≡◌, ℕ, ◌+◌, ◌≤◌, List, [], ◌∷◌, ◌++◌, length, take, Option, Some, None, Ok, Err, refl, ap, sym, ◌∙◌, subst, append-nil, length-append, arith}
+use Rattle.std.proofs.Common.{◌≡◌, ℕ, ◌+◌, List, [], ◌++◌, length, take, Option, Ok, Err, refl, ap, sym, ◌∙◌, subst, append-nil, length-append, arith}
 use Rattle.std.specs.Prelude.{Result}
 use Rattle.std.proofs.Math.Seq.{take-append-add}
 use Rattle.gate_outside.specs.Edge.{GainedFront, gained}
@@ -14,7 +14,7 @@ use Rattle.guac_handshake.specs.declared.stop.Stop.TheVariants as stop
 use Rattle.guac_handshake.specs.declared.welcome.Welcome.{Welcome}
 use Rattle.guac_handshake.specs.Asks.{Wish, Wants, asks, selected}
 use Rattle.guac_handshake.specs.Doors.{Sessions, asked_more, logged_for}
-use Rattle.guac_handshake.specs.Greetings.{AskedAsWished, AskedAtMost, AskedOnce, ByDoor, ByForm, Ends, ErrorReply, HasAsked, IsGreeting, IsReply, IsServed, IsToldError, IsToldReady, MayRefuse, NoReply, NotAsked, ReadyReply, RefusedEarly, Unasked, Wished}
+use Rattle.guac_handshake.specs.Greetings.{AskedAsWished, AskedAtMost, AskedOnce, ByDoor, ByForm, Ends, ErrorReply, HasAsked, IsGreeting, IsServed, IsToldError, IsToldReady, MayRefuse, NoReply, NotAsked, ReadyReply, RefusedEarly, Unasked, Wished}
 use Rattle.guac_handshake.specs.Statuses.{status_of}
 use Rattle.guac_handshake.specs.Splits.{Splits}
 use Rattle.guac_handshake.specs.Texts.{args_for, error_text, ready_text}

@@ -1,23 +1,22 @@
 -- The first instruction.
-use Rattle.std.proofs.Common.{◌≡◌, ℕ, List, [], ◌∷◌, ◌++◌, length, take, Option, Some, None, Ok, Err, Bool, true, false, refl, ap, sym, ◌∙◌, subst, append_assoc, append-nil, arith}
+use Rattle.std.proofs.Common.{◌≡◌, ℕ, List, [], ◌∷◌, ◌++◌, length, Option, Some, None, Ok, Err, Bool, false, refl, ap, sym, ◌∙◌, subst, append_assoc, append-nil, arith}
 use Rattle.std.specs.Prelude.{Result, IfErr, IfSome, is_some, ◌≤◌}
 use Rattle.std.proofs.Math.Seq.{take-length}
 use Rattle.gate_model.specs.HelloMeaning.{Greeting, Selects, HasSize, Connects, SaysOther, greeting_of}
-use Rattle.gate_outside.specs.Edge.{AtEnd, GainedFront, Rose, came, gained}
+use Rattle.gate_outside.specs.Edge.{GainedFront, Rose, came, gained}
 use Rattle.gate_outside.proofs.Moved.{came-came, came-none, gained-none}
 use Rattle.guac_handshake.specs.declared.request.Selected.{Selected}
 use Rattle.guac_handshake.specs.declared.request.Request.{Request}
 use Rattle.guac_handshake.specs.declared.expected.Expected.TheVariants as expected
-use Rattle.guac_handshake.specs.declared.expected.Said.{Said}
 use Rattle.guac_handshake.specs.declared.expected.Said.TheVariants as said
 use Rattle.guac_handshake.specs.declared.stop.Stop.{Stop}
 use Rattle.guac_handshake.specs.declared.stop.Stop.TheVariants.{Refused, Ended, ReadFault, WriteFault, NoMemory}
-use Rattle.guac_handshake.specs.Asks.{Wish, Unfinished, Wants, Refuses, asks, asks_behind, asks_first, asks_selected, selected, selected_by, selection_of}
+use Rattle.guac_handshake.specs.Asks.{Wish, Unfinished, Refuses, asks, asks_behind, asks_first, asks_selected, selected, selected_by, selection_of}
 use Rattle.guac_handshake.specs.Doors.{Sessions, at_name}
-use Rattle.guac_handshake.specs.Heard.{HasHeard, StopsAt, said_first}
+use Rattle.guac_handshake.specs.Heard.{HasHeard, said_first}
 use Rattle.guac_handshake.specs.Greetings.{Answers, Chose, HasAsked, HasConnected, HasSelected, IsFound, IsLook, OutOfForm, WroteArgs, found_as, name_looked_at}
 use Rattle.guac_handshake.specs.Splits.{Splits}
-use Rattle.guac_handshake.specs.Statuses.{bad_request, not_found}
+use Rattle.guac_handshake.specs.Statuses.{bad_request}
 use Rattle.guac_handshake.specs.Texts.{args_for, args_text}
 use Rattle.guac_handshake.proofs.Behind.{asks_open, stop_answers}
 

@@ -1,13 +1,11 @@
 -- One instruction, read as it comes.
-use Rattle.std.proofs.Common.{◌≡◌, ℕ, ◌+◌, ◌≤◌, List, [], ◌∷◌, ◌++◌, length, take, drop, Option, Some, None, Ok, Err, refl, ap, sym, ◌∙◌, subst, append_assoc, append-nil, length-append, arith}
-use Rattle.std.specs.Prelude.{Result, map, encode_utf8_all}
+use Rattle.std.proofs.Common.{◌≡◌, ℕ, ◌≤◌, List, [], ◌++◌, length, take, drop, Option, Ok, Err, refl, ap, sym, ◌∙◌, subst, append_assoc, append-nil, length-append, arith}
+use Rattle.std.specs.Prelude.{Result}
 use Rattle.std.proofs.lemmas.List.{take-append-drop}
-use Rattle.gate_outside.specs.Edge.{AtEnd, came}
+use Rattle.gate_outside.specs.Edge.{came}
 use Rattle.gate_outside.proofs.Moved.{came-came, came-none}
-use Rattle.gate_model.specs.Spelling.{Spells}
 use Rattle.guac_framing.specs.Answers.{IsWhole}
-use Rattle.guac_framing.specs.Found.{IsUnfinished, IsBadAt, IsBadPlace, HasKind, HasOneKind}
-use Rattle.guac_framing.specs.declared.next.BadAt.{BadAt}
+use Rattle.guac_framing.specs.Found.{IsUnfinished}
 use Rattle.guac_handshake.specs.Heard.{HasHeard, HeardBy, StopsAt, said_of}
 use Rattle.guac_handshake.specs.declared.stop.Stop.TheVariants.{Refused, Ended, ReadFault, WriteFault, NoMemory}
 use Rattle.guac_handshake.specs.Moved.{IsReadStop, Moved}

@@ -4,3 +4,4 @@ pub mod Replying
 pub mod Behind
 pub mod First
 pub mod Endings
+pub mod InMemory

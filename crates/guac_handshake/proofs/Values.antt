@@ -1,5 +1,5 @@
 -- The values of `connect`.
-use Rattle.std.proofs.Common.{◌≡◌, ℕ, ◌+◌, List, [], ◌∷◌, Some, None, length, drop, refl, ap, sym, ◌∙◌, arith}
+use Rattle.std.proofs.Common.{◌≡◌, ℕ, ◌+◌, List, [], ◌∷◌, Some, length, drop, refl, ap, sym, ◌∙◌, arith}
 use Rattle.std.specs.Prelude.{Option, Bool, slice_get}
 use Rattle.gate_model.specs.declared.sharing.Share.{Share}
 use Rattle.guac_handshake.specs.Asks.{ask_of, beginning, cols_of, is_read_only, mode_of, port_of, rows_of, term_of}

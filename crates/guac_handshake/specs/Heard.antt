@@ -1,5 +1,5 @@
 -- What one instruction says where a reader expects a `select`, or a `connect`.
-use Rattle.std.specs.Prelude.{◌≡◌, ℕ, List, ◌++◌, drop, Option, Some, None, Result, Ok, Err}
+use Rattle.std.specs.Prelude.{◌≡◌, ℕ, List, ◌++◌, Option, Result, Ok, Err}
 use Rattle.gate_model.specs.HelloMeaning.{Greeting, Selects, HasSize, Connects, SaysOther, greeting_of}
 use Rattle.gate_outside.specs.Edge.{AtEnd, came}
 use Rattle.guac_framing.specs.Found.{IsUnfinished, IsBadAt}

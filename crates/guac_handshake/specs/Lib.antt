@@ -1,4 +1,4 @@
--- In reading order: statuses, instructions and what they ask, what a door answers, what is written, how a greeting ends.
+-- In reading order: statuses, instructions and what they ask, what a door answers, what is written, how a greeting ends, a door in memory.
 pub mod Statuses
 pub mod Splits
 pub mod Asks
@@ -7,3 +7,4 @@ pub mod Heard
 pub mod Doors
 pub mod Texts
 pub mod Greetings
+pub mod Memory

@@ -12,6 +12,7 @@ mod expected;
 mod greeted;
 mod greeting;
 mod hearing;
+pub mod memory;
 mod refused;
 mod replies;
 mod request;

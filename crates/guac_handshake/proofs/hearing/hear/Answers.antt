@@ -1,4 +1,4 @@
-use Rattle.std.proofs.Common.{◌≡◌, Err, ap, ◌∙◌}
+use Rattle.std.proofs.Common.{Err, ap, ◌∙◌}
 use Rattle.std.proofs.lemmas.Result.{err_from_is_err_and}
 use Rattle.guac_handshake.proofs.HearingLaws.{heard_fault}
 use Rattle.guac_handshake.specs.declared.stop.Stop.{Stop}

@@ -1,0 +1,292 @@
+//! A door in memory, over which greetings are tried.
+
+ghost use Rattle.std.specs.Prelude.{◌≡◌, ◌≤◌, ℕ, [], IfOk, IfSome, OnOk, Some, is_some};
+ghost use Rattle.gate_outside.specs.Edge.{Rose};
+ghost use Rattle.gate_outside.specs.Starts.{IsDialFailed};
+ghost use Rattle.guac_handshake.specs.Doors.{RemovedOne, at_name};
+ghost use Rattle.guac_handshake.specs.Memory.{id_of_name, untold};
+ghost use Rattle.id_table.specs.Tables.{held};
+ghost use Rattle.uuid.specs.Text.{parsed};
+
+use crate::connecting::owned;
+use crate::{Ask, Begun, Door, Job, Refused, Seat, Welcome};
+use gate_model::{Asked, Bytes, NoMemory, Text};
+use gate_outside::{Counted, DialFault, Dialer, MemDialer, MemDice, Way};
+use id_table::{AddRefusal, IdTable};
+use std::alloc::Global;
+use std::sync::Wait;
+use uuid::Uuid;
+
+/// A place of a `MemDoor`, at which nothing is given.
+#[derive(Drop)]
+pub struct MemPlace {}
+
+impl Seat for MemPlace {
+    ghost use Rattle.std.specs.Prelude.{[], ◌≡◌};
+
+    ghost fresh = { λ _ first. first ≡ [] };
+}
+
+/// A job that does nothing.
+#[derive(Drop)]
+pub struct MemJob {}
+
+impl Job for MemJob {
+    fn run<R: Wait>(self, _rt: &R) {}
+}
+
+/// A door over a table of IDs, dice and a dialer in memory. It lets each viewer in that selects an ID that is
+/// there. It tells its IDs, its draws and how many places are out.
+#[derive(Drop)]
+pub struct MemDoor {
+    ids: IdTable<()>,
+    dice: MemDice,
+    dialer: MemDialer,
+    start_faults: u64,
+    last: Option<Ask>,
+    out: u64,
+    given: u64,
+}
+
+impl MemDoor {
+    ghost use Rattle.std.specs.Prelude.{◌≡◌, None, ℕ, List};
+    ghost use Rattle.id_table.specs.Tables.{held};
+
+    /// A door without sessions, which draws IDs from the dice and dials by the dialer.
+    pub fn new(alloc: Global, dice: MemDice, dialer: MemDialer) -> MemDoor
+        ensures empty { (id : List ℕ) → held result.ids id ≡ None }
+        ensures dice { result.dice ≡ dice }
+        ensures dialer { result.dialer ≡ dialer }
+    {
+        MemDoor {
+            ids: IdTable::new(alloc),
+            dice,
+            dialer,
+            start_faults: 0,
+            last: None,
+            out: 0,
+            given: 0,
+        }
+    }
+
+    /// What the door was asked last of a session that is to begin.
+    pub fn last_ask(&self) -> Option<&Ask> {
+        self.last.as_ref()
+    }
+
+    /// How many places were given back; it ends at 2^64 - 1.
+    pub fn given(&self) -> u64
+        ensures { result ≡ self.now.given }
+    {
+        self.given
+    }
+}
+
+impl Counted for MemDoor {
+    ghost dial_faults = { λ s. ⟦<MemDialer as Counted>⟧.dial_faults s.dialer };
+
+    ghost start_faults = { λ s. s.start_faults };
+
+    ghost draws = { λ s. ⟦<MemDice as Counted>⟧.draws s.dice };
+}
+
+impl Door for MemDoor {
+    ghost use Rattle.std.specs.Prelude.{None, Some};
+    ghost use Rattle.guac_handshake.specs.Memory.{id_of_name, untold};
+    ghost use Rattle.id_table.specs.Tables.{held};
+
+    type Place = MemPlace;
+
+    type Pump = MemJob;
+
+    type Sending = MemJob;
+
+    ghost id_of = { λ name. id_of_name name };
+
+    ghost sessions = { λ s. Some (untold (held s.ids)) };
+
+    ghost out = { λ s. Some s.out };
+
+    ghost asked = { λ _. None };
+
+    fn known<R: Wait>(&mut self, _rt: &R, name: &str) -> bool {
+        id_of(&self.ids, name).is_some()
+    }
+
+    fn open<R: Wait>(
+        &mut self,
+        _rt: &R,
+        alloc: Global,
+        ask: &Ask,
+    ) -> Result<Begun<MemPlace, MemJob, MemJob>, Refused> {
+        if self.out == u64::MAX {
+            return Err(Refused::NoMemory);
+        }
+        match copy_of(alloc, ask) {
+            Ok(copy) => self.last = Some(copy),
+            Err(NoMemory) => return Err(Refused::NoMemory),
+        }
+        match dial(&mut self.dialer, alloc, ask) {
+            Ok(()) => {}
+            Err(DialFault::Failed) => return Err(Refused::Dial),
+            Err(DialFault::NoMemory) => return Err(Refused::NoMemory),
+        }
+        let id = match self.ids.add(&mut self.dice, ()) {
+            Ok(id) => id,
+            Err(AddRefusal::Conflict(..)) => return Err(Refused::Conflict),
+            Err(AddRefusal::NoMemory(_)) => return Err(Refused::NoMemory),
+        };
+        match name_of(alloc, id) {
+            Ok(name) => {
+                self.out += 1;
+                Ok(begun(alloc, name))
+            }
+            Err(NoMemory) => {
+                self.ids.remove(&id);
+                Err(Refused::NoMemory)
+            }
+        }
+    }
+
+    fn way(&mut self) -> Way {
+        Way::Here
+    }
+
+    fn note(&mut self) {
+        self.start_faults = self.start_faults.saturating_add(1);
+    }
+
+    fn undo<R: Wait>(&mut self, _rt: &R, id: &Text) {
+        remove_named(&mut self.ids, id.as_str());
+        self.out = self.out.saturating_sub(1);
+    }
+
+    fn join<R: Wait>(
+        &mut self,
+        _rt: &R,
+        alloc: Global,
+        name: &str,
+        _role: Asked,
+    ) -> Result<Welcome<MemPlace>, Refused> {
+        let Some(id) = id_of(&self.ids, name) else {
+            return Err(Refused::Absent);
+        };
+        if self.out == u64::MAX {
+            return Err(Refused::NoMemory);
+        }
+        match name_of(alloc, id) {
+            Ok(name) => {
+                self.out += 1;
+                Ok(welcome(alloc, name))
+            }
+            Err(NoMemory) => Err(Refused::NoMemory),
+        }
+    }
+
+    fn give<R: Wait>(&mut self, _rt: &R, _id: &str, _place: MemPlace) {
+        self.out = self.out.saturating_sub(1);
+        self.given = self.given.saturating_add(1);
+    }
+}
+
+// Dials the host of the ask, and lets go of the link.
+fn dial<L: Dialer>(dialer: &mut L, alloc: Global, ask: &Ask) -> Result<(), DialFault>
+    ensures cause { IsDialFailed result → Rose (L.dial_faults dialer.old) (L.dial_faults dialer.new) }
+    ensures later { L.dial_faults dialer.old ≤ L.dial_faults dialer.new }
+{
+    match dialer.dial(alloc, ask.host.as_str(), ask.port) {
+        Ok(_) => Ok(()),
+        Err(fault) => Err(fault),
+    }
+}
+
+// A session with nothing to show, and jobs that do nothing.
+fn begun(alloc: Global, id: Text) -> Begun<MemPlace, MemJob, MemJob>
+    ensures id { result.welcome.id ≡ id }
+    ensures first { result.welcome.first ≡ [] }
+{
+    Begun {
+        welcome: welcome(alloc, id),
+        pump: MemJob {},
+        sender: MemJob {},
+    }
+}
+
+fn welcome(alloc: Global, id: Text) -> Welcome<MemPlace>
+    ensures id { result.id ≡ id }
+    ensures first { result.first ≡ [] }
+{
+    Welcome {
+        id,
+        place: MemPlace {},
+        first: Bytes::of(Vec::new(alloc)),
+    }
+}
+
+// The ID that the name gives, where it is there.
+fn id_of(ids: &IdTable<()>, name: &str) -> Option<Uuid>
+    ensures there { is_some result ≡ is_some (at_name (id_of_name name.now) (untold (held ids.now))) }
+{
+    let id = id_named(name)?;
+    if ids.get(&id).is_some() {
+        Some(id)
+    } else {
+        None
+    }
+}
+
+// Takes out the ID that the name gives.
+fn remove_named(ids: &mut IdTable<()>, name: &str)
+    ensures { RemovedOne (id_of_name name.now) (untold (held ids.old)) (untold (held ids.new)) }
+{
+    let id = match id_named(name) {
+        Some(id) => id,
+        None => return,
+    };
+    ids.remove(&id);
+}
+
+// The ID that the name gives: `$` and an ID in any form (RFC 9562, section 4).
+fn id_named(name: &str) -> Option<Uuid>
+    ensures { result ≡ id_of_name name.now }
+{
+    match name.strip_prefix('$') {
+        Some(rest) => id_in(rest),
+        None => None,
+    }
+}
+
+fn id_in(text: &str) -> Option<Uuid>
+    ensures { result ≡ parsed text.now }
+{
+    match Uuid::parse_str(text) {
+        Ok(id) => Some(id),
+        Err(_) => None,
+    }
+}
+
+// The name of the ID, in the form with hyphens.
+fn name_of(alloc: Global, id: Uuid) -> Result<Text, NoMemory>
+    ensures { IfOk result (λ name. id_of_name name ≡ Some id) }
+{
+    let mut buffer = Uuid::encode_buffer();
+    let hyphenated = id.hyphenated().encode_lower(&mut buffer);
+    let mut name = String::new(alloc);
+    name.push('$')?;
+    name.push_str(hyphenated)?;
+    Ok(Text::of(name))
+}
+
+fn copy_of(alloc: Global, ask: &Ask) -> Result<Ask, NoMemory>
+    ensures { IfOk result (λ copy. copy ≡ ask.now) }
+{
+    Ok(Ask {
+        host: owned(alloc, ask.host.as_str())?,
+        port: ask.port,
+        term: owned(alloc, ask.term.as_str())?,
+        mode: ask.mode,
+        read_only: ask.read_only,
+        cols: ask.cols,
+        rows: ask.rows,
+    })
+}
