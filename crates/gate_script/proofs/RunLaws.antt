@@ -2,6 +2,7 @@
 use Rattle.std.proofs.Common.{◌≡◌, ℕ, suc, ◌+◌, ◌*◌, List, [], ◌∷◌, ◌++◌, length, Bool, true, false, refl, ap, sym, ◌∙◌, subst, append_assoc, arith}
 use Rattle.std.specs.Prelude.{Result, Ok, Err, OnOk, Option, Some, None, codes}
 use Rattle.std.proofs.Common.{◌≤◌, ◌<◌, ◌⊎◌, inl, inr}
+use Rattle.std.specs.List.{list_any}
 use Rattle.std.specs.Option.{is_some}
 use Rattle.gate_model.specs.Sequences.{IsLater}
 use Rattle.gate_outside.proofs.Moved.{gained-none}
@@ -13,7 +14,7 @@ use Rattle.gate_script.specs.declared.stop.Stop.{Stop}
 use Rattle.gate_script.specs.declared.stop.Stop.TheVariants.{ReadFault, WriteFault, NoMemory, Refused}
 use Rattle.gate_script.specs.declared.refused.Refused.TheVariants.{BadLine}
 use Rattle.gate_script.specs.Lines.{Line, blank, bad, moment, server, read_untold, acknowledge, done, draw_lines}
-use Rattle.gate_script.specs.Grammar.{ending, lines_of, script_lines, in_place, judged, line_of, content, most_script, most_line}
+use Rattle.gate_script.specs.Grammar.{ending, is_start, lines_of, script_lines, in_place, judged, line_of, content, most_script, most_line}
 use Rattle.gate_script.specs.Meanings.{call_meant}
 use Rattle.gate_script.specs.declared.line.Call.{Call}
 use Rattle.gate_script.specs.declared.line.Call.TheVariants.{Server, Join, Read, Write, Take, Leave, Close, Pixel, Same}
@@ -121,6 +122,33 @@ call-unopened (Leave viewer) = refl
 call-unopened Close = refl
 call-unopened (Pixel viewer x y) = refl
 call-unopened (Same one other) = refl
+
+-- .. and after it
+call-opened : (call : Call) → (in_place true (call_meant call) ≡ call_meant call) × (is_start (call_meant call) ≡ false)
+call-opened (Server bytes) = (refl, refl)
+call-opened (Join asked) = (refl, refl)
+call-opened (Read viewer) = (refl, refl)
+call-opened (Write viewer text) = (refl, refl)
+call-opened (Take most) = (refl, refl)
+call-opened (Leave viewer) = (refl, refl)
+call-opened Close = (refl, refl)
+call-opened (Pixel viewer x y) = (refl, refl)
+call-opened (Same one other) = (refl, refl)
+
+-- a line did what its session's call did
+pub call_ends : (call : Call) (lines : List Line) (r r' : Run) (s s' : Session) (a0 f0 a a' f f' : Option (List ℕ)) → r.session ≡ Some s → DoesLines lines r a0 f0 a f → r'.session ≡ Some s' → r'.moment ≡ r.moment → (result : Result (Unit {0}) Stop)
+    → (At lines r.moment s a0 f0 a f → Ends (call_meant call ∷ lines) r.moment result s' a0 f0 a' f') → LineEnds (in_place (is_some r.session) (call_meant call) ∷ lines) result r' a0 f0 a' f'
+call_ends call lines r r' s s' a0 f0 a a' f f' is does is' same result ends = subst (λ (l : Line). LineEnds (l ∷ lines) result r' a0 f0 a' f') (sym placed) (cases result (ends (subst (λ (o : Option Session). Stays lines r.moment o a0 f0 a f) is does.stays)))
+  where
+    placed : in_place (is_some r.session) (call_meant call) ≡ call_meant call
+    placed = ap (λ (o : Option Session). in_place (is_some o) (call_meant call)) is ∙ (call-opened call).0
+
+    started : list_any is_start (call_meant call ∷ lines) ≡ is_some r'.session
+    started = rw (call-opened call).1 (does.opened ∙ (ap (λ (o : Option Session). is_some o) is ∙ sym (ap (λ (o : Option Session). is_some o) is')))
+
+    cases : (result : Result (Unit {0}) Stop) → Ends (call_meant call ∷ lines) r.moment result s' a0 f0 a' f' → LineEnds (call_meant call ∷ lines) result r' a0 f0 a' f'
+    cases (Ok u) at = record { stays = rw (same, is') at; opened = started }
+    cases (Err stop) e = e
 
 -- a line without effect
 pub blank_ends : (lines : List Line) (r : Run) (a0 f0 a f : Option (List ℕ)) → DoesLines lines r a0 f0 a f → DoesLines (blank ∷ lines) r a0 f0 a f

@@ -1,6 +1,6 @@
 -- One line more: what it tells, and how a call ends that stopped in it.
-use Rattle.std.proofs.Common.{◌≡◌, ℕ, List, [], ◌∷◌, ◌++◌, length, take, drop, arith, length-take, length-drop, ◌-◌, ◌+◌, ◌≤◌, Bool, true, false, inl, inr, refl, ap, sym, ◌∙◌, subst, append_assoc, append-nil}
-use Rattle.std.specs.Prelude.{Result, Ok, Err, Option, Some, IfSome, min, codes, not, ◌&&◌, ◌==◌, if◌then◌else◌, IsTrue, ◌↔◌}
+use Rattle.std.proofs.Common.{◌≡◌, ℕ, List, [], ◌∷◌, ◌++◌, length, take, arith, length-take, length-drop, ◌-◌, ◌+◌, ◌≤◌, Bool, true, false, inl, inr, refl, ap, sym, ◌∙◌, subst, append_assoc, append-nil}
+use Rattle.std.specs.Prelude.{Result, Ok, Err, Option, Some, IfSome, min, codes, ◌&&◌, ◌==◌, if◌then◌else◌, IsTrue, ◌↔◌}
 use Rattle.std.specs.Option.{is_some}
 use Rattle.std.proofs.lemmas.List.{take_min}
 use Rattle.std.proofs.Math.Seq.{take-length}
@@ -29,13 +29,13 @@ use Rattle.gate_model.specs.declared.join_refusal.JoinRefusal.TheVariants.{Worn 
 use Rattle.gate_model.specs.declared.read_answer.ReadAnswer.{ReadAnswer}
 use Rattle.gate_model.specs.declared.read_answer.ReadAnswer.TheVariants.{Frames, Fresh, Ended, Empty, Hold}
 use Rattle.gate_model.specs.declared.read_refusal.ReadRefusal.{ReadRefusal}
-use Rattle.gate_model.specs.declared.read_refusal.ReadRefusal.TheVariants.{NoViewer as read_no_viewer, Worn as read_worn}
+use Rattle.gate_model.specs.declared.read_refusal.ReadRefusal.TheVariants.{Worn as read_worn}
 use Rattle.gate_model.specs.declared.write_refusal.WriteRefusal.{WriteRefusal}
 use Rattle.gate_model.specs.declared.write_refusal.WriteRefusal.TheVariants.{Worn as write_worn}
 use Rattle.gate_model.specs.Sequences.{BeginsWith}
 use Rattle.gate_model.specs.Text.{texts}
-use Rattle.gate_model.specs.History.{History, joined, newest, newest_frame, next_stamp, is_closed, is_full}
-use Rattle.gate_model.specs.Delivered.{delivered, given, position, ended}
+use Rattle.gate_model.specs.History.{History, joined, newest, newest_frame, next_stamp, is_closed}
+use Rattle.gate_model.specs.Delivered.{delivered, given}
 use Rattle.gate_model.specs.Output.{out, taken, untaken}
 use Rattle.gate_model.specs.Rights.{is_live}
 use Rattle.gate_model.specs.Statuses.{not_found, session_closed}

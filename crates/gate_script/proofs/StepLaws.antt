@@ -1,5 +1,5 @@
 -- The entries that a call adds, by its answer.
-use Rattle.std.proofs.Common.{◌≡◌, ℕ, ◌+◌, ◌-◌, ◌^◌, min, List, [], ◌∷◌, ◌++◌, length, take, Bool, true, false, not, ◌&&◌, ◌⊎◌, inl, inr, refl, ap, sym, ◌∙◌, subst, arith}
+use Rattle.std.proofs.Common.{◌≡◌, ℕ, ◌+◌, ◌-◌, ◌^◌, min, List, [], ◌∷◌, length, take, Bool, true, false, not, ◌&&◌, ◌⊎◌, inl, inr, refl, ap, sym, ◌∙◌, subst, arith}
 use Rattle.std.specs.Prelude.{Result, Ok, Err, Option, Some, None, ◌==◌}
 use Rattle.std.specs.Option.{option_map}
 use Rattle.std.proofs.lemmas.Bool.Decides.{nat_tests}
@@ -29,7 +29,7 @@ use Rattle.gate_model.specs.Calls.{Adds, Step, lacked, stop_of, take_entry}
 use Rattle.gate_model.specs.Delivered.{position, ended}
 use Rattle.gate_model.specs.History.{History, newest, next_stamp, joined, all_frames, is_closed, is_full}
 use Rattle.gate_model.specs.Output.{untaken}
-use Rattle.gate_model.specs.Refusals.{only_if, first_of, feed_refusal, join_refusal, read_stop, write_refusal, leave_refusal, close_refusal}
+use Rattle.gate_model.specs.Refusals.{only_if, first_of, feed_refusal, join_refusal, write_refusal, leave_refusal, close_refusal}
 use Rattle.gate_model.specs.Rights.{is_live}
 
 -- ---- in general

@@ -306,19 +306,7 @@ impl Run {
         let Some(session) = &mut self.session else {
             return Err(bad);
         };
-        match call {
-            Call::Server(bytes) => session.server(alloc, bytes.as_slice(), now, answers, frames),
-            Call::Join(asked) => session.join(alloc, asked, answers, frames),
-            Call::Read(viewer) => session.read(viewer, answers, frames),
-            Call::Write(viewer, text) => {
-                session.write(alloc, viewer, text.as_slice(), bad, answers)
-            }
-            Call::Take(most) => session.take(alloc, most, answers),
-            Call::Leave(viewer) => session.leave(viewer, answers),
-            Call::Close => session.close(answers),
-            Call::Pixel(viewer, x, y) => session.pixel(viewer, x, y, answers),
-            Call::Same(one, other) => session.same(one, other, answers),
-        }
+        session.answer(alloc, call, now, bad, answers, frames)
     }
 
     // The stop at a line outside the grammar.

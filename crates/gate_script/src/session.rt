@@ -7,6 +7,7 @@ ghost use Rattle.gate_outside.specs.Edge.{Rose};
 ghost use Rattle.gate_script.specs.Plays.{setup_of};
 
 use crate::acts::read_acts;
+use crate::line::Call;
 use crate::playing::{play_text, played};
 use crate::reading::Reading;
 use crate::refused::Refused;
@@ -42,6 +43,7 @@ impl Session {
     ghost use Rattle.gate_script.specs.declared.stop.Stop.TheVariants.{ReadFault, WriteFault};
     ghost use Rattle.gate_script.specs.Acts.{IsReading};
     ghost use Rattle.gate_script.specs.Lines.{Line, start, server, join, read, write, take_up_to, leave, close, pixel, same, read_untold, acknowledge, done};
+    ghost use Rattle.gate_script.specs.Meanings.{IsCallInRange, call_meant};
     ghost use Rattle.gate_script.specs.Told.{frames_line, joined_line, read_told};
     ghost use Rattle.gate_script.specs.Running.{At, Ends, HasCause, IsOpenDesk, Put, Reported, Told, read_shown, stopped_at};
     ghost use Rattle.gate_script.specs.Seeing.{PlaysOn, TakesAway};
@@ -96,6 +98,37 @@ impl Session {
             answers,
             frames,
         )
+    }
+
+    /// Makes a call at the moment `now`. `bad` is the stop of a line outside the grammar.
+    pub(crate) fn answer<A: Sink, F: Sink>(
+        &mut self,
+        alloc: Global,
+        call: Call,
+        now: u64,
+        bad: Stop,
+        answers: &mut A,
+        frames: &mut F,
+    ) -> Result<(), Stop>
+        requires { IsCallInRange call }
+        ensures step { (lines : List Line) (a0 f0 : Option (List ℕ)) → bad ≡ stopped_at (length lines + 1) →
+            At lines now self.old a0 f0 (A.written answers.old) (F.written frames.old) →
+            Ends (call_meant call ∷ lines) now result self.new a0 f0 (A.written answers.new) (F.written frames.new) }
+        ensures later_answers { A.faults answers.old ≤ A.faults answers.new }
+        ensures later_frames { F.faults frames.old ≤ F.faults frames.new }
+        ensures cause { bad ≢ ReadFault → bad ≢ WriteFault → IfErr result (λ stop. HasCause stop ⊥ (Rose (A.faults answers.old) (A.faults answers.new) ⊎ Rose (F.faults frames.old) (F.faults frames.new))) }
+    {
+        match call {
+            Call::Server(bytes) => self.server(alloc, bytes.as_slice(), now, answers, frames),
+            Call::Join(asked) => self.join(alloc, asked, answers, frames),
+            Call::Read(viewer) => self.read(viewer, answers, frames),
+            Call::Write(viewer, text) => self.write(alloc, viewer, text.as_slice(), bad, answers),
+            Call::Take(most) => self.take(alloc, most, answers),
+            Call::Leave(viewer) => self.leave(viewer, answers),
+            Call::Close => self.close(answers),
+            Call::Pixel(viewer, x, y) => self.pixel(viewer, x, y, answers),
+            Call::Same(one, other) => self.same(one, other, answers),
+        }
     }
 
     /// The host sends 1 to 65,536 bytes at the moment `now`.

@@ -1,6 +1,5 @@
 use Rattle.std.proofs.Common.{ℕ, [], ◌∷◌, refl, subst}
 use Rattle.std.specs.Prelude.{codes}
-use Rattle.gate_script.specs.Lines.{leave}
 use Rattle.gate_script.specs.Told.{answer_line}
 use Rattle.gate_script.specs.Running.{Put}
 use Rattle.gate_script.proofs.SessionLaws.{viewer_left, leave_refused}
