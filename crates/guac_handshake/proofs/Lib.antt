@@ -4,4 +4,6 @@ pub mod Replying
 pub mod Behind
 pub mod First
 pub mod Endings
+pub mod Causes
 pub mod InMemory
+mod AskFacts

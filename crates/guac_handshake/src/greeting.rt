@@ -2,8 +2,9 @@
 
 ghost use Rattle.std.specs.Prelude.{◌≡◌, ◌<◌, ◌≤◌, [], IfErr, IfOk, length};
 ghost use Rattle.gate_outside.specs.Edge.{Rose};
+ghost use Rattle.guac_handshake.specs.Causes.{IsEarly};
 ghost use Rattle.guac_handshake.specs.Doors.{IsBusy, IsDial, logged, one_more_out};
-ghost use Rattle.guac_handshake.specs.Greetings.{HasAsked, HasConnected, HasKept, HasOut, HasSelected, IsFound, IsGreeting, IsServed, IsToldError, IsToldReady, MayRefuse, stopped_as};
+ghost use Rattle.guac_handshake.specs.Greetings.{HasAsked, HasConnected, HasKept, HasOut, HasSelected, IfReady, IsFound, IsGreeting, IsServed, IsToldError, IsToldReady, MayRefuse, stopped_as};
 
 use crate::expected::{Expected, Said};
 use crate::hearing::hear;
@@ -36,6 +37,7 @@ fn connect<S: Source>(
 ) -> Result<Request, Stop>
     requires { 0 < length piece.old }
     ensures connected { HasConnected selected.now (S.left source.old) (S.left source.new) unread.old unread.new result }
+    ensures early { IfErr result (IsEarly ⊥) }
     ensures fault { IfErr result (λ stop. stop ≡ Stop.ReadFault → Rose (S.faults source.old) (S.faults source.new)) }
     ensures later { S.faults source.old ≤ S.faults source.new }
 {
@@ -69,6 +71,7 @@ fn select<R: Wait, S: Source, D: Door>(
 ) -> Result<Selected, Stop>
     requires { 0 < length piece.old }
     ensures selected { HasSelected D.id_of (D.sessions door.old) (S.left source.old) (S.left source.new) unread.old unread.new result }
+    ensures early { IfErr result (IsEarly ⊥) }
     ensures asked { D.asked door.new ≡ D.asked door.old }
     ensures out { D.out door.new ≡ D.out door.old }
     ensures dials { D.dial_faults door.new ≡ D.dial_faults door.old }
@@ -86,6 +89,7 @@ fn select<R: Wait, S: Source, D: Door>(
 // What is selected by the name.
 fn look<R: Wait, D: Door>(rt: &R, door: &mut D, name: Text) -> Result<Selected, Stop>
     ensures found { IsFound D.id_of (D.sessions door.old) name result }
+    ensures early { IfErr result (IsEarly ⊥) }
     ensures asked { D.asked door.new ≡ D.asked door.old }
     ensures out { D.out door.new ≡ D.out door.old }
     ensures dials { D.dial_faults door.new ≡ D.dial_faults door.old }
@@ -137,6 +141,7 @@ fn read_request<R: Wait, S: Source, K: Sink, D: Door>(
     ensures out { D.out door.new ≡ D.out door.old }
     ensures dials { D.dial_faults door.new ≡ D.dial_faults door.old }
     ensures starts { D.start_faults door.new ≡ D.start_faults door.old }
+    ensures early { IfErr result (IsEarly (Rose (K.faults sink.old) (K.faults sink.new))) }
     ensures read_fault { IfErr result (λ stop. stop ≡ Stop.ReadFault → Rose (S.faults source.old) (S.faults source.new)) }
     ensures later_reads { S.faults source.old ≤ S.faults source.new }
     ensures later_writes { K.faults sink.old ≤ K.faults sink.new }
@@ -156,6 +161,7 @@ fn ready<R: Wait, K: Sink, D: Door>(
     welcome: Welcome<D::Place>,
 ) -> Greeted<D::Place>
     ensures told { IsToldReady welcome (K.written sink.old) (K.written sink.new) result }
+    ensures write_fault { result ≡ Greeted.WriteFault → Rose (K.faults sink.old) (K.faults sink.new) }
     ensures out { HasKept (D.out door.old) (D.out door.new) result }
     ensures asked { D.asked door.new ≡ D.asked door.old }
     ensures dials { D.dial_faults door.new ≡ D.dial_faults door.old }
@@ -179,6 +185,7 @@ fn ready<R: Wait, K: Sink, D: Door>(
 // Tells the client why it is refused.
 fn refuse<P, K: Sink>(alloc: Global, sink: &mut K, status: u16) -> Greeted<P>
     ensures told { IsToldError status (K.written sink.old) (K.written sink.new) result }
+    ensures write_fault { result ≡ Greeted.WriteFault → Rose (K.faults sink.old) (K.faults sink.new) }
     ensures later { K.faults sink.old ≤ K.faults sink.new }
 {
     match write_error(alloc, sink, status) {
@@ -210,6 +217,10 @@ fn serve<R: Threads + Wait + Copy + Send + 'static, K: Sink, D: Door>(
 ) -> Greeted<D::Place>
     ensures served { IsServed request.now (K.written sink.old) (K.written sink.new) (D.asked door.old) (D.asked door.new) result }
     ensures out { HasOut (D.out door.old) (D.out door.new) result }
+    ensures write_fault { result ≡ Greeted.WriteFault → Rose (K.faults sink.old) (K.faults sink.new) }
+    ensures dial { result ≡ Greeted.Refused 519 → Rose (D.dial_faults door.old) (D.dial_faults door.new) }
+    ensures busy { result ≡ Greeted.Refused 513 → Rose (D.start_faults door.old) (D.start_faults door.new) }
+    ensures fresh { IfReady result (λ place first. D.Place.fresh place first) }
     ensures later_dials { D.dial_faults door.old ≤ D.dial_faults door.new }
     ensures later_starts { D.start_faults door.old ≤ D.start_faults door.new }
     ensures later { K.faults sink.old ≤ K.faults sink.new }
@@ -231,6 +242,11 @@ fn converse<R: Threads + Wait + Copy + Send + 'static, S: Source, K: Sink, D: Do
     requires { unread.old ≡ [] }
     ensures greeting { IsGreeting D.id_of (D.sessions door.old) (S.left source.old) (S.left source.new) (K.written sink.old) (K.written sink.new) (D.asked door.old) (D.asked door.new) unread.new result }
     ensures out { HasOut (D.out door.old) (D.out door.new) result }
+    ensures read_fault { result ≡ Greeted.ReadFault → Rose (S.faults source.old) (S.faults source.new) }
+    ensures write_fault { result ≡ Greeted.WriteFault → Rose (K.faults sink.old) (K.faults sink.new) }
+    ensures dial { result ≡ Greeted.Refused 519 → Rose (D.dial_faults door.old) (D.dial_faults door.new) }
+    ensures busy { result ≡ Greeted.Refused 513 → Rose (D.start_faults door.old) (D.start_faults door.new) }
+    ensures fresh { IfReady result (λ place first. D.Place.fresh place first) }
     ensures later_dials { D.dial_faults door.old ≤ D.dial_faults door.new }
     ensures later_starts { D.start_faults door.old ≤ D.start_faults door.new }
     ensures later_reads { S.faults source.old ≤ S.faults source.new }
@@ -259,6 +275,11 @@ pub fn greet<R: Threads + Wait + Copy + Send + 'static, S: Source, K: Sink, D: D
 ) -> Greeted<D::Place>
     ensures greeting { IsGreeting D.id_of (D.sessions door.old) (S.left source.old) (S.left source.new) (K.written sink.old) (K.written sink.new) (D.asked door.old) (D.asked door.new) rest.new.items result }
     ensures out { HasOut (D.out door.old) (D.out door.new) result }
+    ensures read_fault { result ≡ Greeted.ReadFault → Rose (S.faults source.old) (S.faults source.new) }
+    ensures write_fault { result ≡ Greeted.WriteFault → Rose (K.faults sink.old) (K.faults sink.new) }
+    ensures dial { result ≡ Greeted.Refused 519 → Rose (D.dial_faults door.old) (D.dial_faults door.new) }
+    ensures busy { result ≡ Greeted.Refused 513 → Rose (D.start_faults door.old) (D.start_faults door.new) }
+    ensures fresh { IfReady result (λ place first. D.Place.fresh place first) }
     ensures later_dials { D.dial_faults door.old ≤ D.dial_faults door.new }
     ensures later_starts { D.start_faults door.old ≤ D.start_faults door.new }
     ensures later_reads { S.faults source.old ≤ S.faults source.new }

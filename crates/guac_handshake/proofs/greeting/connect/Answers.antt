@@ -6,6 +6,7 @@ use Rattle.guac_handshake.specs.declared.stop.Stop.TheVariants.{Refused}
 use Rattle.guac_handshake.specs.Greetings.{OutOfForm}
 use Rattle.guac_handshake.specs.Statuses.{bad_request}
 use Rattle.guac_handshake.proofs.Behind.{connected, connected_many, connected_stop, read_more, read_none, said_asks, said_bad, said_is, said_others, said_sizes, values_of}
+use Rattle.guac_handshake.proofs.Causes.{early_heard}
 use Rattle.guac_handshake.proofs.greeting.connect.Goals as goal
 use Rattle.guac_handshake.proofs.greeting.connect.Goals.{in-Size, in-Other}
 
@@ -51,3 +52,9 @@ reading-preserved g c =
 
 pub returns-clause-connected : goal.returns-clause-connected
 returns-clause-connected g c = connected_many c.args.selected.now _ _ _ _ _ _ c.reading.invariant.so_far (omega arith)
+
+pub returns-in_err-request-clause-early : goal.returns-in_err-request-clause-early
+returns-in_err-request-clause-early g c =
+    let r = c.from_residual in
+    let p = err_from_is_err_and r.result r.ensures.1 in
+    early_heard _ _ _ _ _ _ r.result c.in_err-request.ensures.heard (p.1 ∙ ap (λ (s : Stop). Err s) p.2)

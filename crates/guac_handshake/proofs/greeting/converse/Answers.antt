@@ -1,5 +1,6 @@
 use Rattle.std.proofs.Common.{refl}
 use Rattle.guac_handshake.proofs.Endings.{greeted_ended, greeted_ok, greeted_refused, greeted_short, greeted_unread, greeted_unwritten}
+use Rattle.guac_handshake.proofs.Causes.{early_cause, error_fresh, error_read, not_early, rose_after, rose_from, served_read, told_status}
 use Rattle.guac_handshake.proofs.greeting.converse.Goals as goal
 
 pub returns-in-Ok-clause-greeting : goal.returns-in-Ok-clause-greeting
@@ -19,3 +20,36 @@ returns-in-Err-WriteFault-clause-greeting g c = greeted_unwritten _ _ _ _ _ _ _ 
 
 pub returns-in-Err-NoMemory-clause-greeting : goal.returns-in-Err-NoMemory-clause-greeting
 returns-in-Err-NoMemory-clause-greeting g c = greeted_short _ _ _ _ _ _ _ _ _ _ _ _ c.requires c.read_request.ensures.asked refl refl _ c.in-Err-NoMemory.ensures.request c.in-Err-NoMemory.field-0-is
+
+pub returns-in-Ok-clause-read_fault : goal.returns-in-Ok-clause-read_fault
+returns-in-Ok-clause-read_fault g c = λ e. absurd (served_read _ _ _ _ _ _ c.serve.ensures.served e)
+
+pub returns-in-Ok-clause-write_fault : goal.returns-in-Ok-clause-write_fault
+returns-in-Ok-clause-write_fault g c = λ e. rose_after _ _ _ c.read_request.ensures.later_writes (c.serve.ensures.write_fault e)
+
+pub returns-in-Ok-clause-dial : goal.returns-in-Ok-clause-dial
+returns-in-Ok-clause-dial g c = λ e. rose_from _ _ _ c.read_request.ensures.dials (c.serve.ensures.dial e)
+
+pub returns-in-Ok-clause-busy : goal.returns-in-Ok-clause-busy
+returns-in-Ok-clause-busy g c = λ e. rose_from _ _ _ c.read_request.ensures.starts (c.serve.ensures.busy e)
+
+pub returns-in-Err-Refused-clause-read_fault : goal.returns-in-Err-Refused-clause-read_fault
+returns-in-Err-Refused-clause-read_fault g c = λ e. absurd (error_read _ _ _ _ c.refuse.ensures.told e)
+
+pub returns-in-Err-Refused-clause-write_fault : goal.returns-in-Err-Refused-clause-write_fault
+returns-in-Err-Refused-clause-write_fault g c = λ e. rose_after _ _ _ c.read_request.ensures.later_writes (c.refuse.ensures.write_fault e)
+
+pub returns-in-Err-Refused-clause-dial : goal.returns-in-Err-Refused-clause-dial
+returns-in-Err-Refused-clause-dial g c = λ e. absurd ((not_early _ _ _ c.in-Err-Refused.ensures.early c.in-Err-Refused.field-0-is).0 (told_status _ _ _ 519 _ c.refuse.ensures.told e))
+
+pub returns-in-Err-Refused-clause-busy : goal.returns-in-Err-Refused-clause-busy
+returns-in-Err-Refused-clause-busy g c = λ e. absurd ((not_early _ _ _ c.in-Err-Refused.ensures.early c.in-Err-Refused.field-0-is).1 (told_status _ _ _ 513 _ c.refuse.ensures.told e))
+
+pub returns-in-Err-Refused-clause-fresh : goal.returns-in-Err-Refused-clause-fresh
+returns-in-Err-Refused-clause-fresh g c = error_fresh _ _ _ _ _ c.refuse.ensures.told
+
+pub returns-in-Err-ReadFault-clause-read_fault : goal.returns-in-Err-ReadFault-clause-read_fault
+returns-in-Err-ReadFault-clause-read_fault g c = λ e. c.in-Err-ReadFault.ensures.read_fault c.in-Err-ReadFault.field-0-is
+
+pub returns-in-Err-WriteFault-clause-write_fault : goal.returns-in-Err-WriteFault-clause-write_fault
+returns-in-Err-WriteFault-clause-write_fault g c = λ e. early_cause _ _ c.in-Err-WriteFault.ensures.early c.in-Err-WriteFault.field-0-is

@@ -6,6 +6,7 @@ use Rattle.guac_handshake.specs.declared.request.Request.{Request}
 use Rattle.guac_handshake.specs.declared.stop.Stop.{Stop}
 use Rattle.guac_handshake.specs.declared.stop.Stop.TheVariants.{ReadFault}
 use Rattle.guac_handshake.proofs.First.{asked_early, asked_none, asked_on, asked_unwritten, later_fault}
+use Rattle.guac_handshake.proofs.Causes.{early_end, early_on, early_short, early_unwritten}
 use Rattle.guac_handshake.proofs.greeting.read_request.Goals as goal
 
 pub returns-in_err-piece-clause-request : goal.returns-in_err-piece-clause-request
@@ -38,3 +39,24 @@ returns-clause-request g c = asked_on _ _ _ _ _ _ _ _ _ _ _ _ c.in_ok-selected.e
 
 pub returns-clause-read_fault : goal.returns-clause-read_fault
 returns-clause-read_fault g c = later_fault _ _ _ _ c.select.ensures.later c.connect.ensures.fault
+
+pub returns-in_err-piece-clause-early : goal.returns-in_err-piece-clause-early
+returns-in_err-piece-clause-early g c =
+    let r = c.from_residual in
+    let p = err_from_is_err_and r.result r.ensures.1 in
+    early_short _ r.result (p.1 ∙ ap (λ (s : Stop). Err s) p.2)
+
+pub returns-in_err-selected-clause-early : goal.returns-in_err-selected-clause-early
+returns-in_err-selected-clause-early g c =
+    let r = c.from_residual-in_err-selected in
+    let p = err_from_is_err_and r.result r.ensures.1 in
+    early_on _ _ r.result c.in_err-selected.ensures.early (p.1 ∙ ap (λ (s : Stop). Err s) p.2)
+
+pub returns-in_err-write_args-clause-early : goal.returns-in_err-write_args-clause-early
+returns-in_err-write_args-clause-early g c =
+    let r = c.from_residual-in_err-write_args in
+    let p = err_from_is_err_and r.result r.ensures.1 in
+    early_unwritten _ r.result c.in_err-write_args.ensures.cause (p.1 ∙ ap (λ (s : Stop). Err s) (p.2 ∙ c.in_err-write_args.ensures.kind))
+
+pub returns-clause-early : goal.returns-clause-early
+returns-clause-early g c = early_end _ _ c.connect.ensures.early

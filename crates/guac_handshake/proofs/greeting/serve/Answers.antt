@@ -1,5 +1,7 @@
-use Rattle.std.proofs.Common.{◌∙◌}
+use Rattle.std.proofs.Common.{◌∙◌, Err, ap}
 use Rattle.guac_handshake.proofs.Endings.{serve_err, serve_ok}
+use Rattle.guac_handshake.specs.declared.refused.Refused.{Refused}
+use Rattle.guac_handshake.proofs.Causes.{error_fresh, ready_fresh, ready_not_refused, told_busy, told_dial}
 use Rattle.guac_handshake.proofs.greeting.serve.Goals as goal
 
 pub returns-in-Ok-clause-served : goal.returns-in-Ok-clause-served
@@ -7,3 +9,21 @@ returns-in-Ok-clause-served g c = serve_ok c.args.request.now _ _ _ _ _ _ (c.rea
 
 pub returns-in-Err-clause-served : goal.returns-in-Err-clause-served
 returns-in-Err-clause-served g c = serve_err c.args.request.now _ _ _ _ c.in-Err.refused _ _ c.in-Err.ensures.kind c.status_of.ensures c.in-Err.ensures.asked c.refuse.ensures.told
+
+pub returns-in-Ok-clause-dial : goal.returns-in-Ok-clause-dial
+returns-in-Ok-clause-dial g c = λ e. absurd (ready_not_refused _ _ _ 519 _ c.ready.ensures.told e)
+
+pub returns-in-Ok-clause-busy : goal.returns-in-Ok-clause-busy
+returns-in-Ok-clause-busy g c = λ e. absurd (ready_not_refused _ _ _ 513 _ c.ready.ensures.told e)
+
+pub returns-in-Ok-clause-fresh : goal.returns-in-Ok-clause-fresh
+returns-in-Ok-clause-fresh g c = ready_fresh _ _ _ _ _ c.in-Ok.ensures.fresh c.ready.ensures.told
+
+pub returns-in-Err-clause-dial : goal.returns-in-Err-clause-dial
+returns-in-Err-clause-dial g c = λ e. c.in-Err.ensures.dial (ap (λ (r : Refused). Err r) (told_dial _ _ c.in-Err.refused _ _ c.status_of.ensures c.refuse.ensures.told e))
+
+pub returns-in-Err-clause-busy : goal.returns-in-Err-clause-busy
+returns-in-Err-clause-busy g c = λ e. c.in-Err.ensures.busy (ap (λ (r : Refused). Err r) (told_busy _ _ c.in-Err.refused _ _ c.status_of.ensures c.refuse.ensures.told e))
+
+pub returns-in-Err-clause-fresh : goal.returns-in-Err-clause-fresh
+returns-in-Err-clause-fresh g c = error_fresh _ _ _ _ _ c.refuse.ensures.told

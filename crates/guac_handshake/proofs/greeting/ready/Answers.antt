@@ -1,0 +1,6 @@
+use Rattle.std.proofs.Common.{sym, ◌∙◌}
+use Rattle.guac_handshake.proofs.Causes.{stopped_write}
+use Rattle.guac_handshake.proofs.greeting.ready.Goals as goal
+
+pub returns-in-Err-clause-write_fault : goal.returns-in-Err-clause-write_fault
+returns-in-Err-clause-write_fault g c = λ e. stopped_write _ c.in-Err.stop c.in-Err.ensures.kind (sym c.stopped.ensures ∙ e)
