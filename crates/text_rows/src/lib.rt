@@ -1,5 +1,5 @@
-//! The notation of bytes in files of rows, which the programs `script_rows` and `unit_rows` read: text
-//! with escapes, and pieces that are repeated (this project's own rule). Nothing else stands on it.
+//! The notation of bytes in files of rows, which the programs of rows read: text with escapes, and pieces
+//! that are repeated (this project's own rule). Nothing else stands on it.
 //!
 //! - `\n`, `\r`, `\t` and `\e` are LF, CR, HT and ESC, and `\x` with two hexadecimal digits is a byte.
 //! - `\\` and `\}` are the backslash and the brace.
