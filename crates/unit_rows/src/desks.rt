@@ -2,7 +2,7 @@
 
 ghost use Rattle.std.specs.Prelude.{◌≡◌, ℕ, ◌<◌, ◌≤◌, ◌^◌, get_or, length, IfOk, OnOk};
 ghost use Rattle.gate_model.specs.declared.event.Event.{Event as Calls};
-ghost use Rattle.gate_model.specs.Runs.{MeetsCondition};
+ghost use Rattle.gate_model.specs.Calls.{MeetsCondition};
 
 use crate::keys::{asked_of, share_of};
 use crate::words::{bytes_of, first_word, push_escaped, push_hexadecimal};
@@ -206,6 +206,6 @@ pub fn roles(alloc: Global, input: &str) -> Result<String> {
 fn role_of_joiner(desk: &mut Desk, alloc: Global, asked: Asked) -> Result<Role, JoinRefusal> {
     // That the viewer is there follows from what the desk stands for, which this call tells.
     let _entries = desk.entries();
-    let joined = desk.join(alloc, asked, &mut Vec::new(alloc))?;
+    let joined = desk.join(asked, &mut Vec::new(alloc))?;
     Ok(desk.role(joined.viewer))
 }
