@@ -13,8 +13,8 @@ use Rattle.guac_handshake.specs.declared.stop.Stop.{Stop}
 use Rattle.guac_handshake.specs.declared.stop.Stop.TheVariants as stop
 use Rattle.guac_handshake.specs.declared.welcome.Welcome.{Welcome}
 use Rattle.guac_handshake.specs.Asks.{Wish, Wants, asks, selected}
-use Rattle.guac_handshake.specs.Doors.{Sessions, asked_more, logged_for}
-use Rattle.guac_handshake.specs.Greetings.{AskedAsWished, AskedAtMost, AskedOnce, ByDoor, ByForm, Ends, ErrorReply, HasAsked, IsGreeting, IsServed, IsToldError, IsToldReady, MayRefuse, NoReply, NotAsked, ReadyReply, RefusedEarly, Unasked, Wished}
+use Rattle.guac_handshake.specs.Doors.{MayRefuse, Sessions, asked_more, logged_for}
+use Rattle.guac_handshake.specs.Greetings.{AskedAsWished, AskedAtMost, AskedOnce, ByDoor, ByForm, Ends, ErrorReply, HasAsked, IsGreeting, IsServed, IsToldError, IsToldReady, NoReply, NotAsked, ReadyReply, RefusedEarly, Unasked, Wished}
 use Rattle.guac_handshake.specs.Statuses.{status_of}
 use Rattle.guac_handshake.specs.Splits.{Splits}
 use Rattle.guac_handshake.specs.Texts.{args_for, error_text, ready_text}
@@ -31,22 +31,22 @@ at_most before now request refused.TooMany e = AskedOnce e
 at_most before now request refused.Worn e = AskedOnce e
 
 -- the door let the viewer in
-pub serve_ok : {P : Type 0} (request : Request) (w v : Option (List ℕ)) (a b : Option (List Request)) (welcome : Welcome P) (result : Greeted P) → b ≡ asked_more a request → IsToldReady welcome w v result → IsServed request w v a b result
-serve_ok request w v a b welcome (greeted.Ready other) e t = (t.1, e)
-serve_ok request w v a b welcome (greeted.Refused status) e t = absurd t
-serve_ok request w v a b welcome greeted.Ended e t = absurd t
-serve_ok request w v a b welcome greeted.ReadFault e t = absurd t
-serve_ok request w v a b welcome greeted.WriteFault e t = (ready_text welcome.id, ReadyReply welcome.id refl, t, AskedOnce e)
-serve_ok request w v a b welcome greeted.NoMemory e t = (ready_text welcome.id, ReadyReply welcome.id refl, t, AskedOnce e)
+pub serve_ok : {P : Type 0} (May : Request → Refused → Type 0) (request : Request) (w v : Option (List ℕ)) (a b : Option (List Request)) (welcome : Welcome P) (result : Greeted P) → b ≡ asked_more a request → IsToldReady welcome w v result → IsServed May request w v a b result
+serve_ok May request w v a b welcome (greeted.Ready other) e t = (t.1, e)
+serve_ok May request w v a b welcome (greeted.Refused status) e t = absurd t
+serve_ok May request w v a b welcome greeted.Ended e t = absurd t
+serve_ok May request w v a b welcome greeted.ReadFault e t = absurd t
+serve_ok May request w v a b welcome greeted.WriteFault e t = (ready_text welcome.id, ReadyReply welcome.id refl, t, AskedOnce e)
+serve_ok May request w v a b welcome greeted.NoMemory e t = (ready_text welcome.id, ReadyReply welcome.id refl, t, AskedOnce e)
 
 -- the door refused
-pub serve_err : {P : Type 0} (request : Request) (w v : Option (List ℕ)) (a b : Option (List Request)) (r : Refused) (status : ℕ) (result : Greeted P) → MayRefuse request r → status ≡ status_of r → b ≡ logged_for a request r → IsToldError status w v result → IsServed request w v a b result
-serve_err request w v a b r status (greeted.Ready other) may is e t = absurd t
-serve_err request w v a b r status (greeted.Refused told) may is e t = (r, may, t.0 ∙ is, t.1, e)
-serve_err request w v a b r status greeted.Ended may is e t = absurd t
-serve_err request w v a b r status greeted.ReadFault may is e t = absurd t
-serve_err request w v a b r status greeted.WriteFault may is e t = (error_text status, ErrorReply status refl, t, at_most a b request r e)
-serve_err request w v a b r status greeted.NoMemory may is e t = (error_text status, ErrorReply status refl, t, at_most a b request r e)
+pub serve_err : {P : Type 0} (May : Request → Refused → Type 0) (request : Request) (w v : Option (List ℕ)) (a b : Option (List Request)) (r : Refused) (status : ℕ) (result : Greeted P) → May request r → status ≡ status_of r → b ≡ logged_for a request r → IsToldError status w v result → IsServed May request w v a b result
+serve_err May request w v a b r status (greeted.Ready other) may is e t = absurd t
+serve_err May request w v a b r status (greeted.Refused told) may is e t = (r, may, t.0 ∙ is, t.1, e)
+serve_err May request w v a b r status greeted.Ended may is e t = absurd t
+serve_err May request w v a b r status greeted.ReadFault may is e t = absurd t
+serve_err May request w v a b r status greeted.WriteFault may is e t = (error_text status, ErrorReply status refl, t, at_most a b request r e)
+serve_err May request w v a b r status greeted.NoMemory may is e t = (error_text status, ErrorReply status refl, t, at_most a b request r e)
 
 -- a text after the parameters
 gained_on : (w m v : Option (List ℕ)) (args text : List ℕ) → m ≡ gained w args → v ≡ gained m text → v ≡ gained w (args ++ text)
@@ -60,27 +60,27 @@ wished : (wish : Wish) (a b : Option (List Request)) (request : Request) → wis
 wished wish a b request is (NotAsked e) = Unasked e
 wished wish a b request is (AskedOnce e) = Wished request is e
 
-ends_served : {P : Type 0} (wish : Wish) (args rest : List ℕ) (left w m v : Option (List ℕ)) (a b : Option (List Request)) (request : Request) (result : Greeted P) → wish ≡ Wants request → m ≡ gained w args → IsServed request m v a b result → Ends wish args rest left w v a b result
-ends_served wish args rest left w m v a b request (greeted.Ready welcome) is e s = (request, is, gained_on w m v args (ready_text welcome.id) e s.0, s.1)
-ends_served wish args rest left w m v a b request (greeted.Refused status) is e s = (gained_on w m v args (error_text status) e s.3, ByDoor request s.0 is s.1 s.2 s.4)
-ends_served wish args rest left w m v a b request greeted.Ended is e s = absurd s
-ends_served wish args rest left w m v a b request greeted.ReadFault is e s = absurd s
-ends_served wish args rest left w m v a b request greeted.WriteFault is e s = (s.0, s.1, front_on w m v args s.0 e s.2, wished wish a b request is s.3)
-ends_served wish args rest left w m v a b request greeted.NoMemory is e s = (s.0, s.1, front_on w m v args s.0 e s.2, wished wish a b request is s.3)
+ends_served : {P : Type 0} (May : Request → Refused → Type 0) (wish : Wish) (args rest : List ℕ) (left w m v : Option (List ℕ)) (a b : Option (List Request)) (request : Request) (result : Greeted P) → wish ≡ Wants request → m ≡ gained w args → IsServed May request m v a b result → Ends May wish args rest left w v a b result
+ends_served May wish args rest left w m v a b request (greeted.Ready welcome) is e s = (request, is, gained_on w m v args (ready_text welcome.id) e s.0, s.1)
+ends_served May wish args rest left w m v a b request (greeted.Refused status) is e s = (gained_on w m v args (error_text status) e s.3, ByDoor request s.0 is s.1 s.2 s.4)
+ends_served May wish args rest left w m v a b request greeted.Ended is e s = absurd s
+ends_served May wish args rest left w m v a b request greeted.ReadFault is e s = absurd s
+ends_served May wish args rest left w m v a b request greeted.WriteFault is e s = (s.0, s.1, front_on w m v args s.0 e s.2, wished wish a b request is s.3)
+ends_served May wish args rest left w m v a b request greeted.NoMemory is e s = (s.0, s.1, front_on w m v args s.0 e s.2, wished wish a b request is s.3)
 
-ends_refused : {P : Type 0} (wish : Wish) (args rest : List ℕ) (left w m v : Option (List ℕ)) (a b : Option (List Request)) (status : ℕ) (result : Greeted P) → RefusedEarly wish rest status → m ≡ gained w args → b ≡ a → IsToldError status m v result → Ends wish args rest left w v a b result
-ends_refused wish args rest left w m v a b status (greeted.Ready welcome) early e same t = absurd t
-ends_refused wish args rest left w m v a b status (greeted.Refused told) early e same t = (gained_on w m v args (error_text told) e t.1, ByForm (subst (λ (s : ℕ). RefusedEarly wish rest s) (sym t.0) early) same)
-ends_refused wish args rest left w m v a b status greeted.Ended early e same t = absurd t
-ends_refused wish args rest left w m v a b status greeted.ReadFault early e same t = absurd t
-ends_refused wish args rest left w m v a b status greeted.WriteFault early e same t = (error_text status, ErrorReply status refl, front_on w m v args (error_text status) e t, Unasked same)
-ends_refused wish args rest left w m v a b status greeted.NoMemory early e same t = (error_text status, ErrorReply status refl, front_on w m v args (error_text status) e t, Unasked same)
+ends_refused : {P : Type 0} (May : Request → Refused → Type 0) (wish : Wish) (args rest : List ℕ) (left w m v : Option (List ℕ)) (a b : Option (List Request)) (status : ℕ) (result : Greeted P) → RefusedEarly wish rest status → m ≡ gained w args → b ≡ a → IsToldError status m v result → Ends May wish args rest left w v a b result
+ends_refused May wish args rest left w m v a b status (greeted.Ready welcome) early e same t = absurd t
+ends_refused May wish args rest left w m v a b status (greeted.Refused told) early e same t = (gained_on w m v args (error_text told) e t.1, ByForm (subst (λ (s : ℕ). RefusedEarly wish rest s) (sym t.0) early) same)
+ends_refused May wish args rest left w m v a b status greeted.Ended early e same t = absurd t
+ends_refused May wish args rest left w m v a b status greeted.ReadFault early e same t = absurd t
+ends_refused May wish args rest left w m v a b status greeted.WriteFault early e same t = (error_text status, ErrorReply status refl, front_on w m v args (error_text status) e t, Unasked same)
+ends_refused May wish args rest left w m v a b status greeted.NoMemory early e same t = (error_text status, ErrorReply status refl, front_on w m v args (error_text status) e t, Unasked same)
 
 no_reply : (w m v : Option (List ℕ)) (args : List ℕ) → v ≡ m → GainedFront w m args → GainedFront w v (args ++ [])
 no_reply w m v args written f = subst (λ (l : List ℕ). GainedFront w v l) (sym (append-nil args)) (f.0, f.1, written ∙ f.2)
 
-module _ {P : Type 0} (id_of : List ℕ → Option (List ℕ)) (sessions : Option Sessions) (a b w m v : Option (List ℕ)) (asked_old asked_mid asked_new : Option (List Request)) (unread rest : List ℕ) (empty : unread ≡ []) (same : asked_mid ≡ asked_old) where
-  made : (result : Result Request Stop) (greeted : Greeted P) (h : HasAsked id_of sessions a b w m unread rest result) → Ends (asks h.known h.instructions) (args_for (selected h.known h.instructions)) rest b w v asked_old asked_new greeted → IsGreeting id_of sessions a b w v asked_old asked_new rest greeted
+module _ {P : Type 0} (id_of : List ℕ → Option (List ℕ)) (sessions sessions_new : Option Sessions) (draws : Option (ℕ → List ℕ)) (a b w m v : Option (List ℕ)) (asked_old asked_mid asked_new : Option (List Request)) (unread rest : List ℕ) (empty : unread ≡ []) (same : asked_mid ≡ asked_old) where
+  made : (result : Result Request Stop) (greeted : Greeted P) (h : HasAsked id_of sessions a b w m unread rest result) → Ends (MayRefuse id_of sessions draws sessions_new) (asks h.known h.instructions) (args_for (selected h.known h.instructions)) rest b w v asked_old asked_new greeted → IsGreeting id_of sessions sessions_new draws a b w v asked_old asked_new rest greeted
   made result greeted h ends = record {
     bytes = h.bytes;
     instructions = h.instructions;
@@ -91,34 +91,34 @@ module _ {P : Type 0} (id_of : List ℕ → Option (List ℕ)) (sessions : Optio
     ends = ends;
   }
 
-  pub greeted_ok : (request : Request) (greeted : Greeted P) → HasAsked id_of sessions a b w m unread rest (Ok request) → IsServed request m v asked_mid asked_new greeted → IsGreeting id_of sessions a b w v asked_old asked_new rest greeted
+  pub greeted_ok : (request : Request) (greeted : Greeted P) → HasAsked id_of sessions a b w m unread rest (Ok request) → IsServed (MayRefuse id_of sessions draws sessions_new) request m v asked_mid asked_new greeted → IsGreeting id_of sessions sessions_new draws a b w v asked_old asked_new rest greeted
   greeted_ok request greeted h s = made (Ok request) greeted h
-      (ends_served _ _ rest b w m v asked_old asked_new request greeted h.answers h.wrote
-      (subst (λ (x : Option (List Request)). IsServed request m v x asked_new greeted) same s))
+      (ends_served _ _ _ rest b w m v asked_old asked_new request greeted h.answers h.wrote
+      (subst (λ (x : Option (List Request)). IsServed (MayRefuse id_of sessions draws sessions_new) request m v x asked_new greeted) same s))
 
-  pub greeted_refused : (status : ℕ) (s : Stop) (greeted : Greeted P) → asked_new ≡ asked_mid → HasAsked id_of sessions a b w m unread rest (Err s) → s ≡ stop.Refused status → IsToldError status m v greeted → IsGreeting id_of sessions a b w v asked_old asked_new rest greeted
+  pub greeted_refused : (status : ℕ) (s : Stop) (greeted : Greeted P) → asked_new ≡ asked_mid → HasAsked id_of sessions a b w m unread rest (Err s) → s ≡ stop.Refused status → IsToldError status m v greeted → IsGreeting id_of sessions sessions_new draws a b w v asked_old asked_new rest greeted
   greeted_refused status s greeted kept h0 is t =
       let h = subst (λ (x : Stop). HasAsked id_of sessions a b w m unread rest (Err x)) is h0 in
       made (Err (stop.Refused status)) greeted h
-      (ends_refused _ _ rest b w m v asked_old asked_new status greeted h.answers h.wrote (kept ∙ same) t)
+      (ends_refused _ _ _ rest b w m v asked_old asked_new status greeted h.answers h.wrote (kept ∙ same) t)
 
   module _ (kept : asked_new ≡ asked_mid) (written : v ≡ m) (s : Stop) (h0 : HasAsked id_of sessions a b w m unread rest (Err s)) where
-    pub greeted_ended : s ≡ stop.Ended → IsGreeting {P = P} id_of sessions a b w v asked_old asked_new rest greeted.Ended
+    pub greeted_ended : s ≡ stop.Ended → IsGreeting {P = P} id_of sessions sessions_new draws a b w v asked_old asked_new rest greeted.Ended
     greeted_ended is =
         let h = subst (λ (x : Stop). HasAsked id_of sessions a b w m unread rest (Err x)) is h0 in
         made (Err stop.Ended) greeted.Ended h (h.answers.0, h.answers.1, h.answers.2, written ∙ h.wrote, kept ∙ same)
 
-    pub greeted_unread : s ≡ stop.ReadFault → IsGreeting {P = P} id_of sessions a b w v asked_old asked_new rest greeted.ReadFault
+    pub greeted_unread : s ≡ stop.ReadFault → IsGreeting {P = P} id_of sessions sessions_new draws a b w v asked_old asked_new rest greeted.ReadFault
     greeted_unread is =
         let h = subst (λ (x : Stop). HasAsked id_of sessions a b w m unread rest (Err x)) is h0 in
         made (Err stop.ReadFault) greeted.ReadFault h (h.answers, written ∙ h.wrote, kept ∙ same)
 
-    pub greeted_unwritten : s ≡ stop.WriteFault → IsGreeting {P = P} id_of sessions a b w v asked_old asked_new rest greeted.WriteFault
+    pub greeted_unwritten : s ≡ stop.WriteFault → IsGreeting {P = P} id_of sessions sessions_new draws a b w v asked_old asked_new rest greeted.WriteFault
     greeted_unwritten is =
         let h = subst (λ (x : Stop). HasAsked id_of sessions a b w m unread rest (Err x)) is h0 in
         made (Err stop.WriteFault) greeted.WriteFault h ([], NoReply refl, no_reply w m v _ written h.wrote, Unasked (kept ∙ same))
 
-    pub greeted_short : s ≡ stop.NoMemory → IsGreeting {P = P} id_of sessions a b w v asked_old asked_new rest greeted.NoMemory
+    pub greeted_short : s ≡ stop.NoMemory → IsGreeting {P = P} id_of sessions sessions_new draws a b w v asked_old asked_new rest greeted.NoMemory
     greeted_short is =
         let h = subst (λ (x : Stop). HasAsked id_of sessions a b w m unread rest (Err x)) is h0 in
         made (Err stop.NoMemory) greeted.NoMemory h ([], NoReply refl, no_reply w m v _ written h.wrote, Unasked (kept ∙ same))

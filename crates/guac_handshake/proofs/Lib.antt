@@ -5,5 +5,6 @@ pub mod Behind
 pub mod First
 pub mod Endings
 pub mod Causes
+pub mod Refusing
 pub mod InMemory
 mod AskFacts

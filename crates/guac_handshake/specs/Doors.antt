@@ -1,5 +1,5 @@
 -- The contract of a door: its refusals, its sessions, its places and what it was asked (this project's own).
-use Rattle.std.specs.Prelude.{◌≡◌, ◌≢◌, ℕ, ◌+◌, ◌-◌, ◌<◌, List, [], ◌∷◌, ◌++◌, Bool, true, false, Option, Some, None, IsSome, Result, Ok, Err}
+use Rattle.std.specs.Prelude.{◌≡◌, ◌≢◌, ℕ, ◌+◌, ◌-◌, ◌<◌, List, [], ◌∷◌, ◌++◌, Bool, true, false, Option, Some, None, IsSome, IfSome, Result, Ok, Err}
 use Rattle.std.specs.Option.{option_map}
 use Rattle.gate_model.specs.History.{History}
 use Rattle.gate_model.specs.Refusals.{join_refusal}
@@ -12,6 +12,7 @@ use Rattle.id_table.specs.Maps.{Map}
 use Rattle.guac_handshake.specs.declared.refused.Refused.{Refused}
 use Rattle.guac_handshake.specs.declared.refused.Refused.TheVariants.{Absent, Conflict, Dial, Busy, Closed, Forbidden, TooMany, Worn, NoMemory}
 use Rattle.guac_handshake.specs.declared.request.Request.{Request}
+use Rattle.guac_handshake.specs.declared.request.Request.TheVariants.{Begin, Join}
 
 -- the sessions by ID, each with its history, where that is told
 abbrev pub Sessions : Type 0
@@ -114,6 +115,12 @@ TellsConflict None draws r = Unit {0}
 TellsConflict (Some m) None r = Unit {0}
 TellsConflict (Some m) (Some draws) r = IsExact m draws r
 
+-- the same of a conflict that came
+abbrev pub AreTaken : Option Sessions → Option (ℕ → List ℕ) → Type 0
+AreTaken None draws = Unit {0}
+AreTaken (Some m) None = Unit {0}
+AreTaken (Some m) (Some draws) = AreAllThere m draws
+
 -- Absent comes exactly where the ID isn't there, but for want of memory
 abbrev pub IsAbsent : {A : Type 0} → Result A Refused → Bool → Type 0
 IsAbsent (Err Absent) there = there ≡ false
@@ -181,3 +188,18 @@ logged_for log request Worn = asked_more log request
 abbrev pub logged : {A : Type 0} → Option (List Request) → Request → Result A Refused → Option (List Request)
 logged log request (Ok a) = asked_more log request
 logged log request (Err refused) = logged_for log request refused
+
+-- a door that tells its sessions before and after refused a session that is to begin: for Conflict an ID was there, and
+-- the IDs of the next four draws were
+abbrev pub BeginRefuses : Option Sessions → Option (ℕ → List ℕ) → Refused → Type 0
+BeginRefuses before draws refusal = IsBeginRefusal refusal × (refusal ≡ Conflict → HasConflict before × AreTaken before draws)
+
+-- it refused a joiner: for Absent the ID wasn't there, and the answer is that of the rules after the session's history
+abbrev pub JoinRefuses : Option (List ℕ) → Option Sessions → Option Sessions → Asked → Refused → Type 0
+JoinRefuses id before after role refusal =
+    IsJoinRefusal refusal × (refusal ≡ Absent → IfSome before (λ m. at_name id m ≡ None)) × IfSome after (λ n. MeetsHistory {A = Unit {0}} (at_name id n) role (Err refusal))
+
+-- it refused what it was asked
+abbrev pub MayRefuse : (List ℕ → Option (List ℕ)) → Option Sessions → Option (ℕ → List ℕ) → Option Sessions → Request → Refused → Type 0
+MayRefuse id_of before draws after (Begin ask) refusal = BeginRefuses before draws refusal
+MayRefuse id_of before draws after (Join name role) refusal = JoinRefuses (id_of name) before after role refusal

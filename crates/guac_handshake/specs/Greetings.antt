@@ -9,13 +9,12 @@ use Rattle.guac_handshake.specs.declared.greeted.Greeted.{Greeted}
 use Rattle.guac_handshake.specs.declared.greeted.Greeted.TheVariants as greeted
 use Rattle.guac_handshake.specs.declared.refused.Refused.{Refused}
 use Rattle.guac_handshake.specs.declared.request.Request.{Request}
-use Rattle.guac_handshake.specs.declared.request.Request.TheVariants.{Begin, Join}
 use Rattle.guac_handshake.specs.declared.request.Selected.{Selected}
 use Rattle.guac_handshake.specs.declared.stop.Stop.{Stop}
 use Rattle.guac_handshake.specs.declared.stop.Stop.TheVariants as stop
 use Rattle.guac_handshake.specs.declared.welcome.Welcome.{Welcome}
 use Rattle.guac_handshake.specs.Asks.{Wish, Unfinished, Wants, Refuses, asks, asks_behind, selected, selected_by}
-use Rattle.guac_handshake.specs.Doors.{IsBeginRefusal, IsJoinRefusal, Sessions, asked_more, at_name, logged_for, option_less}
+use Rattle.guac_handshake.specs.Doors.{MayRefuse, Sessions, asked_more, at_name, logged_for, option_less}
 use Rattle.guac_handshake.specs.Splits.{Splits}
 use Rattle.guac_handshake.specs.Statuses.{bad_request, not_found, status_of}
 use Rattle.guac_handshake.specs.Texts.{args_for, error_text, ready_text}
@@ -106,11 +105,6 @@ pub record HasAsked (id_of : List ℕ → Option (List ℕ)) (sessions : Option 
   pub answers : Answers (asks known instructions) rest left_new result
   pub wrote : WroteArgs (args_for (selected known instructions)) written_old written_new result
 
--- the refusals of a door, by what it was asked
-abbrev pub MayRefuse : Request → Refused → Type 0
-MayRefuse (Begin ask) refusal = IsBeginRefusal refusal
-MayRefuse (Join id role) refusal = IsJoinRefusal refusal
-
 -- a whole answer to a client
 pub data IsReply (text : List ℕ) : Type 0 where
   NoReply : text ≡ [] → IsReply text
@@ -122,14 +116,14 @@ pub data AskedAtMost (before now : Option (List Request)) (request : Request) : 
   NotAsked : now ≡ before → AskedAtMost before now request
   AskedOnce : now ≡ asked_more before request → AskedAtMost before now request
 
--- a door's answer to a request was told to the client, or a write failed, or memory was wanting
-abbrev pub IsServed : {P : Type 0} → Request → Option (List ℕ) → Option (List ℕ) → Option (List Request) → Option (List Request) → Greeted P → Type 0
-IsServed request before now asked_before asked_now (greeted.Ready welcome) = (now ≡ gained before (ready_text welcome.id)) × (asked_now ≡ asked_more asked_before request)
-IsServed request before now asked_before asked_now (greeted.Refused status) = (refusal : Refused) × MayRefuse request refusal × (status ≡ status_of refusal) × (now ≡ gained before (error_text status)) × (asked_now ≡ logged_for asked_before request refusal)
-IsServed request before now asked_before asked_now greeted.Ended = ⊥
-IsServed request before now asked_before asked_now greeted.ReadFault = ⊥
-IsServed request before now asked_before asked_now greeted.WriteFault = (text : List ℕ) × IsReply text × GainedFront before now text × AskedAtMost asked_before asked_now request
-IsServed request before now asked_before asked_now greeted.NoMemory = (text : List ℕ) × IsReply text × GainedFront before now text × AskedAtMost asked_before asked_now request
+-- a door's answer to a request, refused only as it may, was told to the client, or a write failed, or memory was wanting
+abbrev pub IsServed : {P : Type 0} → (Request → Refused → Type 0) → Request → Option (List ℕ) → Option (List ℕ) → Option (List Request) → Option (List Request) → Greeted P → Type 0
+IsServed May request before now asked_before asked_now (greeted.Ready welcome) = (now ≡ gained before (ready_text welcome.id)) × (asked_now ≡ asked_more asked_before request)
+IsServed May request before now asked_before asked_now (greeted.Refused status) = (refusal : Refused) × May request refusal × (status ≡ status_of refusal) × (now ≡ gained before (error_text status)) × (asked_now ≡ logged_for asked_before request refusal)
+IsServed May request before now asked_before asked_now greeted.Ended = ⊥
+IsServed May request before now asked_before asked_now greeted.ReadFault = ⊥
+IsServed May request before now asked_before asked_now greeted.WriteFault = (text : List ℕ) × IsReply text × GainedFront before now text × AskedAtMost asked_before asked_now request
+IsServed May request before now asked_before asked_now greeted.NoMemory = (text : List ℕ) × IsReply text × GainedFront before now text × AskedAtMost asked_before asked_now request
 
 -- the places that are out: one more where the client was told its own
 abbrev pub HasOut : {P : Type 0} → Option ℕ → Option ℕ → Greeted P → Type 0
@@ -184,31 +178,31 @@ IfReady greeted.ReadFault F = Unit {0}
 IfReady greeted.WriteFault F = Unit {0}
 IfReady greeted.NoMemory F = Unit {0}
 
--- why a client is refused, and whether the door was asked
-pub data RefusedFor (wish : Wish) (rest : List ℕ) (status : ℕ) (asked_before asked_now : Option (List Request)) : Type 0 where
-  ByForm : RefusedEarly wish rest status → asked_now ≡ asked_before → RefusedFor wish rest status asked_before asked_now
-  ByDoor : (request : Request) (refusal : Refused) → wish ≡ Wants request → MayRefuse request refusal → status ≡ status_of refusal → asked_now ≡ logged_for asked_before request refusal → RefusedFor wish rest status asked_before asked_now
+-- why a client is refused, and whether the door was asked; the door refuses only as it may
+pub data RefusedFor (May : Request → Refused → Type 0) (wish : Wish) (rest : List ℕ) (status : ℕ) (asked_before asked_now : Option (List Request)) : Type 0 where
+  ByForm : RefusedEarly wish rest status → asked_now ≡ asked_before → RefusedFor May wish rest status asked_before asked_now
+  ByDoor : (request : Request) (refusal : Refused) → wish ≡ Wants request → May request refusal → status ≡ status_of refusal → asked_now ≡ logged_for asked_before request refusal → RefusedFor May wish rest status asked_before asked_now
 
 -- the door was asked what is wished, or not at all
 pub data AskedAsWished (wish : Wish) (asked_before asked_now : Option (List Request)) : Type 0 where
   Unasked : asked_now ≡ asked_before → AskedAsWished wish asked_before asked_now
   Wished : (request : Request) → wish ≡ Wants request → asked_now ≡ asked_more asked_before request → AskedAsWished wish asked_before asked_now
 
--- how a greeting ended, by what was wished, left unread, written and asked
-abbrev pub Ends : {P : Type 0} → Wish → List ℕ → List ℕ → Option (List ℕ) → Option (List ℕ) → Option (List ℕ) → Option (List Request) → Option (List Request) → Greeted P → Type 0
-Ends wish args rest left before now asked_before asked_now (greeted.Ready welcome) = (request : Request) × (wish ≡ Wants request) × (now ≡ gained before (args ++ ready_text welcome.id)) × (asked_now ≡ asked_more asked_before request)
-Ends wish args rest left before now asked_before asked_now (greeted.Refused status) = (now ≡ gained before (args ++ error_text status)) × RefusedFor wish rest status asked_before asked_now
-Ends wish args rest left before now asked_before asked_now greeted.Ended = (wish ≡ Unfinished) × IsUnfinished rest × AtEnd left × (now ≡ gained before args) × (asked_now ≡ asked_before)
-Ends wish args rest left before now asked_before asked_now greeted.ReadFault = (wish ≡ Unfinished) × (now ≡ gained before args) × (asked_now ≡ asked_before)
-Ends wish args rest left before now asked_before asked_now greeted.WriteFault = (text : List ℕ) × IsReply text × GainedFront before now (args ++ text) × AskedAsWished wish asked_before asked_now
-Ends wish args rest left before now asked_before asked_now greeted.NoMemory = (text : List ℕ) × IsReply text × GainedFront before now (args ++ text) × AskedAsWished wish asked_before asked_now
+-- how a greeting ended, by what a door may refuse, and what was wished, left unread, written and asked
+abbrev pub Ends : {P : Type 0} → (Request → Refused → Type 0) → Wish → List ℕ → List ℕ → Option (List ℕ) → Option (List ℕ) → Option (List ℕ) → Option (List Request) → Option (List Request) → Greeted P → Type 0
+Ends May wish args rest left before now asked_before asked_now (greeted.Ready welcome) = (request : Request) × (wish ≡ Wants request) × (now ≡ gained before (args ++ ready_text welcome.id)) × (asked_now ≡ asked_more asked_before request)
+Ends May wish args rest left before now asked_before asked_now (greeted.Refused status) = (now ≡ gained before (args ++ error_text status)) × RefusedFor May wish rest status asked_before asked_now
+Ends May wish args rest left before now asked_before asked_now greeted.Ended = (wish ≡ Unfinished) × IsUnfinished rest × AtEnd left × (now ≡ gained before args) × (asked_now ≡ asked_before)
+Ends May wish args rest left before now asked_before asked_now greeted.ReadFault = (wish ≡ Unfinished) × (now ≡ gained before args) × (asked_now ≡ asked_before)
+Ends May wish args rest left before now asked_before asked_now greeted.WriteFault = (text : List ℕ) × IsReply text × GainedFront before now (args ++ text) × AskedAsWished wish asked_before asked_now
+Ends May wish args rest left before now asked_before asked_now greeted.NoMemory = (text : List ℕ) × IsReply text × GainedFront before now (args ++ text) × AskedAsWished wish asked_before asked_now
 
 -- a greeting: the bytes that it read are these instructions and then the rest; and it asked, wrote and ended by them
-pub record IsGreeting {P : Type 0} (id_of : List ℕ → Option (List ℕ)) (sessions : Option Sessions) (left_old left_new written_old written_new : Option (List ℕ)) (asked_old asked_new : Option (List Request)) (rest : List ℕ) (result : Greeted P) : Type 0 where
+pub record IsGreeting {P : Type 0} (id_of : List ℕ → Option (List ℕ)) (sessions sessions_new : Option Sessions) (draws : Option (ℕ → List ℕ)) (left_old left_new written_old written_new : Option (List ℕ)) (asked_old asked_new : Option (List Request)) (rest : List ℕ) (result : Greeted P) : Type 0 where
   pub bytes : List ℕ
   pub instructions : List (List (List ℕ))
   pub known : Bool
   pub came_is : left_old ≡ came bytes left_new
   pub split : Splits bytes instructions rest
   pub looked : IsLook id_of sessions known instructions
-  pub ends : Ends (asks known instructions) (args_for (selected known instructions)) rest left_new written_old written_new asked_old asked_new result
+  pub ends : Ends (MayRefuse id_of sessions draws sessions_new) (asks known instructions) (args_for (selected known instructions)) rest left_new written_old written_new asked_old asked_new result

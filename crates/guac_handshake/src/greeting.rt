@@ -3,8 +3,9 @@
 ghost use Rattle.std.specs.Prelude.{◌≡◌, ◌<◌, ◌≤◌, [], IfErr, IfOk, length};
 ghost use Rattle.gate_outside.specs.Edge.{Rose};
 ghost use Rattle.guac_handshake.specs.Causes.{IsEarly};
-ghost use Rattle.guac_handshake.specs.Doors.{IsBusy, IsDial, logged, one_more_out};
-ghost use Rattle.guac_handshake.specs.Greetings.{HasAsked, HasConnected, HasKept, HasOut, HasSelected, IfReady, IsFound, IsGreeting, IsServed, IsToldError, IsToldReady, MayRefuse, stopped_as};
+ghost use Rattle.guac_handshake.specs.Doors.{IsBusy, IsDial, MayRefuse, logged, one_more_out};
+ghost use Rattle.id_table.specs.Maps.{Same, Told};
+ghost use Rattle.guac_handshake.specs.Greetings.{HasAsked, HasConnected, HasKept, HasOut, HasSelected, IfReady, IsFound, IsGreeting, IsServed, IsToldError, IsToldReady, stopped_as};
 
 use crate::expected::{Expected, Said};
 use crate::hearing::hear;
@@ -72,6 +73,8 @@ fn select<R: Wait, S: Source, D: Door>(
     requires { 0 < length piece.old }
     ensures selected { HasSelected D.id_of (D.sessions door.old) (S.left source.old) (S.left source.new) unread.old unread.new result }
     ensures early { IfErr result (IsEarly ⊥) }
+    ensures sessions { Told (D.sessions door.old) (D.sessions door.new) Same }
+    ensures draws { D.draws door.new ≡ D.draws door.old }
     ensures asked { D.asked door.new ≡ D.asked door.old }
     ensures out { D.out door.new ≡ D.out door.old }
     ensures dials { D.dial_faults door.new ≡ D.dial_faults door.old }
@@ -90,6 +93,8 @@ fn select<R: Wait, S: Source, D: Door>(
 fn look<R: Wait, D: Door>(rt: &R, door: &mut D, name: Text) -> Result<Selected, Stop>
     ensures found { IsFound D.id_of (D.sessions door.old) name result }
     ensures early { IfErr result (IsEarly ⊥) }
+    ensures sessions { Told (D.sessions door.old) (D.sessions door.new) Same }
+    ensures draws { D.draws door.new ≡ D.draws door.old }
     ensures asked { D.asked door.new ≡ D.asked door.old }
     ensures out { D.out door.new ≡ D.out door.old }
     ensures dials { D.dial_faults door.new ≡ D.dial_faults door.old }
@@ -114,7 +119,7 @@ fn ask<R: Threads + Wait + Copy + Send + 'static, D: Door>(
 ) -> Result<Welcome<D::Place>, Refused>
     ensures asked { D.asked door.new ≡ logged (D.asked door.old) request.now result }
     ensures out { D.out door.new ≡ one_more_out result (D.out door.old) }
-    ensures kind { IfErr result (MayRefuse request.now) }
+    ensures kind { IfErr result (MayRefuse D.id_of (D.sessions door.old) (D.draws door.old) (D.sessions door.new) request.now) }
     ensures dial { IsDial result → Rose (D.dial_faults door.old) (D.dial_faults door.new) }
     ensures busy { IsBusy result → Rose (D.start_faults door.old) (D.start_faults door.new) }
     ensures later_dials { D.dial_faults door.old ≤ D.dial_faults door.new }
@@ -137,6 +142,8 @@ fn read_request<R: Wait, S: Source, K: Sink, D: Door>(
     door: &mut D,
 ) -> Result<Request, Stop>
     ensures request { HasAsked D.id_of (D.sessions door.old) (S.left source.old) (S.left source.new) (K.written sink.old) (K.written sink.new) unread.old unread.new result }
+    ensures sessions { Told (D.sessions door.old) (D.sessions door.new) Same }
+    ensures draws { D.draws door.new ≡ D.draws door.old }
     ensures asked { D.asked door.new ≡ D.asked door.old }
     ensures out { D.out door.new ≡ D.out door.old }
     ensures dials { D.dial_faults door.new ≡ D.dial_faults door.old }
@@ -215,7 +222,7 @@ fn serve<R: Threads + Wait + Copy + Send + 'static, K: Sink, D: Door>(
     door: &mut D,
     request: &Request,
 ) -> Greeted<D::Place>
-    ensures served { IsServed request.now (K.written sink.old) (K.written sink.new) (D.asked door.old) (D.asked door.new) result }
+    ensures served { IsServed (MayRefuse D.id_of (D.sessions door.old) (D.draws door.old) (D.sessions door.new)) request.now (K.written sink.old) (K.written sink.new) (D.asked door.old) (D.asked door.new) result }
     ensures out { HasOut (D.out door.old) (D.out door.new) result }
     ensures write_fault { result ≡ Greeted.WriteFault → Rose (K.faults sink.old) (K.faults sink.new) }
     ensures dial { result ≡ Greeted.Refused 519 → Rose (D.dial_faults door.old) (D.dial_faults door.new) }
@@ -240,7 +247,7 @@ fn converse<R: Threads + Wait + Copy + Send + 'static, S: Source, K: Sink, D: Do
     door: &mut D,
 ) -> Greeted<D::Place>
     requires { unread.old ≡ [] }
-    ensures greeting { IsGreeting D.id_of (D.sessions door.old) (S.left source.old) (S.left source.new) (K.written sink.old) (K.written sink.new) (D.asked door.old) (D.asked door.new) unread.new result }
+    ensures greeting { IsGreeting D.id_of (D.sessions door.old) (D.sessions door.new) (D.draws door.old) (S.left source.old) (S.left source.new) (K.written sink.old) (K.written sink.new) (D.asked door.old) (D.asked door.new) unread.new result }
     ensures out { HasOut (D.out door.old) (D.out door.new) result }
     ensures read_fault { result ≡ Greeted.ReadFault → Rose (S.faults source.old) (S.faults source.new) }
     ensures write_fault { result ≡ Greeted.WriteFault → Rose (K.faults sink.old) (K.faults sink.new) }
@@ -273,7 +280,7 @@ pub fn greet<R: Threads + Wait + Copy + Send + 'static, S: Source, K: Sink, D: D
     rest: &mut Vec<u8>,
     door: &mut D,
 ) -> Greeted<D::Place>
-    ensures greeting { IsGreeting D.id_of (D.sessions door.old) (S.left source.old) (S.left source.new) (K.written sink.old) (K.written sink.new) (D.asked door.old) (D.asked door.new) rest.new.items result }
+    ensures greeting { IsGreeting D.id_of (D.sessions door.old) (D.sessions door.new) (D.draws door.old) (S.left source.old) (S.left source.new) (K.written sink.old) (K.written sink.new) (D.asked door.old) (D.asked door.new) rest.new.items result }
     ensures out { HasOut (D.out door.old) (D.out door.new) result }
     ensures read_fault { result ≡ Greeted.ReadFault → Rose (S.faults source.old) (S.faults source.new) }
     ensures write_fault { result ≡ Greeted.WriteFault → Rose (K.faults sink.old) (K.faults sink.new) }

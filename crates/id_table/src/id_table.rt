@@ -12,7 +12,7 @@ const MOST_DRAWS: usize = 4;
 /// Values under IDs. Contracts see it as the map `held`.
 #[derive(Drop)]
 pub struct IdTable<V> {
-    values: BTreeMap<Uuid, V, Global>,
+    pub(crate) values: BTreeMap<Uuid, V, Global>,
 }
 
 impl<V: Drop> IdTable<V> {

@@ -21,6 +21,9 @@ pub struct LockedShelf<V> {
 }
 
 impl<V: Drop> LockedShelf<V> {
+    ghost use Rattle.std.specs.Prelude.{IfSome, true};
+    ghost use Rattle.std.specs.Fn.{FnReturnsAt};
+
     /// A shelf with nothing on it.
     pub fn new(alloc: Global) -> Result<LockedShelf<V>, NoMemory> {
         let behind = Behind {
@@ -41,6 +44,16 @@ impl<V: Drop> LockedShelf<V> {
                 .as_ref()
                 .and_then(|behind| Arc::try_clone(behind).ok()),
         }
+    }
+
+    /// Takes out the value with the least ID among those that aren't lent and for which `done` answers true,
+    /// and its ID: `PlainShelf::sweep` under the lock.
+    pub fn sweep<R: Wait, F: Fn(&V) -> bool>(&self, rt: &R, done: F) -> Option<(Uuid, V)>
+        requires { F.IsAlwaysCallable done }
+        ensures done { IfSome result (λ r. FnReturnsAt F.Fn done r.1 true) }
+    {
+        let behind = self.behind.as_ref()?;
+        behind.shelf.lock(rt).sweep(done)
     }
 }
 

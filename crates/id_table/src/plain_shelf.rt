@@ -36,6 +36,48 @@ impl<V: Drop> PlainShelf<V> {
     }
 }
 
+impl<V: Drop> PlainShelf<V> {
+    ghost use Rattle.std.specs.Prelude.{◌≡◌, Some, None, IfSome, IfNone, true, false};
+    ghost use Rattle.std.specs.Fn.{FnReturnsAt};
+    ghost use Rattle.id_table.specs.Maps.{Changed, Same};
+    ghost use Rattle.id_table.specs.Shelves.{Each, EachBelow, Has, shelved};
+
+    /// Takes out the value with the least ID among those that aren't lent and for which `done` answers true,
+    /// and its ID. None comes exactly where there is none.
+    pub fn sweep<F: Fn(&V) -> bool>(&mut self, done: F) -> Option<(Uuid, V)>
+        requires { F.IsAlwaysCallable done }
+        ensures taken { IfSome result (λ r. shelved self.old r.0 ≡ Some (Some r.1)) }
+        ensures done { IfSome result (λ r. FnReturnsAt F.Fn done r.1 true) }
+        ensures least { IfSome result (λ r. EachBelow r.0 (λ v. FnReturnsAt F.Fn done v false) (shelved self.old)) }
+        ensures changed { IfSome result (λ r. Changed r.0 None (shelved self.old) (shelved self.new)) }
+        ensures none { IfNone result (Each (λ v. FnReturnsAt F.Fn done v false) (shelved self.old)) }
+        ensures same { IfNone result (Same (shelved self.old) (shelved self.new)) }
+    {
+        let id = self.least_done(&done)?;
+        match self.slots.remove(&id) {
+            Some(Some(value)) => Some((id, value)),
+            Some(None) | None => unreachable!(),
+        }
+    }
+
+    // The least ID whose value isn't lent and is done.
+    fn least_done<F: Fn(&V) -> bool>(&self, done: &F) -> Option<Uuid>
+        requires { F.IsAlwaysCallable done.now }
+        ensures has { IfSome result (λ id. Has id (λ v. FnReturnsAt F.Fn done.now v true) (shelved self.now)) }
+        ensures least { IfSome result (λ id. EachBelow id (λ v. FnReturnsAt F.Fn done.now v false) (shelved self.now)) }
+        ensures none { IfNone result (Each (λ v. FnReturnsAt F.Fn done.now v false) (shelved self.now)) }
+    {
+        for (id, slot) in &self.slots.values {
+            if let Some(value) = slot {
+                if done(value) {
+                    return Some(*id);
+                }
+            }
+        }
+        None
+    }
+}
+
 impl<V: Drop> Shelf<V> for PlainShelf<V> {
     ghost use Rattle.std.specs.Prelude.{Some};
     ghost use Rattle.id_table.specs.Shelves.{shelved};

@@ -53,6 +53,36 @@ fn a_lent_value_is_still_there(rt: HostRuntime) -> Result<(), Fail> {
 }
 
 #[test]
+fn a_sweep_takes_the_least_that_is_done(rt: HostRuntime) -> Result<(), Fail> {
+    let alloc = rt.alloc();
+    let mut dice = MemDice::new([[9; 16], [7; 16], [5; 16], [3; 16]].to_vec(alloc)?);
+    let mut shelf = PlainShelf::new(alloc);
+    let _last = shelf.add(&rt, &mut dice, 9u8).ok().ok_or("not added")?;
+    let least = shelf.add(&rt, &mut dice, 7).ok().ok_or("not added")?;
+    let _even = shelf.add(&rt, &mut dice, 4).ok().ok_or("not added")?;
+    let lent = shelf.add(&rt, &mut dice, 3).ok().ok_or("not added")?;
+    let value = shelf.lend(&rt, &lent).ok_or("absent")?;
+    let swept = shelf.sweep(|value| *value % 2 == 1);
+    let rest = (shelf.has(&rt, &least), shelf.has(&rt, &lent));
+    assert!(rt; value == 3 && swept == Some((least, 7)) && rest == (false, true));
+    Ok(())
+}
+
+#[test]
+fn a_sweep_under_the_lock(rt: HostRuntime) -> Result<(), Fail> {
+    let alloc = rt.alloc();
+    let mut dice = MemDice::new([DRAW].to_vec(alloc)?);
+    let mut shelf = LockedShelf::new(alloc).ok().ok_or("no memory")?;
+    let id = shelf.add(&rt, &mut dice, 7u8).ok().ok_or("not added")?;
+    let swept = (
+        shelf.sweep(&rt, |value| *value > 7),
+        shelf.sweep(&rt, |value| *value > 6),
+    );
+    assert!(rt; swept == (None, Some((id, 7))) && !shelf.has(&rt, &id));
+    Ok(())
+}
+
+#[test]
 fn a_second_thread_waits_for_a_lent_value(rt: HostRuntime) -> Result<(), Fail> {
     let alloc = rt.alloc();
     let mut dice = MemDice::new([DRAW].to_vec(alloc)?);

@@ -1,0 +1,48 @@
+-- Why a door refuses, by the sessions that it tells.
+use Rattle.std.proofs.Common.{◌≡◌, ℕ, List, Option, Some, None, refl, sym, ◌∙◌, subst}
+use Rattle.std.specs.Prelude.{IfSome, IsSome}
+use Rattle.gate_model.specs.History.{History}
+use Rattle.id_table.specs.Draws.{nth_id}
+use Rattle.id_table.specs.Maps.{Same, Told}
+use Rattle.guac_handshake.specs.declared.greeted.Greeted.{Greeted}
+use Rattle.guac_handshake.specs.declared.greeted.Greeted.TheVariants as greeted
+use Rattle.guac_handshake.specs.declared.refused.Refused.{Refused}
+use Rattle.guac_handshake.specs.declared.request.Request.{Request}
+use Rattle.guac_handshake.specs.declared.request.Request.TheVariants.{Begin, Join}
+use Rattle.guac_handshake.specs.Doors.{AreTaken, HasConflict, MayRefuse, Sessions, at_name}
+use Rattle.guac_handshake.specs.Greetings.{IsServed}
+
+-- a look changed no session: an ID that was there is there
+conflict_before : (o p : Option Sessions) → Told o p Same → HasConflict p → HasConflict o
+conflict_before None p t h = tt
+conflict_before (Some m) None t h = absurd t
+conflict_before (Some m) (Some n) t h = (h.0, subst (λ (x : Option (Option History)). IsSome x) (t h.0) h.1)
+
+taken_before : (o p : Option Sessions) (d : Option (ℕ → List ℕ)) → Told o p Same → AreTaken p d → AreTaken o d
+taken_before None p d t h = tt
+taken_before (Some m) None d t h = absurd t
+taken_before (Some m) (Some n) None t h = tt
+taken_before (Some m) (Some n) (Some draws) t h = λ k below. subst (λ (x : Option (Option History)). IsSome x) (t (nth_id draws k)) (h k below)
+
+at_same : (id : Option (List ℕ)) (m n : Sessions) → Same m n → at_name id m ≡ at_name id n
+at_same None m n same = refl
+at_same (Some id) m n same = sym (same id)
+
+absent_before : (id : Option (List ℕ)) (o p : Option Sessions) → Told o p Same → IfSome p (λ m. at_name id m ≡ None) → IfSome o (λ m. at_name id m ≡ None)
+absent_before id None p t h = tt
+absent_before id (Some m) None t h = absurd t
+absent_before id (Some m) (Some n) t h = at_same id m n t ∙ h
+
+-- what a door refuses after a look, by what it told before
+pub may_before : (id_of : List ℕ → Option (List ℕ)) (o p after : Option Sessions) (d e : Option (ℕ → List ℕ)) → Told o p Same → e ≡ d → (request : Request) (refusal : Refused) → MayRefuse id_of p e after request refusal → MayRefuse id_of o d after request refusal
+may_before id_of o p after d e t same (Begin ask) refusal h =
+    (h.0, λ is. let c = h.1 is in (conflict_before o p t c.0, taken_before o p d t (subst (λ (x : Option (ℕ → List ℕ)). AreTaken p x) same c.1)))
+may_before id_of o p after d e t same (Join id role) refusal h = (h.0, (λ is. absent_before (id_of id) o p t (h.1 is)), h.2)
+
+pub served_as : {P : Type 0} (M N : Request → Refused → Type 0) (request : Request) (w v : Option (List ℕ)) (a b : Option (List Request)) (result : Greeted P) → ((q : Request) (r : Refused) → M q r → N q r) → IsServed M request w v a b result → IsServed N request w v a b result
+served_as M N request w v a b (greeted.Ready welcome) f s = s
+served_as M N request w v a b (greeted.Refused status) f s = (s.0, f request s.0 s.1, s.2, s.3, s.4)
+served_as M N request w v a b greeted.Ended f s = s
+served_as M N request w v a b greeted.ReadFault f s = s
+served_as M N request w v a b greeted.WriteFault f s = s
+served_as M N request w v a b greeted.NoMemory f s = s
