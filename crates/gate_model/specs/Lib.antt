@@ -22,6 +22,7 @@ pub mod GlyphRects
 pub mod Pictures
 pub mod Layers
 pub mod Shape
+pub mod Buffers
 pub mod Frames
 pub mod Cells
 pub mod Terminal
@@ -51,6 +52,7 @@ pub mod Refusals
 pub mod Calls
 pub mod Steps
 pub mod Runs
+pub mod Cost
 pub mod Truth
 pub mod CellLaws
 pub mod ControlLaws
