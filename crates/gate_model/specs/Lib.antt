@@ -56,6 +56,8 @@ pub mod Cost
 pub mod Truth
 pub mod CellLaws
 pub mod ControlLaws
+pub mod ScreenLaws
+pub mod FrameLaws
 pub mod KeyLaws
 pub mod TelnetLaws
 pub mod InstrLaws
