@@ -4,7 +4,7 @@ use Rattle.std.specs.Prelude.{◌≡◌, ℕ, List, [], ◌∷◌, ◌++◌, tru
 use Rattle.gate_model.specs.declared.instr.Instr.{Instr}
 use Rattle.gate_model.specs.declared.instr.Instr.TheVariants.{Sync}
 use Rattle.gate_model.specs.Sequences.{BeginsWith}
-use Rattle.gate_model.specs.Layers.{ShowsPicture, draw, nothing, visible}
+use Rattle.gate_model.specs.Layers.{Layers, ShowsPicture, draw, nothing, visible}
 use Rattle.gate_model.specs.Frames.{IsDrawn}
 use Rattle.gate_model.specs.Screens.{shown}
 use Rattle.gate_model.specs.History.{History, at, upto, has_entry_at, all_frames}
@@ -19,7 +19,11 @@ pub record IsFaithfulAt (h : History) (front : List Instr) (t : ℕ) : Type 0 wh
 abbrev pub Faithful : History → Type 0
 Faithful h = (v t : ℕ) (front : List Instr) → BeginsWith (delivered h v) (front ++ Sync t ∷ []) → IsFaithfulAt h front t
 
+-- every layer that the frames of the history leave
+abbrev pub all_layers : History → Layers
+all_layers h = draw nothing (all_frames h)
+
 -- each frame, after the frames before it, leaves the picture of its moment's screen
 abbrev pub AllDrawn : History → Type 0
 AllDrawn [] = Unit {0}
-AllDrawn (e ∷ g) = AllDrawn g × IsDrawn (draw nothing (all_frames (e ∷ g)) visible) (shown (at (e ∷ g)))
+AllDrawn (e ∷ g) = AllDrawn g × IsDrawn (all_layers (e ∷ g) visible) (shown (at (e ∷ g)))

@@ -1,0 +1,83 @@
+-- What each entry does to the layers that all frames leave, and to the keys and the costs of a history.
+use Rattle.std.proofs.Common.{◌≡◌, ℕ, ◌≤◌, List, [], ◌∷◌, ◌++◌, length, refl, ap, sym, ◌∙◌, subst, arith, length-append}
+use Rattle.gate_model.specs.declared.instr.Instr.{Instr}
+use Rattle.gate_model.specs.declared.entry.Entry.{Entry}
+use Rattle.gate_model.specs.declared.entry.Entry.TheVariants.{Start, Feed, Join, Read, Write, Take, Leave, Close}
+use Rattle.gate_model.specs.KeyGrid.{KeyGrid}
+use Rattle.gate_model.specs.Layers.{Layers, draw, nothing}
+use Rattle.gate_model.specs.Buffers.{Buffers, AreLayers, Renews, new_keys}
+use Rattle.gate_model.specs.Screens.{shown}
+use Rattle.gate_model.specs.History.{History, at, all_frames}
+use Rattle.gate_model.specs.Truth.{AllDrawn, all_layers}
+use Rattle.gate_model.specs.Cost.{changes, cost, keys_shown, rise, AllFrugal, IsFrugal}
+use Rattle.gate_model.proofs.Drawing.{draw-append}
+use Rattle.gate_model.proofs.Histories.{IsPlain, at-plain, all_frames-plain, all_frames-feed}
+use Rattle.gate_model.proofs.Layering.{layers-drawn}
+
+-- ---- an entry without bytes and without a frame
+
+pub layers-plain : (h : History) (e : Entry) (keys : Buffers) → IsPlain e → AreLayers (all_layers h) (shown (at h)) keys → AreLayers (all_layers (e ∷ h)) (shown (at (e ∷ h))) keys
+layers-plain h e keys p a = rw (all_frames-plain h e p, at-plain h e p) a
+
+pub keys_shown-plain : (h : History) (e : Entry) → IsPlain e → keys_shown (e ∷ h) ≡ keys_shown h
+keys_shown-plain h (Start cols rows mode term entries t frame) p = absurd (let w : [] ≡ (t, frame) ∷ [] = sym p.no_frame in cc)
+keys_shown-plain h (Feed bs t frame) p = absurd (let w : [] ≡ (t, frame) ∷ [] = sym p.no_frame in cc)
+keys_shown-plain h (Join v role first) p = refl
+keys_shown-plain h (Read v how) p = refl
+keys_shown-plain h (Write v acts) p = refl
+keys_shown-plain h (Take count) p = refl
+keys_shown-plain h (Leave v) p = refl
+keys_shown-plain h (Close cause) p = refl
+
+frugal_at-plain : (h : History) (e : Entry) → IsPlain e → IsFrugal h e
+frugal_at-plain h (Start cols rows mode term entries t frame) p = tt
+frugal_at-plain h (Feed bs t frame) p = absurd (let w : [] ≡ (t, frame) ∷ [] = sym p.no_frame in cc)
+frugal_at-plain h (Join v role first) p = tt
+frugal_at-plain h (Read v how) p = tt
+frugal_at-plain h (Write v acts) p = tt
+frugal_at-plain h (Take count) p = tt
+frugal_at-plain h (Leave v) p = tt
+frugal_at-plain h (Close cause) p = tt
+
+pub frugal-plain : (h : History) (e : Entry) → IsPlain e → AllFrugal h → AllFrugal (e ∷ h)
+frugal-plain h e p f = (f, frugal_at-plain h e p)
+
+-- ---- a Feed
+
+pub layers-feed : (h : History) (bs : List ℕ) (t : ℕ) (frame : List Instr) (before after : Buffers) → AreLayers (all_layers h) (shown (at h)) before → Renews (shown (at h)) before frame (shown (at (Feed bs t frame ∷ h))) after
+    → AreLayers (all_layers (Feed bs t frame ∷ h)) (shown (at (Feed bs t frame ∷ h))) after
+layers-feed h bs t frame before after a renews =
+    let drawn : draw nothing (all_frames (Feed bs t frame ∷ h)) ≡ draw (all_layers h) frame = ap (draw nothing) (all_frames-feed h bs t frame) ∙ draw-append nothing (all_frames h) frame in
+    subst (λ (m : Layers). AreLayers m (shown (at (Feed bs t frame ∷ h))) after) (sym drawn) (renews (all_layers h) a)
+
+-- the keys shown before are few where those shown after are
+few_before : (held fresh : Buffers) → length (held ++ fresh) ≤ 1024 → length held ≤ 1024
+few_before held fresh few = omega (arith, few, length-append held fresh)
+
+-- the buffers hold just the keys that were shown, while these are few
+pub held-feed : (h : History) (bs : List ℕ) (t : ℕ) (frame : List Instr) (before after : Buffers) → (length (keys_shown h) ≤ 1024 → before ≡ keys_shown h)
+    → (length (before ++ new_keys before (shown (at (Feed bs t frame ∷ h))).keys) ≤ 1024 → after ≡ before ++ new_keys before (shown (at (Feed bs t frame ∷ h))).keys)
+    → length (keys_shown (Feed bs t frame ∷ h)) ≤ 1024 → after ≡ keys_shown (Feed bs t frame ∷ h)
+held-feed h bs t frame before after held gains few =
+    let s : KeyGrid = shown (at (Feed bs t frame ∷ h)) in
+    let is : before ≡ keys_shown h = held (few_before (keys_shown h) (new_keys (keys_shown h) s.keys) few) in
+    subst (λ (keys : Buffers). length (keys ++ new_keys keys s.keys) ≤ 1024 → after ≡ keys ++ new_keys keys s.keys) is gains few
+
+pub frugal-feed : (h : History) (bs : List ℕ) (t : ℕ) (frame : List Instr) (before : Buffers) (shift : ℕ) → AllFrugal h → (length (keys_shown h) ≤ 1024 → before ≡ keys_shown h) → shift ≡ rise (Feed bs t frame) h
+    → (length (before ++ new_keys before (shown (at (Feed bs t frame ∷ h))).keys) ≤ 1024
+    → length frame ≤ cost (length (changes (shown (at h)) (shown (at (Feed bs t frame ∷ h))) shift)) (length (new_keys before (shown (at (Feed bs t frame ∷ h))).keys)))
+    → AllFrugal (Feed bs t frame ∷ h)
+frugal-feed h bs t frame before shift frugal held rises costs = (
+  frugal,
+  λ few.
+      let s : KeyGrid = shown (at (Feed bs t frame ∷ h)) in
+      let is : before ≡ keys_shown h = held (few_before (keys_shown h) (new_keys (keys_shown h) s.keys) few) in
+      let by_keys = subst (λ (keys : Buffers). length (keys ++ new_keys keys s.keys) ≤ 1024 → length frame ≤ cost (length (changes (shown (at h)) s shift)) (length (new_keys keys s.keys))) is costs in
+      subst (λ (n : ℕ). length frame ≤ cost (length (changes (shown (at h)) s n)) (length (new_keys (keys_shown h) s.keys))) rises (by_keys few),
+)
+
+-- ---- any entry
+
+-- what is drawn, from the layers
+pub drawn-layers : (h : History) (e : Entry) (keys : Buffers) → AllDrawn h → AreLayers (all_layers (e ∷ h)) (shown (at (e ∷ h))) keys → AllDrawn (e ∷ h)
+drawn-layers h e keys drawn a = (drawn, layers-drawn (all_layers (e ∷ h)) (shown (at (e ∷ h))) keys a)
