@@ -18,8 +18,10 @@ use Rattle.gate_model.specs.declared.sharing.Asked.{Asked}
 use Rattle.gate_model.specs.declared.sharing.Role.{Role}
 use Rattle.gate_model.specs.declared.entry.Entry.{Entry}
 use Rattle.gate_model.specs.declared.entry.Entry.TheVariants.{Feed, Join, Read, Write, Take, Leave, Close}
+use Rattle.gate_model.specs.Screens.{shown}
+use Rattle.gate_model.specs.Shape.{Shape}
 use Rattle.gate_model.specs.Text.{texts}
-use Rattle.gate_model.specs.History.{History, bytes, newest, next_stamp, frames, frames_after, instructions, all_frames, joined, share_mode, is_closed}
+use Rattle.gate_model.specs.History.{History, at, bytes, columns, lines, newest, next_stamp, frames, frames_after, instructions, all_frames, joined, share_mode, is_closed}
 use Rattle.gate_model.specs.Delivered.{closing, position, handed, shown_to}
 use Rattle.gate_model.specs.Output.{untaken}
 use Rattle.gate_model.specs.Refusals.{only_if, close_cause, feed_refusal, join_refusal, read_stop, write_refusal}
@@ -31,9 +33,10 @@ use Rattle.gate_model.proofs.Truth.{facts_of}
 use Rattle.gate_model.proofs.Histories.{plain-join, plain-read, plain-write, plain-take, plain-leave, plain-close}
 use Rattle.viewer_book.specs.Book as book
 use Rattle.viewer_book.specs.Book.{BookState, added, changed, removed, holding}
-use Rattle.desk_core.specs.declared.drawing.Drawn.{Drawn}
+use Rattle.desk_core.specs.declared.host.Heard.{Heard}
 use Rattle.desk_core.specs.declared.progress.Progress.{Progress}
 use Rattle.desk_core.specs.declared.typing.Typed.{Typed}
+use Rattle.desk_core.specs.Drawing.{DrawingState, Draws}
 use Rattle.desk_core.specs.Frames.{FramesState, with_frame}
 use Rattle.desk_core.specs.Log.{LogState, with_entry}
 use Rattle.desk_core.specs.Viewers.{AllCome, HasCome, HasSeats, SeatsState, brought, with_viewer, with_read}
@@ -44,21 +47,24 @@ use Rattle.desk_core.specs.Parts.{Follows, Types}
 use Rattle.desk_core.proofs.Coming.{texts-append, come-all, viewers-join, viewers-read, viewers-write, viewers-take, viewers-leave, viewers-close, text_past}
 use Rattle.desk_core.proofs.Seating.{same, book-same, book-join, book-read, book-write, book-leave}
 use Rattle.desk_core.proofs.Standing.{log_of, waits-silent, waits-more, waits-take, plain_desk, fed_desk}
+use Rattle.desk_core.proofs.Following.{cols_of, rows_of}
 use Rattle.desk_core.proofs.Telling.{closing_is, join_goes, reading, lacks}
 use Rattle.gate_model.proofs.Stepping.{feed_step, join_step, read_step, write_step, take_step, leave_step, close_step}
 
 -- a Feed
-pub added_feed : (d : DeskState) (h : History) (bs : List ℕ) (now t : ℕ) (f : Drawn) (l : LogState) (outgoing : List ℕ) (frames : FramesState) → Stands d h → IsPiece bs → AreBytes bs → feed_refusal h ≡ None → t ≡ next_stamp d.frames.stamp now → Follows h bs t f
-    → l ≡ with_entry (log_of d) (Feed bs t f.frame) → outgoing ≡ d.outgoing ++ f.replies.items → frames ≡ with_frame d.frames t f.frame
-    → Answered h (feed bs now) (fed (Ok t)) record d { host = f.host; outgoing = outgoing; frames = frames; past = l.past; entries = l.entries } [] []
-added_feed d h bs now t f l outgoing frames s piece octets allowed is_next follows logs waits shows =
+pub added_feed : (d : DeskState) (h : History) (bs : List ℕ) (now t : ℕ) (r : Heard) (frame : List Instr) (l : LogState) (outgoing : List ℕ) (frames : FramesState) (drawing : DrawingState) → Stands d h → IsPiece bs → AreBytes bs → feed_refusal h ≡ None → t ≡ next_stamp d.frames.stamp now
+    → Follows h bs r → Draws d.drawing r.host.screen t frame drawing
+    → l ≡ with_entry (log_of d) (Feed bs t frame) → outgoing ≡ d.outgoing ++ r.replies.items → frames ≡ with_frame d.frames t frame
+    → Answered h (feed bs now) (fed (Ok t)) record d { host = r.host; outgoing = outgoing; frames = frames; drawing = drawing; past = l.past; entries = l.entries } [] []
+added_feed d h bs now t r frame l outgoing frames drawing s piece octets allowed is_next follows draws logs waits shows =
     let next : t ≡ next_stamp (newest h) now = is_next ∙ ap (λ (n : ℕ). next_stamp n now) s.frames.stamp in
-    let step : Step h (feed bs now) (fed (Ok t)) (Feed bs t f.frame ∷ []) = feed_step h bs now t f.frame piece octets allowed next follows.shape in
+    let shape : Shape (columns h) (lines h) frame t = subst (λ (k : ℕ). Shape (columns h) k frame t) (rows_of h r.host (at h).shift (bytes h ++ bs) follows.host) (subst (λ (k : ℕ). Shape k (shown r.host.screen).rows frame t) (cols_of h r.host (at h).shift (bytes h ++ bs) follows.host) draws.shape) in
+    let step : Step h (feed bs now) (fed (Ok t)) (Feed bs t frame ∷ []) = feed_step h bs now t frame piece octets allowed next shape in
     let above : newest h < t = omega (arith, next) in
     record {
-      added = Feed bs t f.frame ∷ [];
+      added = Feed bs t frame ∷ [];
       step = step;
-      stands = fed_desk d h bs t f.frame l f.host f.replies.items outgoing frames (feed bs now) (fed (Ok t)) s step above follows.host follows.replies follows.redraws logs waits shows;
+      stands = fed_desk d h bs t frame l r.host r.replies.items outgoing frames drawing (feed bs now) (fed (Ok t)) s step above follows.host follows.replies draws logs waits shows;
       appended = refl;
     }
 

@@ -5,6 +5,7 @@ pub mod Hearing
 pub mod Keying
 pub mod Seating
 pub mod Coming
+pub mod Drawn
 pub mod Standing
 pub mod Telling
 pub mod Following

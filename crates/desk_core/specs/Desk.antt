@@ -4,6 +4,7 @@ use Rattle.gate_model.specs.declared.cause.Cause.{Cause}
 use Rattle.gate_model.specs.declared.entry.Entry.{Entry}
 use Rattle.gate_model.specs.declared.setup.Setup.{Setup}
 use Rattle.gate_model.specs.History.{History, bytes, columns, lines, share_mode, terminal_type, capacity}
+use Rattle.gate_model.specs.Cost.{AllFrugal}
 use Rattle.gate_model.specs.Output.{out, taken, untaken}
 use Rattle.gate_model.specs.Refusals.{close_cause}
 use Rattle.gate_model.specs.Steps.{Legal}
@@ -11,16 +12,18 @@ use Rattle.gate_model.specs.Truth.{AllDrawn}
 use Rattle.desk_core.specs.declared.host.Host.{Host}
 use Rattle.desk_core.specs.Host.{HasHeard}
 use Rattle.desk_core.specs.Frames.{FramesState, HasFrames}
+use Rattle.desk_core.specs.Drawing.{DrawingState, HasDrawn}
 use Rattle.desk_core.specs.Viewers.{SeatsState, HasSeats}
 
 -- `setup` is what the session was opened with. `host` is what the host's bytes have left, and `outgoing`
--- what waits for it. `frames` has the frames, and `seats` the viewers. `past` is the history, which no
+-- what waits for it. `frames` has the frames, `drawing` what the next one is drawn over, and `seats` the viewers. `past` is the history, which no
 -- memory holds, and `entries` the number of its entries. `cause` is why the session was closed.
 pub record DeskState : Type 0 where
   pub setup : Setup
   pub host : Host
   pub outgoing : List ℕ
   pub frames : FramesState
+  pub drawing : DrawingState
   pub seats : SeatsState
   pub past : List Entry
   pub entries : ℕ
@@ -39,14 +42,22 @@ pub record IsWaiting (outgoing : List ℕ) (h : History) : Type 0 where
   pub is : outgoing ≡ untaken h
   pub taken : taken h ≤ length (out h)
 
+-- the host has heard the history's bytes, and its screen is the history's but for the lines that were scrolled
+-- before those that it counts
+pub record IsHost (host : Host) (h : History) : Type 0 where
+  pub scrolled : ℕ
+  pub heard : HasHeard host (columns h) (lines h) scrolled (bytes h)
+
 -- the desk stands for the history
 pub record Stands (d : DeskState) (h : History) : Type 0 where
   pub legal : Legal h
   pub drawn : AllDrawn h
+  pub frugal : AllFrugal h
   pub setup : HasSetup d.setup h
-  pub host : HasHeard d.host (columns h) (lines h) (bytes h)
+  pub host : IsHost d.host h
   pub outgoing : IsWaiting d.outgoing h
   pub frames : HasFrames d.frames h
+  pub drawing : HasDrawn d.drawing h
   pub seats : HasSeats d.seats h
   pub past : d.past ≡ h
   pub entries : d.entries ≡ length h

@@ -8,6 +8,7 @@ state d = record {
   host = d.host;
   outgoing = d.outgoing;
   frames = d.frames;
+  drawing = d.drawing;
   seats = d.seats;
   past = d.log.past;
   entries = d.log.entries;

@@ -17,6 +17,7 @@ mod start;
 mod take;
 mod write;
 
+use crate::drawing::Drawing;
 use crate::frames::Frames;
 use crate::host::Host;
 use crate::log::Log;
@@ -26,7 +27,7 @@ use gate_model::{Cause, Role, Setup};
 use std::marker::Model;
 
 /// One session: what it was opened with, what its Telnet host has sent, the bytes that wait for the host, the
-/// text of the frames, how far each viewer has come, and why it was closed.
+/// text of the frames, what the next one is drawn over, how far each viewer has come, and why it was closed.
 /// Contracts see what it keeps, a `DeskState`, and say by `Stands` for which histories it may stand
 /// (this project's own rule).
 #[derive(Drop)]
@@ -35,6 +36,7 @@ pub struct Desk {
     host: Host,
     outgoing: Outgoing,
     frames: Frames,
+    drawing: Drawing,
     seats: Seats,
     log: Log,
     cause: Option<Cause>,

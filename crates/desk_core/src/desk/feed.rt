@@ -6,7 +6,8 @@ ghost use Rattle.gate_model.specs.Refusals.{feed_refusal};
 ghost use Rattle.gate_model.specs.declared.event.Event.TheVariants.{Feed};
 
 use crate::desk::Desk;
-use crate::drawing::{Drawn, next_stamp, put, redraw};
+use crate::drawing::{next_stamp, put};
+use crate::host::Heard;
 use gate_model::{FeedRefusal, NoMemory};
 use std::alloc::Global;
 
@@ -30,10 +31,13 @@ impl Desk {
             return Err(refusal);
         }
         let stamp = next_stamp(self.frames.stamp(), now);
-        let drawn = self.draw(alloc, bytes, stamp)?;
-        put(&drawn, stamp, &mut self.outgoing, &mut self.frames)?;
-        self.log.feed(bytes, stamp, &drawn.frame);
-        self.host = drawn.host;
+        let heard = self.heard(alloc, bytes)?;
+        let drawn = self.drawing.draw(alloc, &heard.host.screen, stamp)?;
+        let (replies, frame) = (&heard.replies, &drawn.frame);
+        put(replies, frame, stamp, &mut self.outgoing, &mut self.frames)?;
+        self.log.feed(bytes, stamp, frame);
+        self.drawing.show(drawn);
+        self.host = heard.host;
         Ok(stamp)
     }
 
@@ -51,19 +55,12 @@ impl Desk {
         None
     }
 
-    // What the bytes leave, with a frame of this stamp.
-    fn draw(&self, alloc: Global, bytes: &[u8], stamp: u64) -> Result<Drawn, NoMemory>
-        ensures { (h : History) → Stands self.now h → IfOk result (Follows h bytes.now stamp) }
+    // What the bytes leave, and what they are answered.
+    fn heard(&self, alloc: Global, bytes: &[u8]) -> Result<Heard, NoMemory>
+        ensures { (h : History) → Stands self.now h → IfOk result (Follows h bytes.now) }
     {
         let (cols, rows) = (self.setup.cols, self.setup.rows);
-        let heard = self
-            .host
-            .hear(alloc, bytes, cols, rows, self.setup.term.as_str())?;
-        let frame = redraw(alloc, &heard.host.screen, stamp)?;
-        Ok(Drawn {
-            host: heard.host,
-            replies: heard.replies,
-            frame,
-        })
+        self.host
+            .hear(alloc, bytes, cols, rows, self.setup.term.as_str())
     }
 }

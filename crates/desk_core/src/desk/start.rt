@@ -3,7 +3,7 @@
 ghost use Rattle.std.specs.Prelude.{◌≡◌, IfOk};
 
 use crate::desk::Desk;
-use crate::drawing::{first_frame, next_stamp};
+use crate::drawing::{Drawing, next_stamp};
 use crate::frames::Frames;
 use crate::host::Host;
 use crate::log::Log;
@@ -27,14 +27,15 @@ impl Desk {
         let stamp = next_stamp(0, now);
         let seats = Seats::new(alloc)?;
         let host = Host::new(alloc, setup.cols, setup.rows)?;
-        let frame = first_frame(alloc, &host.screen, stamp)?;
-        let frames = Frames::first(alloc, frame.as_slice(), stamp)?;
-        let log = Log::opened(&setup, stamp, &frame);
+        let first = Drawing::first(alloc, &host.screen, stamp)?;
+        let frames = Frames::first(alloc, first.frame.as_slice(), stamp)?;
+        let log = Log::opened(&setup, stamp, &first.frame);
         Ok(Desk {
             setup,
             host,
             outgoing: Outgoing::new(alloc),
             frames,
+            drawing: first.drawing,
             seats,
             log,
             cause: None,

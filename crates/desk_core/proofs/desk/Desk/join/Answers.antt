@@ -1,9 +1,25 @@
-use Rattle.std.proofs.Common.{ℕ, ◌+◌, ◌++◌, refl, ap, sym, subst, arith}
+use Rattle.std.proofs.Common.{◌≡◌, ℕ, ◌+◌, ◌++◌, ◌∙◌, refl, ap, sym, subst, arith}
+use Rattle.std.specs.Prelude.{Result, Err}
+use Rattle.std.proofs.lemmas.Result.{err_from_is_err_and}
+use Rattle.gate_model.specs.declared.event.Event.TheVariants.{Join}
+use Rattle.gate_model.specs.declared.join_refusal.JoinRefusal.{JoinRefusal}
+use Rattle.gate_model.specs.declared.joined.Joined.{Joined}
+use Rattle.desk_core.specs.Calls.{Ended, join_answer}
 use Rattle.desk_core.specs.Desk.{DeskState, Stands}
 use Rattle.desk_core.specs.State.{state}
+use Rattle.desk_core.proofs.Answering.{join_stops}
 use Rattle.desk_core.proofs.Telling.{join_goes, stays_few}
 use Rattle.desk_core.proofs.Adding.{added_join}
 use Rattle.desk_core.proofs.desk.Desk.join.Goals as goal
+
+-- the viewer isn't admitted
+pub returns-in_err-role-clause-step : goal.returns-in_err-role-clause-step
+returns-in_err-role-clause-step c = λ h stood.
+    let w = c.args.into.now.items in
+    let p = err_from_is_err_and c.from_residual.result c.from_residual.ensures.1 in
+    let e : c.from_residual.result ≡ Err c.in_err-role.field-0.0 = p.1 ∙ ap (λ (r : JoinRefusal). Err r) p.2 in
+    subst (λ (r : Result Joined JoinRefusal). Ended h (Join c.args.asked) (join_answer r) c.args.self.now c.args.self.now w w) (sym e)
+    (join_stops c.args.self.now h c.args.asked c.in_err-role.field-0.0 w stood (c.in_err-role.ensures h stood))
 
 pub join-requires : goal.join-requires
 join-requires c =

@@ -1,0 +1,10 @@
+use Rattle.std.proofs.Common.{length, ap, sym, ◌∙◌, arith}
+use Rattle.std.proofs.lemmas.List.{take_all}
+use Rattle.std.specs.List.{list_all}
+use Rattle.gate_model.specs.Buffers.{is_held}
+use Rattle.gate_model.proofs.Layering.{held-not_new}
+use Rattle.desk_core.proofs.drawing.holds_all.Goals as goal
+
+pub returns-clause-held : goal.returns-clause-held
+returns-clause-held c = λ all. held-not_new c.args.cache.now.keys c.args.shown.now.keys
+    (ap (list_all (is_held c.args.cache.now.keys)) (sym (take_all c.loop-key.key-index c.args.shown.now.keys (omega (arith, c.loop-key-test.false, ap length c.as_slice-keys.ensures.keys)))) ∙ c.loop-key.invariant.1)
