@@ -1,5 +1,5 @@
 -- What each entry does to the parts of a history, for the proofs above.
-use Rattle.std.proofs.Common.{◌≡◌, ℕ, ◌*◌, ◌<◌, List, [], ◌∷◌, ◌++◌, refl, ap, sym, ◌∙◌, subst, append-nil}
+use Rattle.std.proofs.Common.{◌≡◌, ℕ, ◌<◌, List, [], ◌∷◌, ◌++◌, refl, ap, sym, ◌∙◌, subst, append-nil}
 use Rattle.std.specs.Prelude.{nat_lt}
 use Rattle.std.proofs.lemmas.Grind.{flat_map-append}
 use Rattle.std.proofs.lemmas.List.Elements.{filter-append}
@@ -11,10 +11,8 @@ use Rattle.gate_model.specs.declared.entry.Entry.{Entry}
 use Rattle.gate_model.specs.declared.entry.Entry.TheVariants.{Feed, Join, Read, Write, Take, Leave, Close}
 use Rattle.gate_model.specs.declared.how.How.{How}
 use Rattle.gate_model.specs.declared.sharing.Role.{Role}
-use Rattle.gate_model.specs.Layers.{draw, nothing, visible}
-use Rattle.gate_model.specs.Frames.{IsReady, IsDrawn, Redraws}
 use Rattle.gate_model.specs.declared.control.Control.{Control}
-use Rattle.gate_model.specs.Screens.{after_controls, functions, shown}
+use Rattle.gate_model.specs.Screens.{after_controls, functions}
 use Rattle.gate_model.specs.TelnetTokens.{tokens}
 use Rattle.gate_model.specs.Terminal.{opening_screen}
 use Rattle.gate_model.specs.Entries.{fed, framed}
@@ -23,10 +21,8 @@ use Rattle.gate_model.specs.declared.answer.Answer.{Answer}
 use Rattle.gate_model.specs.declared.event.Event.{Event}
 use Rattle.gate_model.specs.Calls.{Step}
 use Rattle.gate_model.specs.Steps.{IsScreenSize, Legal}
-use Rattle.gate_model.specs.Truth.{AllDrawn}
 use Rattle.gate_model.proofs.Added.{next, stays_started}
-use Rattle.gate_model.proofs.Drawing.{draw-append}
-use Rattle.gate_model.proofs.ScreenLaws.{after_controls-append, columns-screen, rows-screen}
+use Rattle.gate_model.proofs.ScreenLaws.{after_controls-append}
 
 -- a Feed
 pub all_frames-feed : (h : History) (bs : List ℕ) (t : ℕ) (frame : List Instr) → all_frames (Feed bs t frame ∷ h) ≡ all_frames h ++ frame
@@ -81,24 +77,3 @@ legal-size (e ∷ f ∷ g) l = let same = stays_started (f ∷ g) e (next e f g 
 pub legal-more : (h : History) (event : Event) (answer : Answer) (e : Entry) → Legal h → Step h event answer (e ∷ []) → Legal (e ∷ h)
 legal-more [] event answer e l s = absurd l
 legal-more (f ∷ g) event answer e l s = (l, event, answer, s)
-
--- the newest drawing
-pub drawn-now : (h : History) → Legal h → AllDrawn h → IsDrawn (draw nothing (all_frames h) visible) (shown (at h))
-drawn-now [] l d = absurd l
-drawn-now (e ∷ g) l d = d.1
-
--- a plain entry keeps what is drawn
-pub drawn-plain : (h : History) (e : Entry) → IsPlain e → Legal h → AllDrawn h → AllDrawn (e ∷ h)
-drawn-plain h e p l d = (d, rw (all_frames-plain h e p, at-plain h e p) (drawn-now h l d))
-
--- a frame that redraws the new screen keeps the drawing true
-pub drawn-feed : (h : History) (bs : List ℕ) (t : ℕ) (frame : List Instr) → Legal h → AllDrawn h → Redraws frame (shown (at (Feed bs t frame ∷ h))) → AllDrawn (Feed bs t frame ∷ h)
-drawn-feed h bs t frame l d redraws =
-    let now = drawn-now h l d in
-    let ready : IsReady (draw nothing (all_frames h) visible) (shown (at (Feed bs t frame ∷ h))) = record {
-      width = now.shows.width ∙ ap (λ (n : ℕ). 8 * n) (columns-screen (columns h) (lines h) (bytes h) ∙ sym (columns-screen (columns h) (lines h) (bytes h ++ bs)));
-      height = now.shows.height ∙ ap (λ (n : ℕ). 16 * n) (rows-screen (columns h) (lines h) (bytes h) ∙ sym (rows-screen (columns h) (lines h) (bytes h ++ bs)));
-      no_path = now.no_path;
-    } in
-    let drawn : IsDrawn (draw (draw nothing (all_frames h)) frame visible) (shown (at (Feed bs t frame ∷ h))) = redraws (draw nothing (all_frames h)) ready in
-    (d, rw (all_frames-feed h bs t frame, draw-append nothing (all_frames h) frame) drawn)

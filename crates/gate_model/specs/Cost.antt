@@ -6,6 +6,7 @@ use Rattle.gate_model.specs.declared.entry.Entry.{Entry}
 use Rattle.gate_model.specs.declared.entry.Entry.TheVariants.{Start, Feed}
 use Rattle.gate_model.specs.KeyGrid.{KeyGrid}
 use Rattle.gate_model.specs.Pictures.{key_at}
+use Rattle.gate_model.specs.Limits.{most_buffers}
 use Rattle.gate_model.specs.Buffers.{is_same_key, new_keys}
 use Rattle.gate_model.specs.Screens.{shown}
 use Rattle.gate_model.specs.History.{History, at}
@@ -50,7 +51,7 @@ rise e g = (at (e ∷ g)).shift - (at g).shift
 abbrev pub IsFrugal : History → Entry → Type 0
 IsFrugal g (Feed bytes stamp frame) =
     let before = shown (at g) in let after = shown (at (Feed bytes stamp frame ∷ g)) in
-    length (keys_shown (Feed bytes stamp frame ∷ g)) ≤ 1024
+    length (keys_shown (Feed bytes stamp frame ∷ g)) ≤ most_buffers
     → length frame ≤ cost (length (changes before after (rise (Feed bytes stamp frame) g))) (length (new_keys (keys_shown g) after.keys))
 IsFrugal g e = Unit {0}
 

@@ -1,9 +1,11 @@
 -- Laws of glyph buffers and of what a frame may cost, which public functions of `laws::frames` prove.
 use Rattle.std.specs.Prelude.{◌≡◌, ◌↔◌, ◌≤◌, ℕ, List, [], ◌++◌, min, ◌||◌, IsTrue}
 use Rattle.std.specs.List.{list_all}
+use Rattle.gate_model.specs.declared.instr.Instr.{Instr}
 use Rattle.gate_model.specs.declared.key.Key.{Key}
 use Rattle.gate_model.specs.KeyGrid.{KeyGrid}
-use Rattle.gate_model.specs.Layers.{Layers, nothing, visible}
+use Rattle.gate_model.specs.Layers.{HasNoPaths, Layers, Same, draw, nothing, visible}
+use Rattle.gate_model.specs.Shape.{Shape}
 use Rattle.gate_model.specs.Frames.{IsDrawn}
 use Rattle.gate_model.specs.Buffers.{Buffers, AreLayers, is_same_key, is_held, new_keys}
 use Rattle.gate_model.specs.Cost.{changes}
@@ -17,6 +19,10 @@ LayersAreDrawn = (m : Layers) (s : KeyGrid) (keys : Buffers) → AreLayers m s k
 -- no layers are those of a screen without places and of no buffer
 abbrev pub NothingIsLayers : Type 0
 NothingIsLayers = AreLayers nothing record { cols = 0; rows = 0; keys = [] } []
+
+-- layers that are the same, with nothing unfilled, stay so under each list that has the shape of a frame
+abbrev pub SamenessGoesOn : Type 0
+SamenessGoesOn = (cols rows t : ℕ) (is : List Instr) (m n : Layers) → Shape cols rows is t → Same m n → HasNoPaths m → HasNoPaths n → Same (draw m is) (draw n is)
 
 -- ---- keys
 

@@ -53,6 +53,7 @@ pub mod Calls
 pub mod Steps
 pub mod Runs
 pub mod Cost
+pub mod Kept
 pub mod Truth
 pub mod CellLaws
 pub mod ControlLaws

@@ -56,3 +56,10 @@ most_bytes = 8192
 
 abbrev pub most_elements : ℕ
 most_elements = 128
+
+-- the most frames that are kept for viewers who are behind, and the most bytes of their text
+abbrev pub most_kept_frames : ℕ
+most_kept_frames = 256
+
+abbrev pub most_kept_text : ℕ
+most_kept_text = 8388608

@@ -42,3 +42,9 @@ pub const MOST_INSTRUCTION: usize = 8_192;
 
 /// The most elements of an instruction.
 pub const MOST_ELEMENTS: usize = 128;
+
+/// The most frames that are kept for viewers who are behind.
+pub const MOST_KEPT_FRAMES: usize = 256;
+
+/// The most bytes of the text of the kept frames.
+pub const MOST_KEPT_TEXT: usize = 8_388_608;
