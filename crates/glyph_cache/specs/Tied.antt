@@ -1,5 +1,5 @@
 -- How a cache is held: a map by key with the number of each buffer, and beside it the keys by number.
-use Rattle.std.specs.Prelude.{◌≡◌, ℕ, ◌≤◌, Bool, List, map, length, All, Some, slice_get}
+use Rattle.std.specs.Prelude.{◌≡◌, ℕ, ◌≤◌, Bool, List, map, length, Some, slice_get}
 use Rattle.std.specs.List.{IsDistinct}
 use Rattle.std.specs.Map.{lookup, keys_of}
 use Rattle.lru.specs.LruCache.{LruCache}
@@ -22,5 +22,5 @@ pub record IsTied (slots : LruCache HashKey ℕ) (keys : Buffers) : Type 0 where
   pub few : length keys ≤ 1024
   pub distinct : IsDistinct is_equal (keys_of slots.entries)
   pub found : (n : ℕ) (k : Key) → slice_get keys n ≡ Some k → lookup (is_equal (record { key = k })) slots.entries ≡ Some n
-  pub back : All (λ e. slice_get keys e.1 ≡ Some e.0.key) slots.entries
+  pub back : (k : HashKey) (n : ℕ) → lookup (is_equal k) slots.entries ≡ Some n → slice_get keys n ≡ Some k.key
   pub coloured : AreColoured keys

@@ -1,7 +1,8 @@
-ghost use Rattle.std.specs.Prelude.{◌≡◌, ◌↔◌, ◌<◌, ℕ, negsuc, [], ◌∷◌, ◌++◌, length, Some, true, false, slice_get, IfOk, IfSome, IsNone, IsOk, OnOk, OnErr};
+ghost use Rattle.std.specs.Prelude.{◌≡◌, ◌↔◌, ◌<◌, ℕ, negsuc, [], ◌∷◌, ◌++◌, length, Some, true, false, slice_get, IfOk, IfSome, IfNone, IsNone, IsOk, OnOk, OnErr};
+ghost use Rattle.std.specs.NonZero.{non_zero_usize_get};
 ghost use Rattle.gate_model.specs.Buffers.{buffer_key, is_held};
 ghost use Rattle.gate_model.specs.Screens.{IsColoured};
-ghost use Rattle.glyph_cache.specs.Cache.{Gets, IsCache, IsTaken, IsUsed};
+ghost use Rattle.glyph_cache.specs.Cache.{Gets, IsCache, IsTaken, IsUsed, without};
 ghost use Rattle.glyph_cache.specs.declared.slot.SlotKind.TheVariants.{Made, Reused};
 
 use crate::hash_key::HashKey;
@@ -77,14 +78,23 @@ impl Cache {
         ensures sure { is_held self.old.keys key ≡ true → IsOk result }
         ensures valid { IsCache self.new }
     {
-        if let Some(number) = self.slots.get(&HashKey { key }).copied() {
-            return Ok(slot_of(number, SlotKind::Held));
+        match self.use_held(key) {
+            Some(number) => Ok(slot_of(number, SlotKind::Held)),
+            None if self.by_number.len() < MOST => self.make(key),
+            None => self.reuse(key),
         }
-        if self.by_number.len() < MOST {
-            self.make(key)
-        } else {
-            self.reuse(key)
-        }
+    }
+
+    // The number of the key's buffer, if it has one: the key is the one used last from then on.
+    fn use_held(&mut self, key: Key) -> Option<u16>
+        ensures held { IfSome result (λ n. slice_get self.old.keys n ≡ Some key) }
+        ensures absent { IfNone result (is_held self.old.keys key ≡ false) }
+        ensures keys { self.new.keys ≡ self.old.keys }
+        ensures first { IfSome result (λ _. self.new.order ≡ key ∷ without key self.old.order) }
+        ensures unused { IfNone result (self.new.order ≡ self.old.order) }
+        ensures valid { IsCache self.new }
+    {
+        self.slots.get(&HashKey { key }).copied()
     }
 
     // The next buffer, for a key that has none.
@@ -96,14 +106,17 @@ impl Cache {
         ensures keys { OnOk result (self.new.keys ≡ self.old.keys ++ key ∷ []) }
         ensures order { OnOk result (self.new.order ≡ key ∷ self.old.order) }
         ensures unchanged { OnErr result (self.new ≡ self.old) }
+        ensures valid { OnOk result (IsCache self.new) }
     {
         let number = self.by_number.len() as u16;
         self.by_number.push(key)?;
-        if self.slots.push(HashKey { key }, number).is_err() {
-            self.by_number.pop();
-            return Err(NoMemory);
+        match self.slots.push(HashKey { key }, number) {
+            Ok(_) => Ok(slot_of(number, SlotKind::Made)),
+            Err(_) => {
+                self.by_number.pop();
+                Err(NoMemory)
+            }
         }
-        Ok(slot_of(number, SlotKind::Made))
     }
 
     // The buffer of the key used longest ago, for a key that has none.
@@ -113,6 +126,7 @@ impl Cache {
         requires full { length self.old.keys ≡ 1024 }
         ensures slot { IfOk result (λ slot. (n : ℕ) × (slot.layer ≡ negsuc n) × (slot.kind ≡ Reused) × (n < 1024) × IsTaken self.old key n self.new) }
         ensures unchanged { OnErr result (self.new ≡ self.old) }
+        ensures valid { OnOk result (IsCache self.new) }
     {
         let number = match self.slots.peek_lru() {
             Some((_, number)) => *number,
@@ -126,7 +140,6 @@ impl Cache {
     /// The same cache once more.
     pub fn copy(&self, alloc: Global) -> Result<Cache, NoMemory>
         ensures same { IfOk result (λ c. c ≡ self.now) }
-        ensures valid { IsCache self.now }
     {
         let mut slots = LruCache::new(alloc, most())?;
         for (key, number) in self.slots.iter().rev() {
@@ -134,12 +147,14 @@ impl Cache {
         }
         Ok(Cache {
             slots,
-            by_number: self.by_number.to_vec(alloc)?,
+            by_number: Vec::from_slice(alloc, &self.by_number)?,
         })
     }
 }
 
-fn most() -> NonZeroUsize {
+fn most() -> NonZeroUsize
+    ensures { non_zero_usize_get result ≡ 1024 }
+{
     NonZeroUsize::new(MOST).unwrap()
 }
 
