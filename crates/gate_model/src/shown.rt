@@ -50,6 +50,14 @@ impl Shown {
         self.lines
     }
 
+    /// The keys, row by row, lent: as many as there are places.
+    pub fn as_slice(&self) -> &[Key]
+        ensures keys { result.now ≡ self.now.keys }
+        ensures full { length self.now.keys ≡ self.now.rows * self.now.cols }
+    {
+        &self.held
+    }
+
     /// The key at column `x` of row `y`, each counted from 0.
     pub fn key(&self, x: u16, y: u16) -> Key
         requires column { x < self.now.cols }
