@@ -6,13 +6,13 @@ use Rattle.std.proofs.lemmas.List.Elements.{All-tail}
 use Rattle.gate_model.specs.declared.colour.Colour.{Colour}
 use Rattle.gate_model.specs.declared.instr.Instr.{Instr}
 use Rattle.gate_model.specs.declared.key.Key.{Key}
-use Rattle.gate_model.specs.declared.glyphs.patch.Patch.{Patch}
+use Rattle.glyph_table.specs.declared.patch.Patch.{Patch}
 use Rattle.gate_model.specs.KeyGrid.{KeyGrid}
 use Rattle.gate_model.specs.Palette.{colour_of}
 use Rattle.gate_model.specs.Glyphs.{lit}
-use Rattle.gate_model.specs.GlyphRects.{IsInside, covers, rects}
+use Rattle.glyph_table.specs.GlyphRects.{IsInside, covers, rects}
 use Rattle.gate_model.specs.Layers.{Area, Layers, draw, is_covered, visible}
-use Rattle.gate_model.proofs.GlyphRects.{rects_cover, rects_inside}
+use Rattle.glyph_table.proofs.GlyphRects.{rects_cover, rects_inside}
 use Rattle.frame_draw.specs.Strokes.{fill, inked, inks, key_in, key_ink, rect_at, row_inks}
 use Rattle.frame_draw.proofs.Filled.{IsShowing, same_pixels, fills, filled_pixel, draws, rect_of}
 

@@ -6,13 +6,13 @@ use Rattle.std.proofs.lemmas.Int.{ints}
 use Rattle.std.proofs.lemmas.List.Elements.{All-head, All-tail}
 use Rattle.gate_model.specs.declared.instr.Instr.{Instr}
 use Rattle.gate_model.specs.declared.instr.Instr.TheVariants.{Size, Sync}
-use Rattle.gate_model.specs.declared.glyphs.patch.Patch.{Patch}
+use Rattle.glyph_table.specs.declared.patch.Patch.{Patch}
 use Rattle.gate_model.specs.KeyGrid.{KeyGrid}
 use Rattle.gate_model.specs.Palette.{colour_of, palette}
-use Rattle.gate_model.specs.GlyphRects.{IsInside, rects}
+use Rattle.glyph_table.specs.GlyphRects.{IsInside, rects}
 use Rattle.gate_model.specs.Shape.{AreReadable, IsInRange, IsLayer}
 use Rattle.gate_model.specs.Steps.{IsScreenSize}
-use Rattle.gate_model.proofs.GlyphRects.{rects_inside}
+use Rattle.glyph_table.proofs.GlyphRects.{rects_inside}
 use Rattle.gate_model.proofs.Readable.{readable_both}
 use Rattle.frame_draw.specs.Strokes.{fill, inked, inks, key_in, key_ink, paper_run, papers, rect_at, row_inks, row_papers, run_start, strokes, whole_runs}
 use Rattle.frame_draw.proofs.Papers.{start_below}

@@ -3,7 +3,7 @@ use Rattle.std.proofs.Common.{◌≡◌, ℕ, zero, suc, ◌-◌, ◌*◌, ◌^�
 use Rattle.std.proofs.lemmas.Bool.Decides.{nat_tests}
 use Rattle.gate_model.specs.declared.instr.Instr.{Instr}
 use Rattle.gate_model.specs.declared.instr.Instr.TheVariants.{Size, Rect, Cfill, Copy, Sync, Disconnect, Error}
-use Rattle.gate_model.specs.declared.glyphs.patch.Patch.{Patch}
+use Rattle.glyph_table.specs.declared.patch.Patch.{Patch}
 use Rattle.gate_model.specs.KeyGrid.{KeyGrid}
 use Rattle.gate_model.specs.Layers.{nothing, play}
 use Rattle.gate_model.specs.Frames.{Opens, Redraws}

@@ -6,11 +6,11 @@ use Rattle.std.proofs.lemmas.Bool.Decides.{nat_tests}
 use Rattle.std.proofs.lemmas.List.Elements.{All-get_or}
 use Rattle.gate_model.specs.declared.instr.Instr.{Instr}
 use Rattle.gate_model.specs.declared.key.Key.{Key}
-use Rattle.gate_model.specs.declared.glyphs.patch.Patch.{Patch}
+use Rattle.glyph_table.specs.declared.patch.Patch.{Patch}
 use Rattle.gate_model.specs.KeyGrid.{KeyGrid}
 use Rattle.gate_model.specs.Pictures.{blank_key}
 use Rattle.gate_model.specs.Screens.{AreColoured, IsColoured}
-use Rattle.gate_model.specs.GlyphRects.{rects}
+use Rattle.glyph_table.specs.GlyphRects.{rects}
 use Rattle.frame_draw.specs.Strokes.{fill, inked, inks, key_in, key_ink, paper_run, papers, rect_at, row_inks, row_papers, run_start, whole_runs}
 
 pub next : (n : ℕ) → suc n ≡ n + 1

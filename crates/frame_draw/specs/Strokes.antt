@@ -3,11 +3,11 @@ use Rattle.std.specs.Prelude.{ℕ, zero, suc, ◌+◌, ◌-◌, ◌*◌, pos, Li
 use Rattle.gate_model.specs.declared.instr.Instr.{Instr}
 use Rattle.gate_model.specs.declared.instr.Instr.TheVariants.{Rect, Cfill}
 use Rattle.gate_model.specs.declared.key.Key.{Key}
-use Rattle.gate_model.specs.declared.glyphs.patch.Patch.{Patch}
+use Rattle.glyph_table.specs.declared.patch.Patch.{Patch}
 use Rattle.gate_model.specs.KeyGrid.{KeyGrid}
 use Rattle.gate_model.specs.Palette.{colour_of}
 use Rattle.gate_model.specs.Pictures.{key_at}
-use Rattle.gate_model.specs.GlyphRects.{rects}
+use Rattle.glyph_table.specs.GlyphRects.{rects}
 
 -- the key at column x of row y
 unfoldable pub key_in : KeyGrid → ℕ → ℕ → Key

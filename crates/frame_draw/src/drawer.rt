@@ -11,7 +11,7 @@ ghost use Rattle.gate_model.specs.Shape.{OpensScreen, Shape};
 ghost use Rattle.gate_model.specs.Steps.{IsScreenSize};
 ghost use Rattle.frame_draw.specs.Strokes.{fill, inks, key_in, key_ink, paper_run, papers, row_inks, row_papers, strokes};
 
-use gate_model::glyphs::{colour_of, rects_of};
+use glyph_table::{colour_of, rects_of};
 use gate_model::{Instr, Instrs, Key, NoMemory, Shown};
 use std::alloc::Global;
 

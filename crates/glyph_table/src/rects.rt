@@ -1,10 +1,11 @@
 ghost use Rattle.std.specs.Prelude.{◌≡◌, ◌+◌, ◌-◌, ◌*◌, ◌<◌, ◌≤◌, ℕ, List, [], ◌∷◌, ◌++◌, Bool, length, All};
 ghost use Rattle.std.specs.List.{list_any, AllPairs};
-ghost use Rattle.gate_model.specs.declared.glyphs.patch.Patch.{Patch};
+ghost use Rattle.glyph_table.specs.declared.patch.Patch.{Patch};
 ghost use Rattle.gate_model.specs.Glyphs.{lit};
-ghost use Rattle.gate_model.specs.GlyphRects.{IsApart, IsInside, column_rects, covers, rects, run_rect};
+ghost use Rattle.glyph_table.specs.GlyphRects.{IsApart, IsInside, column_rects, covers, rects, run_rect};
 
-use super::{Patch, columns_of};
+use crate::Patch;
+use crate::tables::columns_of;
 use std::marker::Model;
 
 /// The most rectangles of a glyph: four runs in each of five columns, and the underline.
@@ -20,7 +21,7 @@ pub struct Rects {
 impl Model for Rects {
     ghost use Rattle.std.specs.Prelude.{◌≤◌, List};
     ghost use Rattle.std.proofs.Common.{take};
-    ghost use Rattle.gate_model.specs.declared.glyphs.patch.Patch.{Patch};
+    ghost use Rattle.glyph_table.specs.declared.patch.Patch.{Patch};
 
     ghost Value = { List Patch };
 

@@ -1,7 +1,7 @@
 -- The rectangles of a glyph: the vertical runs of its columns, and its underline (this project's own).
 use Rattle.std.specs.Prelude.{ℕ, zero, suc, ◌+◌, ◌-◌, ◌*◌, ◌^◌, ◌≤◌, List, [], ◌∷◌, ◌++◌, Bool, ◌&&◌, ◌==◌, nat_le, nat_lt, IsTrue, slice_index, if◌then◌else◌, bit_and}
 use Rattle.std.specs.Int.{w8, trailing_zeros}
-use Rattle.gate_model.specs.declared.glyphs.patch.Patch.{Patch}
+use Rattle.glyph_table.specs.declared.patch.Patch.{Patch}
 use Rattle.gate_model.specs.Glyphs.{columns_of}
 
 -- whether the rectangle has the pixel x, y of its cell

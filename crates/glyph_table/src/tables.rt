@@ -1,20 +1,11 @@
-//! The palette and the font (this project's own), and what they make of a key: colours, lit pixels
-//! and rectangles. The tables are statics: a read of a constant's element copies the whole table.
-
 ghost use Rattle.std.specs.Prelude.{◌≡◌, ◌<◌};
 ghost use Rattle.gate_model.specs.Palette.{colour_of};
 ghost use Rattle.gate_model.specs.Glyphs.{bit_of, columns_of, in_font, lit};
 
-use crate::Colour;
-
-mod patch;
-mod rects;
-
-pub use patch::Patch;
-pub use rects::{Rects, rects_of};
+use gate_model::Colour;
 
 /// The palette: sixteen colours, as red, green and blue.
-pub static PALETTE: [[u8; 3]; 16] = [
+static PALETTE: [[u8; 3]; 16] = [
     [0, 0, 0],
     [170, 0, 0],
     [0, 170, 0],
@@ -35,7 +26,7 @@ pub static PALETTE: [[u8; 3]; 16] = [
 
 /// The font: a glyph for each face from U+0020 to U+007E, by five columns from left to right. Bit r
 /// of a column, the least first, covers the pixels of x = 1 + column and y = 2 + 2r and 3 + 2r.
-pub static FONT: [[u8; 5]; 95] = [
+static FONT: [[u8; 5]; 95] = [
     [0x00, 0x00, 0x00, 0x00, 0x00],
     [0x00, 0x00, 0x5f, 0x00, 0x00],
     [0x00, 0x07, 0x00, 0x07, 0x00],
@@ -134,10 +125,10 @@ pub static FONT: [[u8; 5]; 95] = [
 ];
 
 /// The glyph of every face that isn't in the font: a box.
-pub const BOX: [u8; 5] = [0x7f, 0x41, 0x41, 0x41, 0x7f];
+const BOX: [u8; 5] = [0x7f, 0x41, 0x41, 0x41, 0x7f];
 
 /// The colour of an index of the palette.
-#[tactic(auto, unfolding(crate::specs::Palette::colour_of))]
+#[tactic(auto, unfolding(gate_model::specs::Palette::colour_of))]
 pub fn colour_of(index: u8) -> Colour
     requires { index < 16 }
     ensures { result ≡ colour_of index }
@@ -147,7 +138,7 @@ pub fn colour_of(index: u8) -> Colour
 }
 
 // The five columns of a face, from left to right.
-fn columns_of(face: char) -> [u8; 5]
+pub(crate) fn columns_of(face: char) -> [u8; 5]
     ensures { result ≡ columns_of face }
 {
     match face {
@@ -177,7 +168,7 @@ fn in_font(face: char, x: u8, y: u8) -> bool
 
 /// Whether the face has the pixel: `x` counts the 8 pixels of the cell from the left, `y` the 16
 /// from above. A key with an underline has all of pixel line 15.
-#[tactic(auto, unfolding(crate::specs::Glyphs::lit))]
+#[tactic(auto, unfolding(gate_model::specs::Glyphs::lit))]
 pub fn lit(face: char, under: bool, x: u8, y: u8) -> bool
     requires column { x < 8 }
     requires row { y < 16 }

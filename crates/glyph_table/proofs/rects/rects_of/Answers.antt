@@ -1,6 +1,6 @@
 use Rattle.std.proofs.Common.{ap, length, sym, ◌∙◌, arith}
-use Rattle.gate_model.proofs.GlyphRects.{columns_few, column_below, columns_none, columns_added, ends_underlined, ends_plain, rects_cover, rects_apart, rects_few, rects_inside}
-use Rattle.gate_model.proofs.glyphs.rects.rects_of.Goals as goal
+use Rattle.glyph_table.proofs.GlyphRects.{columns_few, column_below, columns_none, columns_added, ends_underlined, ends_plain, rects_cover, rects_apart, rects_few, rects_inside}
+use Rattle.glyph_table.proofs.rects.rects_of.Goals as goal
 
 pub add_column-requires-clause-room : goal.add_column-requires-clause-room
 add_column-requires-clause-room c =

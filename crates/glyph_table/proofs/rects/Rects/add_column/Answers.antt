@@ -1,6 +1,6 @@
 use Rattle.std.proofs.Common.{arith}
-use Rattle.gate_model.proofs.GlyphRects.{step, room, goes_on, ends}
-use Rattle.gate_model.proofs.glyphs.rects.Rects.add_column.Goals as goal
+use Rattle.glyph_table.proofs.GlyphRects.{step, room, goes_on, ends}
+use Rattle.glyph_table.proofs.rects.Rects.add_column.Goals as goal
 
 pub run_of-requires-clause-some : goal.run_of-requires-clause-some
 run_of-requires-clause-some c =

@@ -2,10 +2,10 @@
 use Rattle.std.proofs.Common.{◌≡◌, ℕ, zero, suc, ◌+◌, ◌-◌, ◌/◌, ◌^◌, List, [], ◌∷◌, length, Bool, true, false, not, ◌&&◌, ◌||◌, ◌==◌, nat_le, nat_lt, slice_index, refl}
 use lib.Count.{count_trailing_zeros}
 use Rattle.std.specs.List.{list_any, list_all}
-use Rattle.gate_model.specs.declared.glyphs.patch.Patch.{Patch}
+use Rattle.glyph_table.specs.declared.patch.Patch.{Patch}
 use Rattle.gate_model.specs.Font.{font, box}
 use Rattle.gate_model.specs.Glyphs.{bit_of}
-use Rattle.gate_model.specs.GlyphRects.{covers, first_bit, end_bit, without_run, all_rects, columns_rects, column_rects, runs_within}
+use Rattle.glyph_table.specs.GlyphRects.{covers, first_bit, end_bit, without_run, all_rects, columns_rects, column_rects, runs_within}
 
 unfoldable pub all_below : (ℕ → Bool) → ℕ → Bool
 all_below p zero = true

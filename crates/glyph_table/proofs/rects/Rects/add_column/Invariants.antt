@@ -1,6 +1,6 @@
 use Rattle.std.proofs.Common.{◌≡◌, ◌<◌, ◌++◌}
-use Rattle.gate_model.specs.GlyphRects.{column_rects}
-use Rattle.gate_model.proofs.glyphs.rects.Rects.add_column.Given as goal
+use Rattle.glyph_table.specs.GlyphRects.{column_rects}
+use Rattle.glyph_table.proofs.rects.Rects.add_column.Given as goal
 
 abbrev pub invariant-loop-left : goal.invariant-loop-left
 invariant-loop-left l = record {
