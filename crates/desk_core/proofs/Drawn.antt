@@ -4,6 +4,7 @@ use Rattle.gate_model.specs.declared.entry.Entry.{Entry}
 use Rattle.gate_model.specs.declared.entry.Entry.TheVariants.{Start, Feed}
 use Rattle.gate_model.specs.declared.instr.Instr.{Instr}
 use Rattle.gate_model.specs.declared.setup.Setup.{Setup}
+use Rattle.gate_model.specs.Limits.{most_buffers}
 use Rattle.gate_model.specs.KeyGrid.{KeyGrid}
 use Rattle.gate_model.specs.Buffers.{AreLayers, Buffers, Renews, new_keys}
 use Rattle.gate_model.specs.Cost.{AllFrugal, changes, cost, keys_shown, rise}
@@ -24,7 +25,7 @@ drawn_still d h e p has =
     record {
       screen = has.screen ∙ ap shown (sym (at-plain h e p));
       layers = layers-plain h e d.keys p has.layers;
-      held = subst (λ (keys : Buffers). length keys ≤ 1024 → d.keys ≡ keys) (sym same) has.held;
+      held = subst (λ (keys : Buffers). length keys ≤ most_buffers → d.keys ≡ keys) (sym same) has.held;
     }
 
 -- a Feed, whose frame was drawn over what was there
@@ -35,13 +36,13 @@ module _ (d new : DrawingState) (h : History) (bs : List ℕ) (t : ℕ) (frame :
   renews : Renews (shown (at h)) d.keys frame after new.keys
   renews = subst (λ (s : KeyGrid). Renews (shown (at h)) d.keys frame s new.keys) now (subst (λ (s : KeyGrid). Renews s d.keys frame (shown screen) new.keys) has.screen draws.renews)
 
-  gains : length (d.keys ++ new_keys d.keys after.keys) ≤ 1024 → new.keys ≡ d.keys ++ new_keys d.keys after.keys
-  gains = subst (λ (s : KeyGrid). length (d.keys ++ new_keys d.keys s.keys) ≤ 1024 → new.keys ≡ d.keys ++ new_keys d.keys s.keys) now draws.gains
+  gains : length (d.keys ++ new_keys d.keys after.keys) ≤ most_buffers → new.keys ≡ d.keys ++ new_keys d.keys after.keys
+  gains = subst (λ (s : KeyGrid). length (d.keys ++ new_keys d.keys s.keys) ≤ most_buffers → new.keys ≡ d.keys ++ new_keys d.keys s.keys) now draws.gains
 
-  costs : length (d.keys ++ new_keys d.keys after.keys) ≤ 1024 → length frame ≤ cost (length (changes (shown (at h)) after screen.shift)) (length (new_keys d.keys after.keys))
+  costs : length (d.keys ++ new_keys d.keys after.keys) ≤ most_buffers → length frame ≤ cost (length (changes (shown (at h)) after screen.shift)) (length (new_keys d.keys after.keys))
   costs =
-      subst (λ (s : KeyGrid). length (d.keys ++ new_keys d.keys s.keys) ≤ 1024 → length frame ≤ cost (length (changes (shown (at h)) s screen.shift)) (length (new_keys d.keys s.keys))) now
-      (subst (λ (s : KeyGrid). length (d.keys ++ new_keys d.keys (shown screen).keys) ≤ 1024 → length frame ≤ cost (length (changes s (shown screen) screen.shift)) (length (new_keys d.keys (shown screen).keys))) has.screen draws.costs)
+      subst (λ (s : KeyGrid). length (d.keys ++ new_keys d.keys s.keys) ≤ most_buffers → length frame ≤ cost (length (changes (shown (at h)) s screen.shift)) (length (new_keys d.keys s.keys))) now
+      (subst (λ (s : KeyGrid). length (d.keys ++ new_keys d.keys (shown screen).keys) ≤ most_buffers → length frame ≤ cost (length (changes s (shown screen) screen.shift)) (length (new_keys d.keys (shown screen).keys))) has.screen draws.costs)
 
   pub drawn_on : HasDrawn new (Feed bs t frame ∷ h)
   drawn_on = record {
@@ -56,36 +57,36 @@ module _ (d new : DrawingState) (h : History) (bs : List ℕ) (t : ℕ) (frame :
 -- a frame over the old screen, which counts the lines no further than 2^32 - 1
 pub drawn_over : (old new : DrawingState) (t : Terminal) (stamp shift : ℕ) (frame : List Instr) (s : KeyGrid) (keys : Buffers) → s ≡ shown t → shift ≡ min t.shift (2 ^ 32 - 1) → old.screen.rows ≤ 2 ^ 32 - 1 → new.screen ≡ s → new.keys ≡ keys
     → Shape s.cols s.rows frame stamp → Renews old.screen old.keys frame s keys
-    → (length (old.keys ++ new_keys old.keys s.keys) ≤ 1024 → keys ≡ old.keys ++ new_keys old.keys s.keys)
-    → (length (old.keys ++ new_keys old.keys s.keys) ≤ 1024 → length frame ≤ cost (length (changes old.screen s shift)) (length (new_keys old.keys s.keys)))
+    → (length (old.keys ++ new_keys old.keys s.keys) ≤ most_buffers → keys ≡ old.keys ++ new_keys old.keys s.keys)
+    → (length (old.keys ++ new_keys old.keys s.keys) ≤ most_buffers → length frame ≤ cost (length (changes old.screen s shift)) (length (new_keys old.keys s.keys)))
     → Draws old t stamp frame new
 drawn_over old new t stamp shift frame s keys is capped few screen held shape renews gains costs =
     let same : changes old.screen s shift ≡ changes old.screen s t.shift = ap (changes old.screen s) capped ∙ changes-few_lines old.screen s t.shift (2 ^ 32 - 1) few in
-    let told : length (old.keys ++ new_keys old.keys s.keys) ≤ 1024 → length frame ≤ cost (length (changes old.screen s t.shift)) (length (new_keys old.keys s.keys)) =
-    subst (λ (places : List ℕ). length (old.keys ++ new_keys old.keys s.keys) ≤ 1024 → length frame ≤ cost (length places) (length (new_keys old.keys s.keys))) same costs in
+    let told : length (old.keys ++ new_keys old.keys s.keys) ≤ most_buffers → length frame ≤ cost (length (changes old.screen s t.shift)) (length (new_keys old.keys s.keys)) =
+    subst (λ (places : List ℕ). length (old.keys ++ new_keys old.keys s.keys) ≤ most_buffers → length frame ≤ cost (length places) (length (new_keys old.keys s.keys))) same costs in
     record {
       screen = screen ∙ is;
       shape = subst (λ (g : KeyGrid). Shape g.cols g.rows frame stamp) is shape;
       renews = subst (λ (g : KeyGrid). Renews old.screen old.keys frame g new.keys) is (subst (λ (ks : Buffers). Renews old.screen old.keys frame s ks) (sym held) renews);
-      gains = subst (λ (g : KeyGrid). length (old.keys ++ new_keys old.keys g.keys) ≤ 1024 → new.keys ≡ old.keys ++ new_keys old.keys g.keys) is (λ small. held ∙ gains small);
-      costs = subst (λ (g : KeyGrid). length (old.keys ++ new_keys old.keys g.keys) ≤ 1024 → length frame ≤ cost (length (changes old.screen g t.shift)) (length (new_keys old.keys g.keys))) is told;
+      gains = subst (λ (g : KeyGrid). length (old.keys ++ new_keys old.keys g.keys) ≤ most_buffers → new.keys ≡ old.keys ++ new_keys old.keys g.keys) is (λ small. held ∙ gains small);
+      costs = subst (λ (g : KeyGrid). length (old.keys ++ new_keys old.keys g.keys) ≤ most_buffers → length frame ≤ cost (length (changes old.screen g t.shift)) (length (new_keys old.keys g.keys))) is told;
     }
 
 -- where no key is new, no buffer is
-pub no_buffer : (before keys next : Buffers) → new_keys before keys ≡ [] → length before ≤ 1024 → (length (before ++ new_keys before keys) ≤ 1024 → next ≡ before ++ new_keys before keys) → before ≡ next
+pub no_buffer : (before keys next : Buffers) → new_keys before keys ≡ [] → length before ≤ most_buffers → (length (before ++ new_keys before keys) ≤ most_buffers → next ≡ before ++ new_keys before keys) → before ≡ next
 no_buffer before keys next none few gains =
     let same : before ++ new_keys before keys ≡ before = ap (λ (ks : Buffers). before ++ ks) none ∙ append-nil before in
-    let small : length (before ++ new_keys before keys) ≤ 1024 = subst (λ (ks : Buffers). length ks ≤ 1024) (sym same) few in
+    let small : length (before ++ new_keys before keys) ≤ most_buffers = subst (λ (ks : Buffers). length ks ≤ most_buffers) (sym same) few in
     sym (gains small ∙ same)
 
 -- the first frame alone
 pub drawn_first : (d : DrawingState) (setup : Setup) (stamp : ℕ) (frame : List Instr) (screen : Terminal) → let h = Start setup.cols setup.rows setup.mode setup.term setup.entries stamp frame ∷ [] in
-    shown screen ≡ shown (at h) → d.screen ≡ shown screen → AreLayers (draw nothing frame) (shown screen) d.keys → (length (new_keys [] (shown screen).keys) ≤ 1024 → d.keys ≡ new_keys [] (shown screen).keys) → HasDrawn d h
+    shown screen ≡ shown (at h) → d.screen ≡ shown screen → AreLayers (draw nothing frame) (shown screen) d.keys → (length (new_keys [] (shown screen).keys) ≤ most_buffers → d.keys ≡ new_keys [] (shown screen).keys) → HasDrawn d h
 drawn_first d setup stamp frame screen now is drawn held =
     let h : History = Start setup.cols setup.rows setup.mode setup.term setup.entries stamp frame ∷ [] in
     let every : all_frames h ≡ frame = append-nil frame in
     record {
       screen = is ∙ now;
       layers = subst (λ (m : Layers). AreLayers m (shown (at h)) d.keys) (ap (draw nothing) (sym every)) (subst (λ (s : KeyGrid). AreLayers (draw nothing frame) s d.keys) now drawn);
-      held = subst (λ (s : KeyGrid). length (new_keys [] s.keys) ≤ 1024 → d.keys ≡ new_keys [] s.keys) now held;
+      held = subst (λ (s : KeyGrid). length (new_keys [] s.keys) ≤ most_buffers → d.keys ≡ new_keys [] s.keys) now held;
     }

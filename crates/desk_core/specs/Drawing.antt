@@ -1,6 +1,7 @@
 -- What a desk draws with (this project's own).
 use Rattle.std.specs.Prelude.{◌≡◌, ℕ, ◌≤◌, List, ◌++◌, length, Option, Some, None}
 use Rattle.gate_model.specs.declared.instr.Instr.{Instr}
+use Rattle.gate_model.specs.Limits.{most_buffers}
 use Rattle.gate_model.specs.KeyGrid.{KeyGrid}
 use Rattle.gate_model.specs.Buffers.{AreLayers, Buffers, Renews, new_keys}
 use Rattle.gate_model.specs.Cost.{changes, cost, keys_shown}
@@ -30,8 +31,8 @@ pub record Draws (old : DrawingState) (t : Terminal) (stamp : ℕ) (frame : List
   pub screen : new.screen ≡ shown t
   pub shape : Shape (shown t).cols (shown t).rows frame stamp
   pub renews : Renews old.screen old.keys frame (shown t) new.keys
-  pub gains : length (old.keys ++ new_keys old.keys (shown t).keys) ≤ 1024 → new.keys ≡ old.keys ++ new_keys old.keys (shown t).keys
-  pub costs : length (old.keys ++ new_keys old.keys (shown t).keys) ≤ 1024 → length frame ≤ cost (length (changes old.screen (shown t) t.shift)) (length (new_keys old.keys (shown t).keys))
+  pub gains : length (old.keys ++ new_keys old.keys (shown t).keys) ≤ most_buffers → new.keys ≡ old.keys ++ new_keys old.keys (shown t).keys
+  pub costs : length (old.keys ++ new_keys old.keys (shown t).keys) ≤ most_buffers → length frame ≤ cost (length (changes old.screen (shown t) t.shift)) (length (new_keys old.keys (shown t).keys))
 
 -- ---- what it says of the history
 
@@ -40,4 +41,4 @@ pub record Draws (old : DrawingState) (t : Terminal) (stamp : ℕ) (frame : List
 pub record HasDrawn (d : DrawingState) (h : History) : Type 0 where
   pub screen : d.screen ≡ shown (at h)
   pub layers : AreLayers (all_layers h) (shown (at h)) d.keys
-  pub held : length (keys_shown h) ≤ 1024 → d.keys ≡ keys_shown h
+  pub held : length (keys_shown h) ≤ most_buffers → d.keys ≡ keys_shown h

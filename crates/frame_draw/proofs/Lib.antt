@@ -1,7 +1,13 @@
-pub mod Steps
-pub mod Filled
-pub mod Papers
-pub mod Inks
-pub mod Picture
-pub mod Shapes
-pub mod Readables
+-- In reading order.
+mod Filled
+mod Entries
+mod Buffered
+mod Copied
+mod NewKeys
+mod Allowed
+mod Inks
+mod Left
+mod Going
+mod Holding
+mod Walking
+mod Ends

@@ -1,2 +1,4 @@
--- The instructions of a frame that draws the whole screen.
+-- The instructions of a frame, and how they follow the screen place by place.
 pub mod Strokes
+pub mod Cells
+pub mod Along

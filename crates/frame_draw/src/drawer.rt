@@ -1,181 +1,142 @@
-//! Frames that draw a whole screen: first each row's papers, in runs of equal paper, then each cell's
-//! glyph in its ink (this project's own). A frame's contract cites what it does to the visible layer
-//! (`Redraws`, `Opens`) and what it may consist of (`Shape`): among that, that each instruction is in
-//! range, so that it is read back as it was written.
+//! Frames that draw what changed: each key on the screen has a glyph buffer, into which it is painted
+//! once, and each cell that changed is copied from there (this project's own).
 
-ghost use Rattle.std.specs.Prelude.{◌≡◌, ◌+◌, ◌-◌, ◌*◌, ◌<◌, ◌≤◌, pos, List, [], ◌∷◌, ◌++◌, All, IfOk, OnOk, map};
-ghost use Rattle.gate_model.specs.declared.instr.Instr.TheVariants.{Size, Sync};
-ghost use Rattle.gate_model.specs.Frames.{Opens, Redraws};
-ghost use Rattle.gate_model.specs.Screens.{AreColoured};
+ghost use Rattle.std.specs.Prelude.{◌≡◌, ◌+◌, ◌*◌, ◌≤◌, ℕ, [], ◌++◌, length, true, IfOk, IfSome, OnOk, OnErr, Bool};
+ghost use Rattle.gate_model.specs.Buffers.{AreLayers, Renews, is_held, new_keys};
+ghost use Rattle.gate_model.specs.Cost.{changes, cost};
+ghost use Rattle.gate_model.specs.Layers.{draw, nothing};
+ghost use Rattle.gate_model.specs.Screens.{AreColoured, IsColoured};
 ghost use Rattle.gate_model.specs.Shape.{OpensScreen, Shape};
 ghost use Rattle.gate_model.specs.Steps.{IsScreenSize};
-ghost use Rattle.frame_draw.specs.Strokes.{fill, inks, key_in, key_ink, paper_run, papers, row_inks, row_papers, strokes};
+ghost use Rattle.frame_draw.specs.Along.{Along, Fits, Holds, IsBufferOf, IsLeft};
+ghost use Rattle.frame_draw.specs.Cells.{Places};
 
-use gate_model::glyphs::{colour_of, rects_of};
+use crate::strokes::{copy_to, paint, scroll};
+use crate::wanted::{Wanted, is_next};
+use dirty_region::changes;
 use gate_model::{Instr, Instrs, Key, NoMemory, Shown};
+use glyph_cache::Cache;
 use std::alloc::Global;
 
-/// The first frame of a session: it sizes the visible layer, 8 pixels a column and 16 a row, and
-/// draws the screen. `stamp` is that of its sync, which stands last.
-pub fn opening(alloc: Global, now: &Shown, stamp: u64) -> Result<Instrs, NoMemory>
+/// The first frame of a session: it sizes the visible layer, 8 pixels a column and 16 a row, and draws
+/// every place. `stamp` is that of its sync, which stands last. Refused, it leaves the cache with buffers
+/// that nothing drew.
+pub fn opening(
+    alloc: Global,
+    now: &Shown,
+    cache: &mut Cache,
+    stamp: u64,
+) -> Result<Instrs, NoMemory>
     requires size { IsScreenSize now.now.cols now.now.rows }
     requires coloured { AreColoured now.now.keys }
     ensures shape { IfOk result (λ is. Shape now.now.cols now.now.rows is stamp) }
     ensures opens { IfOk result (λ is. OpensScreen is) }
-    ensures drawn { IfOk result (λ is. Opens is now.now) }
+    ensures drawn { IfOk result (λ is. cache.old.keys ≡ [] → AreLayers (draw nothing is) now.now cache.new.keys) }
+    ensures keys { OnOk result (length (cache.old.keys ++ new_keys cache.old.keys now.now.keys) ≤ 1024 → cache.new.keys ≡ cache.old.keys ++ new_keys cache.old.keys now.now.keys) }
 {
-    let mut list = Vec::with_capacity(alloc, likely_length(now))?;
+    let mut list = Vec::with_capacity(alloc, now.as_slice().len())?;
     list.push(Instr::Size {
         layer: 0,
         width: 8 * now.cols() as u32,
         height: 16 * now.rows() as u32,
     })?;
-    draw_screen(&mut list, now, stamp)?;
-    Ok(Instrs::of(list))
-}
-
-/// A frame that draws the whole screen over whatever the visible layer shows. `stamp` is that of its
-/// sync, which stands last.
-pub fn frame(alloc: Global, now: &Shown, stamp: u64) -> Result<Instrs, NoMemory>
-    requires size { IsScreenSize now.now.cols now.now.rows }
-    requires coloured { AreColoured now.now.keys }
-    ensures shape { IfOk result (λ is. Shape now.now.cols now.now.rows is stamp) }
-    ensures redraws { IfOk result (λ is. Redraws is now.now) }
-{
-    let mut list = Vec::with_capacity(alloc, likely_length(now))?;
-    draw_screen(&mut list, now, stamp)?;
-    Ok(Instrs::of(list))
-}
-
-// Room for one instruction a cell and the papers of rows of one paper; a full screen takes more.
-fn likely_length(now: &Shown) -> usize {
-    now.cols() as usize * now.rows() as usize + 2 * now.rows() as usize + 2
-}
-
-// The papers, the inks over them, and the sync that ends the frame.
-#[tactic(auto, using(std::proofs::lemmas::Grind::common_steps), unfolding(crate::specs::Strokes::strokes))]
-fn draw_screen(list: &mut Vec<Instr>, now: &Shown, stamp: u64) -> Result<(), NoMemory>
-    requires size { IsScreenSize now.now.cols now.now.rows }
-    requires coloured { AreColoured now.now.keys }
-    ensures { OnOk result (list.new.items ≡ list.old.items ++ (strokes now.now ++ Sync stamp ∷ [])) }
-{
-    draw_papers(list, now)?;
-    draw_inks(list, now)?;
+    draw_places(&mut list, cache, now, Wanted::All)?;
     list.push(Instr::Sync { stamp })?;
-    Ok(())
+    Ok(Instrs::of(list))
 }
 
-#[tactic(auto, using(std::proofs::lemmas::Grind::common_steps, crate::proofs::Steps::papers_none, crate::proofs::Steps::papers_more))]
-fn draw_papers(list: &mut Vec<Instr>, now: &Shown) -> Result<(), NoMemory>
-    requires size { IsScreenSize now.now.cols now.now.rows }
-    requires coloured { AreColoured now.now.keys }
-    ensures { OnOk result (list.new.items ≡ list.old.items ++ papers now.now now.now.rows) }
+/// A frame from the old screen to the new one. `shift` is by how many lines the whole screen was scrolled
+/// up meanwhile: by that it is moved first, where something of it is left. Then every key of the new screen
+/// has a buffer, and each place that differs is copied from its own. `stamp` is that of the sync, which
+/// stands last. Refused, it leaves the cache with buffers that nothing drew; where every key has a buffer
+/// already, it leaves the cache's keys as they were.
+pub fn frame(
+    alloc: Global,
+    old: &Shown,
+    new: &Shown,
+    shift: u32,
+    cache: &mut Cache,
+    stamp: u64,
+) -> Result<Instrs, NoMemory>
+    requires size { IsScreenSize new.now.cols new.now.rows }
+    requires same_columns { old.now.cols ≡ new.now.cols }
+    requires same_rows { old.now.rows ≡ new.now.rows }
+    requires coloured { AreColoured new.now.keys }
+    ensures shape { IfOk result (λ is. Shape new.now.cols new.now.rows is stamp) }
+    ensures renews { IfOk result (λ is. Renews old.now cache.old.keys is new.now cache.new.keys) }
+    ensures stays { OnOk result (length cache.old.keys ≤ length cache.new.keys) }
+    ensures keys { OnOk result (length (cache.old.keys ++ new_keys cache.old.keys new.now.keys) ≤ 1024 → cache.new.keys ≡ cache.old.keys ++ new_keys cache.old.keys new.now.keys) }
+    ensures cost { IfOk result (λ is. length (cache.old.keys ++ new_keys cache.old.keys new.now.keys) ≤ 1024 → length is ≤ cost (length (changes old.now new.now shift)) (length (new_keys cache.old.keys new.now.keys))) }
+    ensures kept { OnErr result (new_keys cache.old.keys new.now.keys ≡ [] → cache.new.keys ≡ cache.old.keys) }
 {
-    for y in 0..now.rows() {
-        draw_row_papers(list, now, y)?;
-    }
-    Ok(())
+    let changed = changes(alloc, old, new, shift)?;
+    let places = changed.as_slice();
+    let mut drawn = Vec::with_capacity(alloc, places.len() + 2)?;
+    scroll(&mut drawn, new.cols(), new.rows(), shift)?;
+    draw_places(&mut drawn, cache, new, Wanted::Listed(places))?;
+    drawn.push(Instr::Sync { stamp })?;
+    Ok(Instrs::of(drawn))
 }
 
-// One row's papers: a run ends where the paper changes, and at the end of the row.
-#[tactic(auto, using(std::proofs::lemmas::Grind::common_steps))]
-fn draw_row_papers(list: &mut Vec<Instr>, now: &Shown, y: u16) -> Result<(), NoMemory>
+// A key and the layer of its buffer.
+#[derive(Clone, Copy)]
+struct Held {
+    key: Key,
+    layer: i32,
+}
+
+// Place by place, row by row: the buffer of its key, and a copy from there where the place is wanted. Each
+// copy follows its buffer at once, since a later key may take the buffer.
+fn draw_places(
+    list: &mut Vec<Instr>,
+    cache: &mut Cache,
+    now: &Shown,
+    wanted: Wanted,
+) -> Result<(), NoMemory>
     requires size { IsScreenSize now.now.cols now.now.rows }
     requires coloured { AreColoured now.now.keys }
-    requires row { y < now.now.rows }
-    ensures { OnOk result (list.new.items ≡ list.old.items ++ row_papers now.now y) }
+    ensures along { (rest : Places) (copies : ℕ → Bool) → Fits now.now rest copies → IsLeft now.now.cols (length now.now.keys) copies wanted.entry 0 0
+        → OnOk result (Along now.now list.old.items cache.old.keys rest copies (length now.now.keys) (length now.now.keys) list.new.items cache.new.keys) }
+    ensures kept { new_keys cache.old.keys now.now.keys ≡ [] → cache.new.keys ≡ cache.old.keys }
+    ensures full { length now.now.keys ≡ now.now.rows * now.now.cols }
 {
-    let cols = now.cols();
-    let mut from = 0;
-    let mut paper = now.key(0, y).paper;
-    for x in 1..cols {
-        let next = now.key(x, y).paper;
-        if next != paper {
-            draw_run(list, from, x, y, paper)?;
-            from = x;
-            paper = next;
+    let keys = now.as_slice();
+    let cols = now.cols() as usize;
+    let mut last = None;
+    let mut at = 0;
+    for place in 0..keys.len() {
+        let held = hold(list, cache, last, keys[place])?;
+        last = Some(held);
+        if is_next(wanted, at, place, cols) {
+            list.push(copy_to(held.layer, place, cols))?;
+            at += 1;
         }
     }
-    draw_run(list, from, cols, y, paper)?;
     Ok(())
 }
 
-// The columns from `from` up to `to`, not included, of one row.
-#[tactic(auto, using(std::proofs::lemmas::Grind::common_steps), unfolding(crate::specs::Strokes::paper_run))]
-fn draw_run(list: &mut Vec<Instr>, from: u16, to: u16, y: u16, paper: u8) -> Result<(), NoMemory>
-    requires order { from ≤ to }
-    requires coloured { paper < 16 }
-    ensures { OnOk result (list.new.items ≡ list.old.items ++ paper_run from to y paper) }
+// The buffer of the key, painted where it is new; that of the place before, where that has the same key.
+fn hold(
+    list: &mut Vec<Instr>,
+    cache: &mut Cache,
+    last: Option<Held>,
+    key: Key,
+) -> Result<Held, NoMemory>
+    requires coloured { IsColoured key }
+    requires last { IfSome last (λ h. IsBufferOf cache.old.keys h.key h.layer) }
+    ensures key { IfOk result (λ h. h.key ≡ key) }
+    ensures held { IfOk result (λ h. Holds list.old.items cache.old.keys key h.layer list.new.items cache.new.keys) }
+    ensures kept { is_held cache.old.keys key ≡ true → cache.new.keys ≡ cache.old.keys }
 {
-    list.push(Instr::Rect {
-        layer: 0,
-        x: 8 * from as u32,
-        y: 16 * y as u32,
-        width: 8 * (to - from) as u32,
-        height: 16,
-    })?;
-    list.push(fill_with(paper))?;
-    Ok(())
-}
-
-#[tactic(auto, using(std::proofs::lemmas::Grind::common_steps, crate::proofs::Steps::inks_none, crate::proofs::Steps::inks_more))]
-fn draw_inks(list: &mut Vec<Instr>, now: &Shown) -> Result<(), NoMemory>
-    requires { AreColoured now.now.keys }
-    ensures { OnOk result (list.new.items ≡ list.old.items ++ inks now.now now.now.rows) }
-{
-    for y in 0..now.rows() {
-        draw_row_inks(list, now, y)?;
+    if let Some(held) = last {
+        if held.key == key {
+            return Ok(held);
+        }
     }
-    Ok(())
-}
-
-#[tactic(auto, using(std::proofs::lemmas::Grind::common_steps, crate::proofs::Steps::row_inks_none, crate::proofs::Steps::row_inks_more, crate::proofs::Steps::key_in_is, crate::proofs::Steps::ink_below))]
-fn draw_row_inks(list: &mut Vec<Instr>, now: &Shown, y: u16) -> Result<(), NoMemory>
-    requires coloured { AreColoured now.now.keys }
-    requires row { y < now.now.rows }
-    ensures { OnOk result (list.new.items ≡ list.old.items ++ row_inks now.now y now.now.cols) }
-{
-    for x in 0..now.cols() {
-        draw_glyph(list, x, y, now.key(x, y))?;
-    }
-    Ok(())
-}
-
-// The glyph's rectangles and their fill; a glyph without lit pixels takes neither.
-#[tactic(auto, using(std::proofs::lemmas::Grind::common_steps, crate::proofs::Steps::key_ink_none, crate::proofs::Steps::key_ink_some))]
-fn draw_glyph(list: &mut Vec<Instr>, x: u16, y: u16, key: Key) -> Result<(), NoMemory>
-    requires { key.ink < 16 }
-    ensures { OnOk result (list.new.items ≡ list.old.items ++ key_ink x y key) }
-{
-    let rects = rects_of(key.face, key.under);
-    let patches = rects.as_slice();
-    if patches.is_empty() {
-        return Ok(());
-    }
-    for patch in patches {
-        list.push(Instr::Rect {
-            layer: 0,
-            x: 8 * x as u32 + patch.x as u32,
-            y: 16 * y as u32 + patch.y as u32,
-            width: patch.width as u32,
-            height: patch.height as u32,
-        })?;
-    }
-    list.push(fill_with(key.ink))?;
-    Ok(())
-}
-
-// The fill of the visible layer's path with a colour of the palette.
-#[tactic(auto, unfolding(crate::specs::Strokes::fill))]
-fn fill_with(index: u8) -> Instr
-    requires { index < 16 }
-    ensures { result ≡ fill index }
-{
-    let colour = colour_of(index);
-    Instr::Cfill {
-        layer: 0,
-        red: colour.red,
-        green: colour.green,
-        blue: colour.blue,
-    }
+    let slot = cache.buffer(key)?;
+    paint(list, slot, key)?;
+    Ok(Held {
+        key,
+        layer: slot.layer,
+    })
 }

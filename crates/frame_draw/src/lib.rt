@@ -1,12 +1,17 @@
-//! Frames: the instructions that draw a screen.
+//! Frames: the instructions that bring a viewer's layers from one screen to the next.
 //!
-//! A frame redraws the whole screen by filled rectangles: the papers in runs, then the glyphs in their
-//! inks, and its sync last. Drawn over any earlier frame it leaves the picture of the screen (`Redraws`
-//! and `Opens` of gate_model's `specs/Frames.antt`), and it has the shape of a frame
-//! (`specs/Shape.antt`). Each of its instructions is in range, so that a reader takes it back as it was
-//! written (`AreReadable`, of the same file).
+//! A glyph is painted once, into a buffer of its own, and then copied to each cell that shows it. A frame
+//! moves the visible layer by the lines that the whole screen was scrolled up, gives every key of the new
+//! screen a buffer, and copies the cells that changed. Over the layers of the old screen and of the buffers
+//! before it, it leaves those of the new screen and of the buffers after it (`AreLayers` and `Renews` of
+//! gate_model's `specs/Buffers.antt`), it has the shape of a frame (`specs/Shape.antt`), and while no buffer
+//! is reused its length has a bound by the cells that changed and the keys that are new
+//! (`specs/Cost.antt`). How a frame goes on from place to place is `Along` of this crate's
+//! `specs/Along.antt`. All this is this project's own.
 #![tactic(auto)]
 
 mod drawer;
+mod strokes;
+mod wanted;
 
 pub use drawer::{frame, opening};

@@ -1,5 +1,5 @@
 -- Layer maps that are the same and have no open path stay so under each list that a frame may hold.
-use Rattle.std.proofs.Common.{◌≡◌, ℕ, ◌+◌, ◌-◌, ◌<◌, ℤ, List, [], ◌∷◌, ◌++◌, Bool, true, false, ◌&&◌, ◌||◌, refl, ap, sym, ◌∙◌, subst, arith, append_assoc, inl, inr}
+use Rattle.std.proofs.Common.{◌≡◌, ℕ, ◌+◌, ◌-◌, ◌<◌, ℤ, List, [], ◌∷◌, Bool, true, false, ◌&&◌, ◌||◌, refl, ap, sym, ◌∙◌, subst, arith}
 use Rattle.std.specs.Prelude.{if◌then◌else◌, nat_lt, Option, Some, None}
 use Rattle.std.specs.List.{list_any}
 use Rattle.std.specs.Ordering.{int_eq}
@@ -7,7 +7,7 @@ use Rattle.std.proofs.lemmas.Bool.Decides.{nat_tests, Decides-int_eq}
 use Rattle.gate_model.specs.declared.colour.Colour.{Colour}
 use Rattle.gate_model.specs.declared.instr.Instr.{Instr}
 use Rattle.gate_model.specs.declared.instr.Instr.TheVariants.{Size, Rect, Cfill, Copy, Sync, Disconnect, Error}
-use Rattle.gate_model.specs.Layers.{Area, HasNoPaths, Layer, Layers, with_layer, is_in, is_covered, open_path, sized, traced, painted, over, source_pixel, copied, draw, nothing, IsAlike, Same}
+use Rattle.gate_model.specs.Layers.{Area, HasNoPaths, Layer, Layers, with_layer, is_in, is_covered, open_path, sized, traced, painted, over, source_pixel, copied, draw, IsAlike, Same}
 use Rattle.gate_model.specs.Shape.{Draws, Shape, without_layer}
 use Rattle.gate_model.proofs.Drawing.{draw-append}
 

@@ -1,5 +1,5 @@
 -- Which frames are kept: the last ones within the limits; and whether they cover a stamp is one comparison.
-use Rattle.std.proofs.Common.{◌≡◌, ℕ, ◌+◌, ◌<◌, ◌≤◌, List, [], ◌∷◌, ◌++◌, length, Bool, true, false, ◌&&◌, ◌⊎◌, inl, inr, refl, ap, sym, ◌∙◌, subst, arith, append-nil, append_assoc, length-append}
+use Rattle.std.proofs.Common.{◌≡◌, ℕ, ◌+◌, ◌<◌, ◌≤◌, List, [], ◌∷◌, ◌++◌, length, Bool, true, false, ◌&&◌, refl, ap, sym, ◌∙◌, subst, arith, append-nil, length-append}
 use Rattle.std.specs.Prelude.{◌↔◌, None, unwrap_or, nat_lt, nat_le, if◌then◌else◌, Option}
 use Rattle.std.proofs.lemmas.List.Elements.{filter-append}
 use Rattle.std.proofs.lemmas.Bool.Decides.{nat_tests}
@@ -134,7 +134,7 @@ is_within n m le = grind (arith, nat_tests)
 
 -- what is too long stays so
 longer_fails : (fs gs : List (ℕ × List Instr)) → may_be_kept fs ≡ false → may_be_kept (fs ++ gs) ≡ false
-longer_fails fs gs off = cases may_be_kept (fs ++ gs) refl
+longer_fails fs gs off = cases (may_be_kept (fs ++ gs)) refl
   where
     cases : (b : Bool) → may_be_kept (fs ++ gs) ≡ b → may_be_kept (fs ++ gs) ≡ false
     cases false e = e

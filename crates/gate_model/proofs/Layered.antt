@@ -3,6 +3,7 @@ use Rattle.std.proofs.Common.{◌≡◌, ℕ, ◌≤◌, List, [], ◌∷◌, �
 use Rattle.gate_model.specs.declared.instr.Instr.{Instr}
 use Rattle.gate_model.specs.declared.entry.Entry.{Entry}
 use Rattle.gate_model.specs.declared.entry.Entry.TheVariants.{Start, Feed, Join, Read, Write, Take, Leave, Close}
+use Rattle.gate_model.specs.Limits.{most_buffers}
 use Rattle.gate_model.specs.KeyGrid.{KeyGrid}
 use Rattle.gate_model.specs.Layers.{Layers, draw, nothing}
 use Rattle.gate_model.specs.Buffers.{Buffers, AreLayers, Renews, new_keys}
@@ -51,20 +52,20 @@ layers-feed h bs t frame before after a renews =
     subst (λ (m : Layers). AreLayers m (shown (at (Feed bs t frame ∷ h))) after) (sym drawn) (renews (all_layers h) a)
 
 -- the keys shown before are few where those shown after are
-few_before : (held fresh : Buffers) → length (held ++ fresh) ≤ 1024 → length held ≤ 1024
+few_before : (held fresh : Buffers) → length (held ++ fresh) ≤ most_buffers → length held ≤ most_buffers
 few_before held fresh few = omega (arith, few, length-append held fresh)
 
 -- the buffers hold just the keys that were shown, while these are few
-pub held-feed : (h : History) (bs : List ℕ) (t : ℕ) (frame : List Instr) (before after : Buffers) → (length (keys_shown h) ≤ 1024 → before ≡ keys_shown h)
-    → (length (before ++ new_keys before (shown (at (Feed bs t frame ∷ h))).keys) ≤ 1024 → after ≡ before ++ new_keys before (shown (at (Feed bs t frame ∷ h))).keys)
-    → length (keys_shown (Feed bs t frame ∷ h)) ≤ 1024 → after ≡ keys_shown (Feed bs t frame ∷ h)
+pub held-feed : (h : History) (bs : List ℕ) (t : ℕ) (frame : List Instr) (before after : Buffers) → (length (keys_shown h) ≤ most_buffers → before ≡ keys_shown h)
+    → (length (before ++ new_keys before (shown (at (Feed bs t frame ∷ h))).keys) ≤ most_buffers → after ≡ before ++ new_keys before (shown (at (Feed bs t frame ∷ h))).keys)
+    → length (keys_shown (Feed bs t frame ∷ h)) ≤ most_buffers → after ≡ keys_shown (Feed bs t frame ∷ h)
 held-feed h bs t frame before after held gains few =
     let s : KeyGrid = shown (at (Feed bs t frame ∷ h)) in
     let is : before ≡ keys_shown h = held (few_before (keys_shown h) (new_keys (keys_shown h) s.keys) few) in
-    subst (λ (keys : Buffers). length (keys ++ new_keys keys s.keys) ≤ 1024 → after ≡ keys ++ new_keys keys s.keys) is gains few
+    subst (λ (keys : Buffers). length (keys ++ new_keys keys s.keys) ≤ most_buffers → after ≡ keys ++ new_keys keys s.keys) is gains few
 
-pub frugal-feed : (h : History) (bs : List ℕ) (t : ℕ) (frame : List Instr) (before : Buffers) (shift : ℕ) → AllFrugal h → (length (keys_shown h) ≤ 1024 → before ≡ keys_shown h) → shift ≡ rise (Feed bs t frame) h
-    → (length (before ++ new_keys before (shown (at (Feed bs t frame ∷ h))).keys) ≤ 1024
+pub frugal-feed : (h : History) (bs : List ℕ) (t : ℕ) (frame : List Instr) (before : Buffers) (shift : ℕ) → AllFrugal h → (length (keys_shown h) ≤ most_buffers → before ≡ keys_shown h) → shift ≡ rise (Feed bs t frame) h
+    → (length (before ++ new_keys before (shown (at (Feed bs t frame ∷ h))).keys) ≤ most_buffers
     → length frame ≤ cost (length (changes (shown (at h)) (shown (at (Feed bs t frame ∷ h))) shift)) (length (new_keys before (shown (at (Feed bs t frame ∷ h))).keys)))
     → AllFrugal (Feed bs t frame ∷ h)
 frugal-feed h bs t frame before shift frugal held rises costs = (
@@ -72,7 +73,7 @@ frugal-feed h bs t frame before shift frugal held rises costs = (
   λ few.
       let s : KeyGrid = shown (at (Feed bs t frame ∷ h)) in
       let is : before ≡ keys_shown h = held (few_before (keys_shown h) (new_keys (keys_shown h) s.keys) few) in
-      let by_keys = subst (λ (keys : Buffers). length (keys ++ new_keys keys s.keys) ≤ 1024 → length frame ≤ cost (length (changes (shown (at h)) s shift)) (length (new_keys keys s.keys))) is costs in
+      let by_keys = subst (λ (keys : Buffers). length (keys ++ new_keys keys s.keys) ≤ most_buffers → length frame ≤ cost (length (changes (shown (at h)) s shift)) (length (new_keys keys s.keys))) is costs in
       subst (λ (n : ℕ). length frame ≤ cost (length (changes (shown (at h)) s n)) (length (new_keys (keys_shown h) s.keys))) rises (by_keys few),
 )
 

@@ -1,12 +1,12 @@
 -- Layers of a screen and its buffers; the keys that are new; the places that changed.
-use Rattle.std.proofs.Common.{◌≡◌, ℕ, ◌+◌, ◌*◌, ◌<◌, ◌≤◌, List, [], ◌∷◌, ◌++◌, Bool, true, false, ◌&&◌, ◌||◌, not, refl, ap, sym, ◌∙◌, subst, arith, pos, negsuc, zero, suc, ℤ, inl, inr}
-use Rattle.std.specs.Prelude.{◌↔◌, IsTrue, ◌/◌, ◌%◌, ◌==◌, nat_lt, nat_le, min, length, filter, if◌then◌else◌, Some}
-use Rattle.std.specs.List.{list_any, list_all, range_with_len}
+use Rattle.std.proofs.Common.{◌≡◌, ℕ, ◌+◌, ◌*◌, ◌≤◌, List, [], ◌∷◌, ◌++◌, Bool, true, false, ◌&&◌, ◌||◌, not, refl, ap, sym, ◌∙◌, subst, arith, pos, negsuc, zero, suc, ℤ}
+use Rattle.std.specs.Prelude.{◌↔◌, IsTrue, ◌/◌, ◌%◌, ◌==◌, nat_lt, nat_le, min, length, filter, if◌then◌else◌}
+use Rattle.std.specs.List.{list_all, range_with_len}
 use Rattle.std.proofs.lemmas.Bool.Decides.{nat_tests}
 use Rattle.std.proofs.lemmas.List.Folds.{list_any-append}
 use Rattle.gate_model.specs.declared.key.Key.{Key}
 use Rattle.gate_model.specs.KeyGrid.{KeyGrid}
-use Rattle.gate_model.specs.Pictures.{key_at, picture}
+use Rattle.gate_model.specs.Pictures.{key_at}
 use Rattle.gate_model.specs.Layers.{Layer, Layers, IsAlike, nothing, visible, empty_layer}
 use Rattle.gate_model.specs.Frames.{IsDrawn}
 use Rattle.gate_model.specs.Buffers.{Buffers, AreLayers, layers, is_same_key, is_held, new_keys}

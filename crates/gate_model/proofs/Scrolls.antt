@@ -1,6 +1,6 @@
 -- How many lines were scrolled is only counted: no control function looks at the number, and no report tells it.
-use Rattle.std.proofs.Common.{◌≡◌, ℕ, zero, suc, ◌+◌, ◌-◌, ◌*◌, List, [], ◌∷◌, ◌++◌, Bool, true, false, refl, ◌∙◌, ap, sym, arith}
-use Rattle.std.specs.Prelude.{min, if◌then◌else◌, ◌==◌, ◌&&◌, nat_le, nat_lt, Option, Some, None}
+use Rattle.std.proofs.Common.{◌≡◌, ℕ, zero, suc, ◌+◌, List, [], ◌∷◌, ◌++◌, Bool, true, false, refl, ◌∙◌, ap, arith}
+use Rattle.std.specs.Prelude.{min, if◌then◌else◌, ◌==◌, nat_lt, Option, Some, None}
 use Rattle.std.specs.Int.{is_in_range}
 use Rattle.gate_model.specs.declared.control.Control.{Control}
 use Rattle.gate_model.specs.declared.control.Control.TheVariants.{Print, Code, Esc, Csi}

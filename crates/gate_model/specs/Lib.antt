@@ -18,7 +18,6 @@ pub mod KeyGrid
 pub mod Palette
 pub mod Font
 pub mod Glyphs
-pub mod GlyphRects
 pub mod Pictures
 pub mod Layers
 pub mod Shape

@@ -7,7 +7,7 @@ ghost use Rattle.canvas.specs.declared.dot.Dot.TheVariants.{Painted};
 ghost use Rattle.look.specs.Faces.{HasPixel, ShowsFace};
 
 use canvas::{Canvas, Dot};
-use gate_model::glyphs::lit;
+use glyph_table::lit;
 use gate_model::{Colour, NoMemory};
 use std::alloc::Global;
 

@@ -1,12 +1,31 @@
-use Rattle.std.proofs.Common.{arith}
-use Rattle.frame_draw.proofs.Shapes.{frame_list, frame_shape, frame_redraws}
+use Rattle.std.proofs.Common.{arith, ◌∙◌}
+use Rattle.gate_model.specs.Cost.{is_changed}
+use Rattle.frame_draw.proofs.Ends.{IsFrame, all_left, frame_of, old_fits, old_places, scroll_list}
 use Rattle.frame_draw.proofs.drawer.frame.Goals as goal
 
-pub returns : goal.returns
-returns c =
-    let e = frame_list c.args.now.now c.args.stamp c.in_ok-list.list.items c.draw_screen.new.list.items c.of.result
-    c.in_ok-list.ensures.items c.in_ok-draw_screen.ensures c.of.ensures in
-    record {
-      shape = frame_shape c.args.now.now c.args.stamp c.of.result c.requires.size (omega (arith, c.ranges.stamp)) e;
-      redraws = frame_redraws c.args.now.now c.args.stamp c.of.result e;
-    }
+-- what the calls leave, in one
+whole : (c : goal.After-drop-changed-inside-2) → IsFrame c.args.old.now c.args.new.now c.args.shift c.args.cache.now.keys c.args.stamp c.of.result c.draw_places.new.cache.keys
+whole c =
+    let old = c.args.old.now in
+    let now = c.args.new.now in
+    frame_of old now c.args.shift c.args.cache.now.keys c.args.stamp c.scroll.new.list.items c.draw_places.new.list.items c.of.result c.draw_places.new.cache.keys
+    c.requires.size c.requires.same_columns c.requires.same_rows c.in_ok-draw_places.ensures.full (omega (arith, c.ranges.stamp))
+    (scroll_list now.cols now.rows c.args.shift c.cols.result c.rows.result c.in_ok-drawn.drawn.items c.scroll.new.list.items c.in_ok-drawn.ensures.items c.in_ok-scroll.ensures c.cols.ensures c.rows.ensures)
+    (c.of.ensures ∙ c.in_ok-push.ensures.items)
+    (c.in_ok-draw_places.ensures.along (old_places old c.args.shift) (is_changed old now c.args.shift) (old_fits old now c.args.shift)
+    (all_left now.cols _ (is_changed old now c.args.shift) c.as_slice-places.result.now _ c.as_slice-places.ensures c.in_ok-changed.ensures))
+
+pub returns-clause-shape : goal.returns-clause-shape
+returns-clause-shape c = (whole c).shape
+
+pub returns-clause-renews : goal.returns-clause-renews
+returns-clause-renews c = (whole c).renews
+
+pub returns-clause-stays : goal.returns-clause-stays
+returns-clause-stays c = (whole c).stays
+
+pub returns-clause-keys : goal.returns-clause-keys
+returns-clause-keys c = (whole c).keys_are
+
+pub returns-clause-cost : goal.returns-clause-cost
+returns-clause-cost c = (whole c).cheap

@@ -1,0 +1,12 @@
+//! Which places of a screen changed.
+//!
+//! A screen is compared with the one before it, once as many lines of that one were moved up as the whole
+//! screen was scrolled by: a frame moves them by one copy, and redraws the places that differ then
+//! (`changes` of gate_model's `specs/Cost.antt`). This is this project's own rule.
+#![tactic(auto)]
+
+mod places;
+mod rows;
+
+pub use places::Changes;
+pub use rows::changes;

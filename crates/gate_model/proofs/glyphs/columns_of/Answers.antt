@@ -1,7 +1,0 @@
-use Rattle.std.proofs.Common.{refl, arith}
-use Rattle.gate_model.specs.Font.{font, box}
-use Rattle.gate_model.proofs.GlyphRects.{columns_row}
-use Rattle.gate_model.proofs.glyphs.columns_of.Goals as goal
-
-pub returns-in-32-to-126 : goal.returns-in-32-to-126
-returns-in-32-to-126 c = columns_row font box c.args.face refl (omega arith) (omega arith)

@@ -1,0 +1,4 @@
+mod Keys
+mod Numbers
+mod Entries
+mod Tied

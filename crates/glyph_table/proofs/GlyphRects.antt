@@ -1,0 +1,289 @@
+-- The rectangles of a glyph cover exactly its lit pixels, stand apart, are few and lie in the cell: from the computed tests to the rule for every face.
+use Rattle.std.proofs.Common.{◌≡◌, ℕ, zero, suc, ◌+◌, ◌-◌, ◌*◌, ◌%◌, ◌^◌, ◌<◌, ◌≤◌, List, [], ◌∷◌, ◌++◌, length, Bool, true, false, ◌&&◌, ◌||◌, ◌==◌, if◌then◌else◌, nat_le, nat_lt, get_or, slice_index, refl, ap, sym, subst, ◌∙◌, append_assoc, append-nil, length-append, inl, inr, arith}
+use Rattle.std.specs.List.{list_any, list_all, All, AllPairs}
+use Rattle.std.proofs.lemmas.Bool.{cases_lt}
+use Rattle.std.proofs.lemmas.Bool.Decides.{nat_tests}
+use Rattle.std.proofs.lemmas.List.{get_or_default}
+use Rattle.std.proofs.lemmas.List.Elements.{All-cons}
+use Rattle.std.proofs.lemmas.List.Kept.{AllPairs-cons}
+use Rattle.std.proofs.lemmas.Grind.{common_steps}
+use Rattle.std.proofs.lemmas.Nat.{one_shl}
+use Rattle.glyph_table.specs.declared.patch.Patch.{Patch}
+use Rattle.gate_model.specs.Font.{font, box}
+use Rattle.gate_model.specs.Glyphs.{columns_of, lit}
+use Rattle.glyph_table.specs.GlyphRects.{IsApart, IsInside, covers, first_bit, end_bit, without_run, run_rect, underline, rects, all_rects, columns_rects, column_rects, runs_within}
+use Rattle.glyph_table.proofs.GlyphTests.{all_below, both_or_neither, in_columns, covers_pixel, covers_all, is_before, all_before, is_inside, rects_pass, glyph_passes, font_passes, box_passes, left_after, column_passes, columns_pass}
+
+both : (a b : Bool) → (a && b) ≡ true → (a ≡ true) × (b ≡ true)
+both true b e = (refl, e)
+both false b e = absurd (cc)
+
+same : (a b : Bool) → both_or_neither a b ≡ true → a ≡ b
+unfolding both_or_neither
+same true true e = refl
+same true false e = absurd (cc)
+same false true e = absurd (cc)
+same false false e = refl
+
+is_zero : (b : ℕ) → 0 < b → (b == 0) ≡ false
+is_zero b h = grind (arith, nat_tests)
+
+from_lt : (a b : ℕ) → nat_lt a b ≡ true → a < b
+from_lt a b e = grind (arith, nat_tests)
+
+from_le : (a b : ℕ) → nat_le a b ≡ true → a ≤ b
+from_le a b e = grind (arith, nat_tests)
+
+from_eq : (a b : ℕ) → (a == b) ≡ true → a ≡ b
+from_eq a b e = grind (arith, nat_tests)
+
+at_below : (p : ℕ → Bool) (n k : ℕ) → all_below p n ≡ true → k < n → p k ≡ true
+unfolding all_below
+at_below p zero k e lt = absurd (omega arith)
+at_below p (suc n) k e lt =
+    let parts = both (p n) (all_below p n) e in
+    elim (cases_lt k n) [ inl h ↦ at_below p n k parts.1 h | inr h ↦ (let e : n ≡ k = omega arith in subst (λ (j : ℕ). p j ≡ true) e parts.0) ]
+
+at_place : {X : Type 0} (p : X → Bool) (xs : List X) (i : ℕ) (d : X) → list_all p xs ≡ true → p d ≡ true → p (get_or xs i d) ≡ true
+at_place p [] i d e h = h
+at_place p (x ∷ xs) zero d e h = (both (p x) (list_all p xs) e).0
+at_place p (x ∷ xs) (suc i) d e h = at_place p xs i d (both (p x) (list_all p xs) e).1 h
+
+chosen : {X : Type 0} (p : X → Bool) (b : Bool) (x y : X) → p x ≡ true → p y ≡ true → p (if b then x else y) ≡ true
+chosen p true x y h k = h
+chosen p false x y h k = k
+
+-- every face
+face_passes : (face : ℕ) → glyph_passes (columns_of face) ≡ true
+face_passes face = chosen glyph_passes (nat_le 32 face && nat_le face 126) _ box (at_place glyph_passes font (face - 32) box font_passes box_passes) box_passes
+
+rects_of_face : (face : ℕ) (under : Bool) → rects_pass under (columns_of face) ≡ true
+unfolding glyph_passes
+rects_of_face face true = (both _ _ (face_passes face)).0
+rects_of_face face false = (both _ _ (both _ _ (face_passes face)).1).0
+
+-- a column is a byte below 128
+pub column_below : (face i : ℕ) → i < 5 → slice_index (columns_of face) i < 128
+unfolding glyph_passes
+column_below face i lt =
+    let e : nat_lt (slice_index (columns_of face) i) 128 ≡ true = at_below (λ i. nat_lt (slice_index (columns_of face) i) 128) 5 i (both _ _ (both _ _ (face_passes face)).1).1 lt in
+    from_lt (slice_index (columns_of face) i) 128 e
+
+pub columns_row : (font : List (List ℕ)) (box : List ℕ) (face : ℕ) → length font ≡ 95 → 32 ≤ face → face ≤ 126
+    → get_or font (face - 32) [] ≡ (if nat_le 32 face && nat_le face 126 then get_or font (face - 32) box else box)
+columns_row font box face len low high = let within : face - 32 < length font = omega arith in rw (get_or_default font (face - 32) [] box within) (grind (arith, nat_tests))
+
+-- ---- one run of a column after the other
+pub record IsStep (b : ℕ) : Type 0 where
+  pub shift : 1 * 2 ^ first_bit b % 256 ≡ 2 ^ first_bit b
+  pub some : first_bit b < end_bit b
+  pub seven : end_bit b ≤ 7
+  pub less : without_run b < b
+  pub fits : b + 2 ^ first_bit b ≤ 128
+  pub none_left : left_after 4 b ≡ 0
+
+five : (a b c d e : Bool) → (a && (b && (c && (d && e)))) ≡ true → (a ≡ true) × (b ≡ true) × (c ≡ true) × (d ≡ true) × (e ≡ true)
+five a b c d e h =
+    let p = both a (b && (c && (d && e))) h in
+    let q = both b (c && (d && e)) p.1 in
+    let r = both c (d && e) q.1 in
+    let s = both d e r.1 in
+    (p.0, q.0, r.0, s.0, s.1)
+
+unless : (a b : Bool) → a ≡ false → (a || b) ≡ true → b ≡ true
+unless true b e h = absurd (cc)
+unless false b e h = h
+
+pub step : (b : ℕ) → 0 < b → b < 128 → IsStep b
+unfolding column_passes
+step b some below =
+    let p = five (nat_lt (first_bit b) (end_bit b)) (nat_le (end_bit b) 7) (nat_lt (without_run b) b) (nat_le (b + 2 ^ first_bit b) 128) (left_after 4 b == 0)
+    (unless (b == 0) _ (is_zero b some) (at_below column_passes 128 b columns_pass below)) in
+    let lt = from_lt (first_bit b) (end_bit b) p.0 in
+    let le = from_le (end_bit b) 7 p.1 in
+    let small : first_bit b < 8 = omega arith in
+    record {
+      shift = one_shl (first_bit b) 8 small;
+      some = lt;
+      seven = le;
+      less = from_lt (without_run b) b p.2;
+      fits = from_le (b + 2 ^ first_bit b) 128 p.3;
+      none_left = from_eq (left_after 4 b) 0 p.4;
+    }
+
+-- more turns than there are runs change nothing
+enough : (n x : ℕ) (under : Bool) (b : ℕ) → left_after n b ≡ 0 → runs_within (suc n) x under b ≡ runs_within n x under b
+unfolding runs_within left_after
+enough zero x under b e = rw e refl
+enough (suc n) x under b e = ap (λ (rest : List Patch). if b == 0 then [] else (run_rect x under (first_bit b) (end_bit b) ∷ rest)) (enough n x under (without_run b) e)
+
+chosen_else : {X : Type 0} (b : Bool) (x y : X) → b ≡ false → (if b then x else y) ≡ y
+chosen_else true x y e = absurd (cc)
+chosen_else false x y e = refl
+
+pub column_step : (x : ℕ) (under : Bool) (b : ℕ) → 0 < b → b < 128
+    → column_rects x under b ≡ run_rect x under (first_bit b) (end_bit b) ∷ column_rects x under (without_run b)
+unfolding column_rects runs_within left_after
+column_step x under b some below =
+    chosen_else (b == 0) _ _ (grind (arith, nat_tests))
+    ∙ ap (λ (rest : List Patch). run_rect x under (first_bit b) (end_bit b) ∷ rest) (sym (enough 3 x under (without_run b) (step b some below).none_left))
+
+pub column_end : (x : ℕ) (under : Bool) → column_rects x under 0 ≡ []
+unfolding column_rects runs_within
+column_end x under = refl
+
+few_either : (zero : Bool) (first : Patch) (rest : List Patch) (n : ℕ) → length rest ≤ n → length (if zero then [] else (first ∷ rest)) ≤ suc n
+few_either true first rest n le = omega arith
+few_either false first rest n le = omega arith
+
+few_within : (n x : ℕ) (under : Bool) (b : ℕ) → length (runs_within n x under b) ≤ n
+unfolding runs_within
+few_within zero x under b = omega arith
+few_within (suc n) x under b = few_either (b == 0) _ _ n (few_within n x under (without_run b))
+
+pub column_few : (x : ℕ) (under : Bool) (b : ℕ) → length (column_rects x under b) ≤ 4
+unfolding column_rects
+column_few x under b = few_within 4 x under b
+
+-- there is room for the next run
+pub room : (now old : List Patch) (x : ℕ) (under : Bool) (b column : ℕ) → 0 < b → b < 128 → length old + 4 ≤ 21
+    → now ++ column_rects x under b ≡ old ++ column_rects x under column → length now < 21
+room now old x under b column some below le e =
+    let f = ap length e in
+    let g = column_few x under column in
+    let h = ap length (column_step x under b some below) in
+    grind (arith, common_steps)
+
+-- a run moves from what is left to what is there
+pub goes_on : (now new : List Patch) (patch : Patch) (x : ℕ) (under : Bool) (b : ℕ) (all : List Patch) → 0 < b → b < 128
+    → new ≡ now ++ patch ∷ [] → patch ≡ run_rect x under (first_bit b) (end_bit b)
+    → now ++ column_rects x under b ≡ all → new ++ column_rects x under (without_run b) ≡ all
+goes_on now new patch x under b all some below added is_run e =
+    ap (λ (has : List Patch). has ++ column_rects x under (without_run b)) (added ∙ ap (λ (run : Patch). now ++ run ∷ []) is_run)
+    ∙ (append_assoc now (run_rect x under (first_bit b) (end_bit b) ∷ []) (column_rects x under (without_run b))
+    ∙ (ap (λ (rest : List Patch). now ++ rest) (sym (column_step x under b some below)) ∙ e))
+
+pub ends : (now : List Patch) (x : ℕ) (under : Bool) (b : ℕ) (all : List Patch) → b ≡ 0 → now ++ column_rects x under b ≡ all → now ≡ all
+ends now x under b all none e =
+    sym (append-nil now) ∙ (ap (λ (rest : List Patch). now ++ rest) (sym (ap (column_rects x under) none ∙ column_end x under)) ∙ e)
+
+-- ---- the columns, one after the other
+pub columns_none : (under : Bool) (columns : List ℕ) → columns_rects 0 under columns ≡ []
+unfolding columns_rects
+columns_none under columns = refl
+
+pub columns_more : (n : ℕ) (under : Bool) (columns : List ℕ) → columns_rects (n + 1) under columns ≡ columns_rects n under columns ++ column_rects (n + 1) under (slice_index columns n)
+unfolding columns_rects
+columns_more n under columns =
+    let next : suc n ≡ n + 1 = omega arith in
+    subst (λ (m : ℕ). columns_rects m under columns ≡ columns_rects n under columns ++ column_rects (n + 1) under (slice_index columns n)) next refl
+
+pub columns_few : (n : ℕ) (under : Bool) (columns : List ℕ) → length (columns_rects n under columns) ≤ 4 * n
+unfolding columns_rects
+columns_few zero under columns = omega arith
+columns_few (suc n) under columns = omega (arith, columns_few n under columns, column_few (n + 1) under (slice_index columns n), length-append (columns_rects n under columns) (column_rects (n + 1) under (slice_index columns n)))
+
+-- ---- the rule
+pub is_rects : (face : ℕ) (under : Bool) → rects face under ≡ all_rects under (columns_of face)
+unfolding rects
+is_rects face under = refl
+
+four : (a b c d : Bool) → (a && (b && (c && d))) ≡ true → (a ≡ true) × (b ≡ true) × (c ≡ true) × (d ≡ true)
+four a b c d h =
+    let p = both a (b && (c && d)) h in
+    let q = both b (c && d) p.1 in
+    let r = both c d q.1 in
+    (p.0, q.0, r.0, r.1)
+
+record Passes (face : ℕ) (under : Bool) : Type 0 where
+  covers_lit : covers_all under (columns_of face) ≡ true
+  before : all_before (rects face under) ≡ true
+  few : nat_le (length (rects face under)) 21 ≡ true
+  inside : list_all is_inside (rects face under) ≡ true
+
+passes : (face : ℕ) (under : Bool) → Passes face under
+unfolding rects_pass rects
+passes face under =
+    let p = four (covers_all under (columns_of face)) (all_before (rects face under)) (nat_le (length (rects face under)) 21) (list_all is_inside (rects face under)) (rects_of_face face under) in
+    record { covers_lit = p.0; before = p.1; few = p.2; inside = p.3 }
+
+pub rects_cover : (face : ℕ) (under : Bool) (x y : ℕ) → x < 8 → y < 16 → list_any (λ p. covers p x y) (rects face under) ≡ lit face under x y
+unfolding rects lit in_columns covers_all covers_pixel
+rects_cover face under x y in_x in_y =
+    same (list_any (λ p. covers p x y) (rects face under)) (lit face under x y)
+    (at_below (λ j. covers_pixel under (columns_of face) x j) 16 y
+    (at_below (λ i. all_below (λ j. covers_pixel under (columns_of face) i j) 16) 8 x (passes face under).covers_lit in_x)
+    in_y)
+
+pub rects_few : (face : ℕ) (under : Bool) → length (rects face under) ≤ 21
+rects_few face under = from_le _ 21 (passes face under).few
+
+inside_from : (p : Patch) → is_inside p ≡ true → IsInside p
+unfolding is_inside
+inside_from p e =
+    let q = four (nat_le 1 p.width) (nat_le 1 p.height) (nat_le (p.x + p.width) 8) (nat_le (p.y + p.height) 16) e in
+    record { wide = from_le 1 p.width q.0; high = from_le 1 p.height q.1; in_columns = from_le (p.x + p.width) 8 q.2; in_rows = from_le (p.y + p.height) 16 q.3 }
+
+all_inside : (ps : List Patch) → list_all is_inside ps ≡ true → All IsInside ps
+all_inside [] e = λ k d lt. absurd (omega arith)
+all_inside (p ∷ ps) e =
+    let q = both (is_inside p) (list_all is_inside ps) e in
+    All-cons IsInside p ps (inside_from p q.0) (all_inside ps q.1)
+
+pub rects_inside : (face : ℕ) (under : Bool) → All IsInside (rects face under)
+rects_inside face under = all_inside (rects face under) (passes face under).inside
+
+before_apart : (p q : Patch) → is_before p q ≡ true → IsApart p q
+unfolding is_before
+before_apart p q e x y in_p in_q = grind (arith, nat_tests)
+
+each_apart : (p : Patch) (ps : List Patch) → list_all (is_before p) ps ≡ true → All (IsApart p) ps
+each_apart p [] e = λ k d lt. absurd (omega arith)
+each_apart p (q ∷ qs) e =
+    let r = both (is_before p q) (list_all (is_before p) qs) e in
+    All-cons (IsApart p) q qs (before_apart p q r.0) (each_apart p qs r.1)
+
+all_apart : (ps : List Patch) → all_before ps ≡ true → AllPairs IsApart ps
+unfolding all_before
+all_apart [] e = λ i j d lt in_j. absurd (omega arith)
+all_apart (p ∷ ps) e =
+    let q = both (list_all (is_before p) ps) (all_before ps) e in
+    AllPairs-cons IsApart p ps (each_apart p ps q.0) (all_apart ps q.1)
+
+pub rects_apart : (face : ℕ) (under : Bool) → AllPairs IsApart (rects face under)
+rects_apart face under = all_apart (rects face under) (passes face under).before
+
+-- one more column
+pub columns_added : (now new : List Patch) (n : ℕ) (under : Bool) (columns : List ℕ) → now ≡ columns_rects n under columns
+    → new ≡ now ++ column_rects (n + 1) under (slice_index columns n) → new ≡ columns_rects (n + 1) under columns
+columns_added now new n under columns before added =
+    added ∙ (ap (λ (ps : List Patch). ps ++ column_rects (n + 1) under (slice_index columns n)) before ∙ sym (columns_more n under columns))
+
+-- the list of a face, in two steps
+with_underline : (face : ℕ) → rects face true ≡ columns_rects 5 true (columns_of face) ++ underline ∷ []
+unfolding rects
+with_underline face = refl
+
+without_underline : (face : ℕ) → rects face false ≡ columns_rects 5 false (columns_of face)
+unfolding rects
+without_underline face = append-nil (columns_rects 5 false (columns_of face))
+
+all_columns : (face i : ℕ) (under : Bool) (columns : List ℕ) (now : List Patch) → columns ≡ columns_of face → i ≡ 5
+    → now ≡ columns_rects i under columns → now ≡ columns_rects 5 under (columns_of face)
+all_columns face i under columns now is_face is_five e =
+    e ∙ (ap (λ (n : ℕ). columns_rects n under columns) is_five ∙ ap (columns_rects 5 under) is_face)
+
+pub ends_underlined : (face i : ℕ) (under : Bool) (columns : List ℕ) (now new : List Patch) → under ≡ true → columns ≡ columns_of face → i ≡ 5
+    → now ≡ columns_rects i under columns → new ≡ now ++ underline ∷ [] → new ≡ rects face under
+ends_underlined face i under columns now new is_under is_face is_five e added =
+    added
+    ∙ (ap (λ (ps : List Patch). ps ++ underline ∷ []) (all_columns face i under columns now is_face is_five e)
+    ∙ (ap (λ (u : Bool). columns_rects 5 u (columns_of face) ++ underline ∷ []) is_under
+    ∙ (sym (with_underline face) ∙ sym (ap (rects face) is_under))))
+
+pub ends_plain : (face i : ℕ) (under : Bool) (columns : List ℕ) (now : List Patch) → under ≡ false → columns ≡ columns_of face → i ≡ 5
+    → now ≡ columns_rects i under columns → now ≡ rects face under
+ends_plain face i under columns now is_plain is_face is_five e =
+    all_columns face i under columns now is_face is_five e
+    ∙ (ap (λ (u : Bool). columns_rects 5 u (columns_of face)) is_plain
+    ∙ (sym (without_underline face) ∙ sym (ap (rects face) is_plain)))

@@ -1,0 +1,2 @@
+pub mod GlyphTests
+pub mod GlyphRects

@@ -1,0 +1,66 @@
+-- The rectangles of a glyph: the vertical runs of its columns, and its underline (this project's own).
+use Rattle.std.specs.Prelude.{ℕ, zero, suc, ◌+◌, ◌-◌, ◌*◌, ◌^◌, ◌≤◌, List, [], ◌∷◌, ◌++◌, Bool, ◌&&◌, ◌==◌, nat_le, nat_lt, IsTrue, slice_index, if◌then◌else◌, bit_and}
+use Rattle.std.specs.Int.{w8, trailing_zeros}
+use Rattle.glyph_table.specs.declared.patch.Patch.{Patch}
+use Rattle.gate_model.specs.Glyphs.{columns_of}
+
+-- whether the rectangle has the pixel x, y of its cell
+abbrev pub covers : Patch → ℕ → ℕ → Bool
+covers p x y = nat_le p.x x && nat_lt x (p.x + p.width) && nat_le p.y y && nat_lt y (p.y + p.height)
+
+-- no pixel is in both rectangles
+abbrev pub IsApart : Patch → Patch → Type 0
+IsApart p q = (x y : ℕ) → IsTrue (covers p x y) → IsTrue (covers q x y) → ⊥
+
+-- the rectangle has a pixel, and lies in its cell
+pub record IsInside (p : Patch) : Type 0 where
+  pub wide : 1 ≤ p.width
+  pub high : 1 ≤ p.height
+  pub in_columns : p.x + p.width ≤ 8
+  pub in_rows : p.y + p.height ≤ 16
+
+-- the lowest run of set bits of a column that isn't 0: its first bit, and the bit after its last
+abbrev pub first_bit : ℕ → ℕ
+first_bit column = trailing_zeros w8 column
+
+abbrev pub end_bit : ℕ → ℕ
+end_bit column = trailing_zeros w8 (column + 2 ^ first_bit column)
+
+-- the column without its lowest run: to add the first bit carries through the run
+abbrev pub without_run : ℕ → ℕ
+without_run column = bit_and column (column + 2 ^ first_bit column)
+
+-- the rectangle of a run. A run that reaches bit 6 leaves pixel line 15 to the underline
+abbrev pub run_rect : ℕ → Bool → ℕ → ℕ → Patch
+run_rect x under first end = record {
+  x = x;
+  y = 2 + 2 * first;
+  width = 1;
+  height = 2 * (end - first) - (if under && end == 7 then 1 else 0);
+}
+
+-- the rectangles of at most n runs of a column, from top to bottom
+unfoldable pub runs_within : ℕ → ℕ → Bool → ℕ → List Patch
+runs_within zero x under column = []
+runs_within (suc n) x under column = if column == 0 then [] else run_rect x under (first_bit column) (end_bit column) ∷ runs_within n x under (without_run column)
+
+-- the rectangles of a column: a byte has at most four runs
+unfoldable pub column_rects : ℕ → Bool → ℕ → List Patch
+column_rects x under column = runs_within 4 x under column
+
+-- the rectangles of the first n columns
+unfoldable pub columns_rects : ℕ → Bool → List ℕ → List Patch
+columns_rects zero under columns = []
+columns_rects (suc n) under columns = columns_rects n under columns ++ column_rects (n + 1) under (slice_index columns n)
+
+-- pixel line 15 over the whole width
+abbrev pub underline : Patch
+underline = record { x = 0; y = 15; width = 8; height = 1 }
+
+-- the rectangles of the columns, with the underline where there is one
+abbrev pub all_rects : Bool → List ℕ → List Patch
+all_rects under columns = columns_rects 5 under columns ++ (if under then underline ∷ [] else [])
+
+-- the rectangles of a face
+unfoldable pub rects : ℕ → Bool → List Patch
+rects face under = all_rects under (columns_of face)

@@ -1,0 +1,15 @@
+//! The palette and the font (this project's own), and what they make of a key: colours, lit pixels
+//! and rectangles.
+//!
+//! The tables here are proved to be those of gate_model's `specs/Palette.antt` and `specs/Font.antt`,
+//! which define the picture. The rectangles of a glyph are those of `specs/GlyphRects.antt`. The tables
+//! are statics: a read of a constant's element copies the whole table.
+#![tactic(auto)]
+
+mod patch;
+mod rects;
+mod tables;
+
+pub use patch::Patch;
+pub use rects::{Rects, rects_of};
+pub use tables::{colour_of, lit};
