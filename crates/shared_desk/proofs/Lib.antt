@@ -1,0 +1,3 @@
+-- In reading order: what every pass keeps, what a turn leaves.
+mod Passes
+mod Turns
