@@ -1,3 +1,6 @@
--- In reading order: what every pass keeps, what a turn leaves.
+-- In reading order: what every pass keeps, what a turn leaves, what others leave alone, what each kind of pass
+-- makes of its part.
 mod Passes
 mod Turns
+mod Alone
+mod Derived

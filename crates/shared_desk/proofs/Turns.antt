@@ -24,6 +24,7 @@ use Rattle.turn_lock.specs.Views.{with_ticket, entered, gained, passed, HasPlace
 use Rattle.shared_desk.specs.declared.held.Held.{Held}
 use Rattle.shared_desk.specs.Marks.{mark_of, mark_for}
 use Rattle.shared_desk.specs.Called.{after_turn, Answers, Turned}
+use Rattle.shared_desk.specs.Members.{HasMark}
 
 -- ---- what a call of the desk adds
 
@@ -199,3 +200,6 @@ module _ (adds : Entry → Type 0) (w : Held) (v : View Entry) (few : EntriesAre
 
 pub counted_value : (d : DeskState) (h : History) → EntriesAreFew → Stands d h → Stands d h × (length h < 2 ^ 62)
 counted_value d h few s = (s, few h s.legal)
+
+pub keeps_pass_mark : (m : ℕ) (v w : View Entry) (did : History → List Entry → Type 0) → Turned v w did → HasMark m v → HasMark m w
+keeps_pass_mark m v w did t h = record { mark = keeps_mark v w did t ∙ h.mark; not_first = keeps_given v w did t ∙ h.not_first }

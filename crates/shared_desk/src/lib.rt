@@ -3,4 +3,13 @@
 
 mod calls;
 mod held;
+mod link;
 mod member;
+mod reader;
+mod sender;
+mod writer;
+
+pub use link::LinkPass;
+pub use reader::ReaderPass;
+pub use sender::SenderPass;
+pub use writer::WriterPass;
