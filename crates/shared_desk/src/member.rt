@@ -32,6 +32,8 @@ impl Member {
     ghost use Rattle.std.specs.Arc.{arc_value};
     ghost use Rattle.turn_lock.specs.Passes.{name_of};
     ghost use Rattle.turn_lock.specs.Views.{knowing, giving, part_of, joined, MayGive};
+    ghost use Rattle.gate_model.specs.History.{joined as viewers};
+    ghost use Rattle.gate_model.specs.Limits.{most_joined};
     ghost use Rattle.gate_model.specs.Sequences.{IsLater};
     ghost use Rattle.gate_model.specs.declared.entry.Entry.{Entry};
     ghost use Rattle.desk_core.specs.Desk.{Stands};
@@ -69,6 +71,13 @@ impl Member {
     {
         let Member { lock: _, pass } = other;
         self.lock.join(&mut self.pass, pass);
+    }
+
+    /// The viewers that have joined are at most 1,000,000, so that the number of passes doesn't overflow.
+    pub(crate) fn viewers_are_few(&self)
+        ensures { viewers self.now.view.seen ≤ most_joined }
+    {
+        let _ = &self.pass;
     }
 
     /// The desk, after a last turn.
