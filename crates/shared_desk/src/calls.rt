@@ -165,7 +165,7 @@ impl Member {
 
 // Ends a turn, in which an entry was added or not. By what was told the caller's proof picks what is said of
 // the entry.
-fn end_turn<N: Adds<Entry>, A>(turn: Turn<'_, Held>, appended: bool, told: &A)
+pub(crate) fn end_turn<N: Adds<Entry>, A>(turn: Turn<'_, Held>, appended: bool, told: &A)
     requires inside { IsInside (lock_in turn) (pass_in turn).now }
     requires added { appended ≡ true → (e : Entry) × IsNext (λ (w : Held) h. Stands w.desk h) mark_of N.adds (value_in turn) (view_in turn) e }
     requires same { appended ≡ false → Stands (value_in turn).desk (view_in turn).seen }

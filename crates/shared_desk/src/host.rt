@@ -1,6 +1,6 @@
 //! The host's pass, which lets viewers join and gives out the other passes.
 
-ghost use Rattle.std.specs.Prelude.{◌≡◌, ◌≤◌, ◌+◌, ◌-◌, ◌*◌, ℕ, List, Bool, true, not, Contains, Ok, None, Some, length, is_some, is_ok, if◌then◌else◌, IfSome, OnErr};
+ghost use Rattle.std.specs.Prelude.{◌≡◌, ◌≤◌, ◌+◌, ◌-◌, ◌*◌, ℕ, List, Bool, true, not, Contains, Ok, None, Some, length, is_some, is_ok, if◌then◌else◌, IfOk, IfSome, OnErr};
 ghost use Rattle.gate_model.specs.declared.instr.Instr.{Instr};
 
 use crate::any_pass::AnyPass;
@@ -74,6 +74,7 @@ impl HostPass {
         into: &mut Vec<u8>,
     ) -> Result<Place, JoinRefusal>
         ensures step { JoinEnds self.old.view asked result self.new.view into.old.items into.new.items }
+        ensures place { IfOk result (λ place. (place.reader.session ≡ self.old.session) × (place.writer.session ≡ self.old.session)) }
         ensures buffer { OnErr result (into.new.items ≡ into.old.items) }
         ensures session { self.new.session ≡ self.old.session }
         ensures linked { self.new.linked ≡ self.old.linked }
