@@ -1,0 +1,10 @@
+use Rattle.std.proofs.Common.{◌≡◌, true, false}
+use Rattle.gate_model.specs.Laws.{EntriesAreFew}
+use Rattle.shared_desk.proofs.Turns.{counted_entry, counted_value}
+use Rattle.shared_desk.proofs.calls.end_turn.Goals as goal
+
+pub pass_on-requires-clause-added : goal.pass_on-requires-clause-added
+pass_on-requires-clause-added g c = λ added. counted_entry g.N.Adds.adds _ _ c.entries_are_few.ensures (c.requires.added added)
+
+pub pass_on-requires-clause-same : goal.pass_on-requires-clause-same
+pass_on-requires-clause-same g c = λ same. counted_value _ _ c.entries_are_few.ensures (c.requires.same same)

@@ -1,0 +1,40 @@
+-- What contracts see of a pass (this project's own).
+use Rattle.std.specs.Prelude.{◌≡◌, ℕ, ◌≤◌, Some, None, length}
+use Rattle.atomic_table.specs.Seated.{TableId}
+use Rattle.gate_model.specs.declared.entry.Entry.{Entry}
+use Rattle.gate_model.specs.History.{joined}
+use Rattle.gate_model.specs.Steps.{Legal}
+use Rattle.turn_lock.specs.Views.{HasPlaces}
+use Rattle.turn_lock.specs.declared.view.View.{View}
+use Rattle.shared_desk.specs.Marks.{mark_of, reader_mark, writer_mark}
+
+-- of which session it is, and what it knows
+pub record PassState : Type 0 where
+  pub session : TableId
+  pub view : View Entry
+
+-- the same of a viewer's pass
+pub record ViewerState : Type 0 where
+  pub session : TableId
+  pub view : View Entry
+  pub viewer : ℕ
+
+-- what is true of every pass: it has seen a legal history, and its own places are all those of its mark
+pub record IsPass (v : View Entry) : Type 0 where
+  pub places : HasPlaces mark_of v
+  pub legal : Legal v.seen
+
+-- a pass of this mark that isn't the host's
+pub record HasMark (number : ℕ) (v : View Entry) : Type 0 where
+  pub mark : v.mark ≡ Some number
+  pub not_first : v.given ≡ None
+
+-- it has seen that the viewer joined
+pub record KnowsViewer (viewer : ℕ) (v : View Entry) : Type 0 where
+  pub joined : viewer ≤ joined v.seen
+  pub begun : 1 ≤ length v.seen
+
+-- a viewer's pass of this mark
+pub record IsViewers (number viewer : ℕ) (v : View Entry) : Type 0 where
+  pub mark : HasMark number v
+  pub knows : KnowsViewer viewer v

@@ -1,0 +1,18 @@
+-- The entries that a pass added (this project's own).
+use Rattle.std.specs.Prelude.{ℕ, List, [], ◌∷◌, length, Bool, ◌==◌, if◌then◌else◌}
+use Rattle.std.specs.List.{list_any}
+use Rattle.gate_model.specs.declared.entry.Entry.{Entry}
+use Rattle.gate_model.specs.History.{History}
+use Rattle.turn_lock.specs.declared.view.View.{View}
+
+abbrev pub is_place : List ℕ → ℕ → Bool
+is_place ps n = list_any (λ p. p == n) ps
+
+-- the entries at these places, the newest first
+abbrev pub entries_at : List ℕ → History → List Entry
+entries_at ps [] = []
+entries_at ps (e ∷ g) = if is_place ps (length g) then e ∷ entries_at ps g else entries_at ps g
+
+-- those at a pass's own places
+abbrev pub own_entries : View Entry → List Entry
+own_entries v = entries_at v.mine v.seen

@@ -1,0 +1,79 @@
+//! The pass that reads for a viewer.
+
+ghost use Rattle.std.specs.Prelude.{◌≡◌, ◌≤◌, ◌++◌, List, Ok, length};
+ghost use Rattle.gate_model.specs.declared.instr.Instr.{Instr};
+
+use crate::member::Member;
+use desk_core::{NoViewer, ReadAnswer, ReadRefusal};
+use std::marker::Model;
+use std::sync::Wait;
+
+/// The pass that reads for a viewer: every Read of the viewer is its own (this project's own rule).
+#[derive(Drop)]
+pub struct ReaderPass {
+    pub(crate) member: Member,
+    pub(crate) viewer: u32,
+}
+
+impl Model for ReaderPass {
+    ghost use Rattle.shared_desk.specs.Marks.{reader_mark};
+    ghost use Rattle.shared_desk.specs.Members.{ViewerState, IsViewers};
+
+    ghost Value = { ViewerState };
+
+    ghost view = { λ p. record { session = p.member.session; view = p.member.view; viewer = p.viewer } };
+
+    ghost invariant = { λ p. IsViewers (reader_mark p.viewer) p.viewer p.member.view };
+}
+
+impl ReaderPass {
+    ghost use Rattle.gate_model.specs.Delivered.{delivered};
+    ghost use Rattle.gate_model.specs.Text.{texts};
+    ghost use Rattle.gate_model.specs.declared.answer.Answer.TheVariants.{Leave as left};
+    ghost use Rattle.gate_model.specs.declared.event.Event.TheVariants.{Read, Leave};
+    ghost use Rattle.desk_core.specs.Calls.{read_answer};
+    ghost use Rattle.shared_desk.specs.Called.{Called, Gives};
+    ghost use Rattle.turn_lock.specs.Views.{knowing};
+
+    /// The viewer's number.
+    pub fn viewer(&self) -> u32
+        ensures { result ≡ self.now.viewer }
+    {
+        self.viewer
+    }
+
+    /// `Desk::read`, in a turn. It appends the text of what the viewer was given by it.
+    pub fn read<R: Wait>(
+        &mut self,
+        rt: &R,
+        into: &mut Vec<u8>,
+    ) -> Result<ReadAnswer, ReadRefusal>
+        ensures session { self.new.session ≡ self.old.session }
+        ensures viewer { self.new.viewer ≡ self.old.viewer }
+        ensures gives { Gives self.old.view (Read self.old.viewer) (read_answer result) self.new.view into.old.items into.new.items }
+        ensures delivered { (more : List Instr) × (delivered self.new.view.seen self.old.viewer ≡ delivered self.old.view.seen self.old.viewer ++ more) × (into.new.items ≡ into.old.items ++ texts more) }
+    {
+        self.member.read(rt, self.viewer, into)
+    }
+
+    /// `Desk::leave` for the viewer, in a turn.
+    pub fn leave<R: Wait>(&mut self, rt: &R) -> Result<(), NoViewer>
+        ensures session { self.new.session ≡ self.old.session }
+        ensures viewer { self.new.viewer ≡ self.old.viewer }
+        ensures called { Called self.old.view (Leave self.old.viewer) (Ok (left result)) self.new.view }
+        ensures delivered { delivered self.new.view.seen self.old.viewer ≡ delivered self.old.view.seen self.old.viewer }
+    {
+        self.member.leave(rt, self.viewer)
+    }
+
+    /// The number of entries that the session has, by one load.
+    pub fn newest(&mut self) -> u64
+        ensures session { self.new.session ≡ self.old.session }
+        ensures viewer { self.new.viewer ≡ self.old.viewer }
+        ensures seen { length self.old.view.seen ≤ result }
+        ensures known { self.old.view.known ≤ result }
+        ensures view { self.new.view ≡ knowing result self.old.view }
+    {
+        self.member.newest()
+    }
+}

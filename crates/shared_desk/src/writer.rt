@@ -1,0 +1,83 @@
+//! The pass that writes for a viewer.
+
+ghost use Rattle.std.specs.Prelude.{◌≡◌, ◌≤◌, ◌++◌, [], ◌∷◌, Ok, length, is_ok, if◌then◌else◌};
+
+use crate::member::Member;
+use desk_core::{NoViewer, WriteRefusal, Written};
+use gate_model::Act;
+use std::alloc::Global;
+use std::marker::Model;
+use std::sync::Wait;
+
+/// The pass that writes for a viewer: every Write of the viewer is its own (this project's own rule).
+#[derive(Drop)]
+pub struct WriterPass {
+    pub(crate) member: Member,
+    pub(crate) viewer: u32,
+}
+
+impl Model for WriterPass {
+    ghost use Rattle.shared_desk.specs.Marks.{writer_mark};
+    ghost use Rattle.shared_desk.specs.Members.{ViewerState, IsViewers};
+
+    ghost Value = { ViewerState };
+
+    ghost view = { λ p. record { session = p.member.session; view = p.member.view; viewer = p.viewer } };
+
+    ghost invariant = { λ p. IsViewers (writer_mark p.viewer) p.viewer p.member.view };
+}
+
+impl WriterPass {
+    ghost use Rattle.gate_model.specs.Calls.{IsWrite};
+    ghost use Rattle.gate_model.specs.declared.answer.Answer.TheVariants.{Leave as left};
+    ghost use Rattle.gate_model.specs.declared.entry.Entry.TheVariants.{Write as Wrote, Leave as Left};
+    ghost use Rattle.gate_model.specs.declared.event.Event.TheVariants.{Write, Leave};
+    ghost use Rattle.desk_core.specs.Calls.{write_answer};
+    ghost use Rattle.shared_desk.specs.Called.{Called};
+    ghost use Rattle.shared_desk.specs.Own.{own_entries};
+    ghost use Rattle.turn_lock.specs.Views.{knowing};
+
+    /// The viewer's number.
+    pub fn viewer(&self) -> u32
+        ensures { result ≡ self.now.viewer }
+    {
+        self.viewer
+    }
+
+    /// `Desk::write` for the viewer, in a turn. It is the last entry of this pass's own.
+    pub fn write<R: Wait>(
+        &mut self,
+        rt: &R,
+        alloc: Global,
+        acts: &[Act],
+    ) -> Result<Written, WriteRefusal>
+        requires { IsWrite acts.now }
+        ensures session { self.new.session ≡ self.old.session }
+        ensures viewer { self.new.viewer ≡ self.old.viewer }
+        ensures called { Called self.old.view (Write self.old.viewer acts.now) (write_answer result) self.new.view }
+        ensures own { own_entries self.new.view ≡ (if is_ok result then Wrote self.old.viewer acts.now ∷ [] else []) ++ own_entries self.old.view }
+    {
+        self.member.write(rt, alloc, self.viewer, acts)
+    }
+
+    /// `Desk::leave` for the viewer, in a turn.
+    pub fn leave<R: Wait>(&mut self, rt: &R) -> Result<(), NoViewer>
+        ensures session { self.new.session ≡ self.old.session }
+        ensures viewer { self.new.viewer ≡ self.old.viewer }
+        ensures called { Called self.old.view (Leave self.old.viewer) (Ok (left result)) self.new.view }
+        ensures own { own_entries self.new.view ≡ (if is_ok result then Left self.old.viewer ∷ [] else []) ++ own_entries self.old.view }
+    {
+        self.member.leave(rt, self.viewer)
+    }
+
+    /// The number of entries that the session has, by one load.
+    pub fn newest(&mut self) -> u64
+        ensures session { self.new.session ≡ self.old.session }
+        ensures viewer { self.new.viewer ≡ self.old.viewer }
+        ensures seen { length self.old.view.seen ≤ result }
+        ensures known { self.old.view.known ≤ result }
+        ensures view { self.new.view ≡ knowing result self.old.view }
+    {
+        self.member.newest()
+    }
+}
