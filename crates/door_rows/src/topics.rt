@@ -77,9 +77,9 @@ fn asked<R: Threads + Wait + Copy + Send + 'static>(
     Ok(format!(in alloc; "{host} {port} {term} {mode} {read_only} {cols} {rows}")?)
 }
 
-// How a call ended, how many places went back to the door, and what was read and not used. Before the
-// client's text stand how many bytes a read gives at most, and the numbers of the read and of the write
-// that fail, 0 for none.
+// How a call ended, how many places went back to the door under an ID that is there, and what was read and
+// not used. Before the client's text stand how many bytes a read gives at most, and the numbers of the read
+// and of the write that fail, 0 for none.
 fn end<R: Threads + Wait + Copy + Send + 'static>(
     rt: &R,
     alloc: Global,

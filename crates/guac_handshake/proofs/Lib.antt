@@ -6,5 +6,7 @@ pub mod First
 pub mod Endings
 pub mod Causes
 pub mod Refusing
+pub mod Touching
+pub mod Telling
 pub mod InMemory
 mod AskFacts

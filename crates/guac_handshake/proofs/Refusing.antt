@@ -1,6 +1,6 @@
 -- Why a door refuses, by the sessions that it tells.
-use Rattle.std.proofs.Common.{◌≡◌, ℕ, List, Option, Some, None, refl, sym, ◌∙◌, subst}
-use Rattle.std.specs.Prelude.{IfSome, IsSome}
+use Rattle.std.proofs.Common.{◌≡◌, ℕ, List, Option, Some, None, refl, sym, subst}
+use Rattle.std.specs.Prelude.{Err, IfSome, IsSome, is_some}
 use Rattle.gate_model.specs.History.{History}
 use Rattle.id_table.specs.Draws.{nth_id}
 use Rattle.id_table.specs.Maps.{Same, Told}
@@ -9,7 +9,7 @@ use Rattle.guac_handshake.specs.declared.greeted.Greeted.TheVariants as greeted
 use Rattle.guac_handshake.specs.declared.refused.Refused.{Refused}
 use Rattle.guac_handshake.specs.declared.request.Request.{Request}
 use Rattle.guac_handshake.specs.declared.request.Request.TheVariants.{Begin, Join}
-use Rattle.guac_handshake.specs.Doors.{AreTaken, HasConflict, MayRefuse, Sessions, at_name}
+use Rattle.guac_handshake.specs.Doors.{AreTaken, HasConflict, IsAbsent, MayRefuse, Sessions, at_name}
 use Rattle.guac_handshake.specs.Greetings.{IsServed}
 
 -- a look changed no session: an ID that was there is there
@@ -28,16 +28,16 @@ at_same : (id : Option (List ℕ)) (m n : Sessions) → Same m n → at_name id 
 at_same None m n same = refl
 at_same (Some id) m n same = sym (same id)
 
-absent_before : (id : Option (List ℕ)) (o p : Option Sessions) → Told o p Same → IfSome p (λ m. at_name id m ≡ None) → IfSome o (λ m. at_name id m ≡ None)
-absent_before id None p t h = tt
-absent_before id (Some m) None t h = absurd t
-absent_before id (Some m) (Some n) t h = at_same id m n t ∙ h
+absent_before : (id : Option (List ℕ)) (r : Refused) (o p : Option Sessions) → Told o p Same → IfSome p (λ m. IsAbsent {A = Unit {0}} (Err r) (is_some (at_name id m))) → IfSome o (λ m. IsAbsent {A = Unit {0}} (Err r) (is_some (at_name id m)))
+absent_before id r None p t h = tt
+absent_before id r (Some m) None t h = absurd t
+absent_before id r (Some m) (Some n) t h = subst (λ (x : Option (Option History)). IsAbsent {A = Unit {0}} (Err r) (is_some x)) (sym (at_same id m n t)) h
 
 -- what a door refuses after a look, by what it told before
 pub may_before : (id_of : List ℕ → Option (List ℕ)) (o p after : Option Sessions) (d e : Option (ℕ → List ℕ)) → Told o p Same → e ≡ d → (request : Request) (refusal : Refused) → MayRefuse id_of p e after request refusal → MayRefuse id_of o d after request refusal
 may_before id_of o p after d e t same (Begin ask) refusal h =
     (h.0, λ is. let c = h.1 is in (conflict_before o p t c.0, taken_before o p d t (subst (λ (x : Option (ℕ → List ℕ)). AreTaken p x) same c.1)))
-may_before id_of o p after d e t same (Join id role) refusal h = (h.0, (λ is. absent_before (id_of id) o p t (h.1 is)), h.2)
+may_before id_of o p after d e t same (Join id role) refusal h = (h.0, absent_before (id_of id) refusal o p t h.1, h.2)
 
 pub served_as : {P : Type 0} (M N : Request → Refused → Type 0) (request : Request) (w v : Option (List ℕ)) (a b : Option (List Request)) (result : Greeted P) → ((q : Request) (r : Refused) → M q r → N q r) → IsServed M request w v a b result → IsServed N request w v a b result
 served_as M N request w v a b (greeted.Ready welcome) f s = s

@@ -1,5 +1,5 @@
 -- The contract of a door: its refusals, its sessions, its places and what it was asked (this project's own).
-use Rattle.std.specs.Prelude.{◌≡◌, ◌≢◌, ℕ, ◌+◌, ◌-◌, ◌<◌, List, [], ◌∷◌, ◌++◌, Bool, true, false, Option, Some, None, IsSome, IfSome, Result, Ok, Err}
+use Rattle.std.specs.Prelude.{◌≡◌, ◌≢◌, ℕ, ◌+◌, ◌-◌, ◌<◌, ◌⊎◌, List, [], ◌∷◌, ◌++◌, Bool, true, false, Option, Some, None, IsSome, IfSome, Result, Ok, Err, is_some}
 use Rattle.std.specs.Option.{option_map}
 use Rattle.gate_model.specs.History.{History}
 use Rattle.gate_model.specs.Refusals.{join_refusal}
@@ -86,6 +86,10 @@ SameId (Some v) (Some w) = Unit {0}
 
 abbrev pub KeepsIds : Option (List ℕ) → Sessions → Sessions → Type 0
 KeepsIds name m n = (k : List ℕ) → SameId (m k) (n k) × (name ≢ Some k → n k ≡ m k)
+
+-- one session at most is touched: it was added under this name, or its history alone may be another
+abbrev pub TouchesOne : Option (List ℕ) → Sessions → Sessions → Type 0
+TouchesOne name m n = AddedOne name m n ⊎ KeepsIds name m n
 
 -- some ID is there, where the door tells
 abbrev pub HasConflict : Option Sessions → Type 0
@@ -194,10 +198,22 @@ logged log request (Err refused) = logged_for log request refused
 abbrev pub BeginRefuses : Option Sessions → Option (ℕ → List ℕ) → Refused → Type 0
 BeginRefuses before draws refusal = IsBeginRefusal refusal × (refusal ≡ Conflict → HasConflict before × AreTaken before draws)
 
--- it refused a joiner: for Absent the ID wasn't there, and the answer is that of the rules after the session's history
+-- what the rules refuse to a joiner after the history of a session that is there; where none is, it is Absent, or memory
+-- was wanting
+abbrev pub RefusesAt : Option (Option History) → Asked → Refused → Type 0
+RefusesAt None role refusal = (refusal ≡ Absent) ⊎ (refusal ≡ NoMemory)
+RefusesAt (Some told) role refusal = IfSome told (λ h. (refusal ≡ NoMemory) ⊎ (option_map refused_of (join_refusal h role) ≡ Some refusal))
+
+-- it refused a joiner: for Absent exactly where the ID wasn't there, and else by the rules after the session's history, but
+-- for want of memory
 abbrev pub JoinRefuses : Option (List ℕ) → Option Sessions → Option Sessions → Asked → Refused → Type 0
 JoinRefuses id before after role refusal =
-    IsJoinRefusal refusal × (refusal ≡ Absent → IfSome before (λ m. at_name id m ≡ None)) × IfSome after (λ n. MeetsHistory {A = Unit {0}} (at_name id n) role (Err refusal))
+    IsJoinRefusal refusal × IfSome before (λ m. IsAbsent {A = Unit {0}} (Err refusal) (is_some (at_name id m))) × IfSome after (λ n. RefusesAt (at_name id n) role refusal)
+
+-- a session is there, and where its history is told the rules after it refuse some joiner for this
+abbrev pub HasRefused : Option Sessions → Refused → Type 0
+HasRefused after refusal =
+    IfSome after (λ n. (id : List ℕ) × (told : Option History) × (role : Asked) × (n id ≡ Some told) × IfSome told (λ h. option_map refused_of (join_refusal h role) ≡ Some refusal))
 
 -- it refused what it was asked
 abbrev pub MayRefuse : (List ℕ → Option (List ℕ)) → Option Sessions → Option (ℕ → List ℕ) → Option Sessions → Request → Refused → Type 0

@@ -14,7 +14,8 @@ use Rattle.guac_handshake.specs.declared.stop.Stop.{Stop}
 use Rattle.guac_handshake.specs.declared.stop.Stop.TheVariants as stop
 use Rattle.guac_handshake.specs.declared.welcome.Welcome.{Welcome}
 use Rattle.guac_handshake.specs.Asks.{Wish, Unfinished, Wants, Refuses, asks, asks_behind, selected, selected_by}
-use Rattle.guac_handshake.specs.Doors.{MayRefuse, Sessions, asked_more, at_name, logged_for, option_less}
+use Rattle.id_table.specs.Maps.{Same}
+use Rattle.guac_handshake.specs.Doors.{KeepsIds, MayRefuse, Sessions, TouchesOne, asked_more, at_name, logged_for, option_less}
 use Rattle.guac_handshake.specs.Splits.{Splits}
 use Rattle.guac_handshake.specs.Statuses.{bad_request, not_found, status_of}
 use Rattle.guac_handshake.specs.Texts.{args_for, error_text, ready_text}
@@ -133,6 +134,22 @@ HasOut before now greeted.Ended = now ≡ before
 HasOut before now greeted.ReadFault = now ≡ before
 HasOut before now greeted.WriteFault = now ≡ before
 HasOut before now greeted.NoMemory = now ≡ before
+
+-- the sessions that an answer of the door touched: one at most, that of the welcome where there is one; refused, none is
+-- there that wasn't
+abbrev pub HasAnswered : {P : Type 0} → (List ℕ → Option (List ℕ)) → Result (Welcome P) Refused → Sessions → Sessions → Type 0
+HasAnswered id_of (Ok welcome) m n = TouchesOne (id_of welcome.id) m n
+HasAnswered id_of (Err refusal) m n = (name : Option (List ℕ)) × KeepsIds name m n
+
+-- the sessions that a greeting touched: one at most, that of the welcome where the client was told of it; so a place of
+-- which it couldn't be told went back to the session that gave it
+abbrev pub HasTouched : {P : Type 0} → (List ℕ → Option (List ℕ)) → Greeted P → Sessions → Sessions → Type 0
+HasTouched id_of (greeted.Ready welcome) m n = TouchesOne (id_of welcome.id) m n
+HasTouched id_of (greeted.Refused status) m n = (name : Option (List ℕ)) × KeepsIds name m n
+HasTouched id_of greeted.Ended m n = Same m n
+HasTouched id_of greeted.ReadFault m n = Same m n
+HasTouched id_of greeted.WriteFault m n = (name : Option (List ℕ)) × TouchesOne name m n
+HasTouched id_of greeted.NoMemory m n = (name : Option (List ℕ)) × TouchesOne name m n
 
 -- an end of a greeting that stopped
 abbrev pub stopped_as : {P : Type 0} → Stop → Greeted P

@@ -146,6 +146,7 @@ pub trait Door: Counted {
         ensures starts { Self.start_faults self.new ≡ Self.start_faults self.old }
         ensures fresh { IfOk result (λ welcome. Self.Place.fresh welcome.place welcome.first) }
         ensures absent { Told (sessions self.old) (sessions self.new) (λ m n. IsAbsent result (is_some (at_name (id_of name.now) m))) }
+        ensures same_id { IfOk result (λ welcome. id_of welcome.id ≡ id_of name.now) }
         ensures ids { Told (sessions self.old) (sessions self.new) (KeepsIds (id_of name.now)) }
         ensures history { IfSome (sessions self.new) (λ n. MeetsHistory (at_name (id_of name.now) n) role result) }
         ensures out { out self.new ≡ one_more_out result (out self.old) }

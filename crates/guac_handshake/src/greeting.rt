@@ -1,11 +1,12 @@
 //! The handshake.
 
-ghost use Rattle.std.specs.Prelude.{◌≡◌, ◌<◌, ◌≤◌, [], IfErr, IfOk, length};
+ghost use Rattle.std.specs.Prelude.{◌≡◌, ◌<◌, ◌≤◌, ◌⊎◌, [], IfErr, IfOk, length};
 ghost use Rattle.gate_outside.specs.Edge.{Rose};
 ghost use Rattle.guac_handshake.specs.Causes.{IsEarly};
-ghost use Rattle.guac_handshake.specs.Doors.{IsBusy, IsDial, MayRefuse, logged, one_more_out};
+ghost use Rattle.guac_handshake.specs.Doors.{AreTaken, HasConflict, HasRefused, IsBusy, IsDial, KeepsIds, MayRefuse, logged, one_more_out};
 ghost use Rattle.id_table.specs.Maps.{Same, Told};
-ghost use Rattle.guac_handshake.specs.Greetings.{HasAsked, HasConnected, HasKept, HasOut, HasSelected, IfReady, IsFound, IsGreeting, IsServed, IsToldError, IsToldReady, stopped_as};
+ghost use Rattle.guac_handshake.specs.declared.refused.Refused.TheVariants.{Closed, Forbidden, TooMany, Worn};
+ghost use Rattle.guac_handshake.specs.Greetings.{HasAnswered, HasAsked, HasConnected, HasKept, HasOut, HasSelected, HasTouched, IfReady, IsFound, IsGreeting, IsServed, IsToldError, IsToldReady, stopped_as};
 
 use crate::expected::{Expected, Said};
 use crate::hearing::hear;
@@ -120,6 +121,7 @@ fn ask<R: Threads + Wait + Copy + Send + 'static, D: Door>(
     ensures asked { D.asked door.new ≡ logged (D.asked door.old) request.now result }
     ensures out { D.out door.new ≡ one_more_out result (D.out door.old) }
     ensures kind { IfErr result (MayRefuse D.id_of (D.sessions door.old) (D.draws door.old) (D.sessions door.new) request.now) }
+    ensures sessions { Told (D.sessions door.old) (D.sessions door.new) (HasAnswered D.id_of result) }
     ensures dial { IsDial result → Rose (D.dial_faults door.old) (D.dial_faults door.new) }
     ensures busy { IsBusy result → Rose (D.start_faults door.old) (D.start_faults door.new) }
     ensures later_dials { D.dial_faults door.old ≤ D.dial_faults door.new }
@@ -170,6 +172,7 @@ fn ready<R: Wait, K: Sink, D: Door>(
     ensures told { IsToldReady welcome (K.written sink.old) (K.written sink.new) result }
     ensures write_fault { result ≡ Greeted.WriteFault → Rose (K.faults sink.old) (K.faults sink.new) }
     ensures out { HasKept (D.out door.old) (D.out door.new) result }
+    ensures sessions { Told (D.sessions door.old) (D.sessions door.new) (KeepsIds (D.id_of welcome.id)) }
     ensures asked { D.asked door.new ≡ D.asked door.old }
     ensures dials { D.dial_faults door.new ≡ D.dial_faults door.old }
     ensures starts { D.start_faults door.new ≡ D.start_faults door.old }
@@ -224,6 +227,7 @@ fn serve<R: Threads + Wait + Copy + Send + 'static, K: Sink, D: Door>(
 ) -> Greeted<D::Place>
     ensures served { IsServed (MayRefuse D.id_of (D.sessions door.old) (D.draws door.old) (D.sessions door.new)) request.now (K.written sink.old) (K.written sink.new) (D.asked door.old) (D.asked door.new) result }
     ensures out { HasOut (D.out door.old) (D.out door.new) result }
+    ensures sessions { Told (D.sessions door.old) (D.sessions door.new) (HasTouched D.id_of result) }
     ensures write_fault { result ≡ Greeted.WriteFault → Rose (K.faults sink.old) (K.faults sink.new) }
     ensures dial { result ≡ Greeted.Refused 519 → Rose (D.dial_faults door.old) (D.dial_faults door.new) }
     ensures busy { result ≡ Greeted.Refused 513 → Rose (D.start_faults door.old) (D.start_faults door.new) }
@@ -249,6 +253,7 @@ fn converse<R: Threads + Wait + Copy + Send + 'static, S: Source, K: Sink, D: Do
     requires { unread.old ≡ [] }
     ensures greeting { IsGreeting D.id_of (D.sessions door.old) (D.sessions door.new) (D.draws door.old) (S.left source.old) (S.left source.new) (K.written sink.old) (K.written sink.new) (D.asked door.old) (D.asked door.new) unread.new result }
     ensures out { HasOut (D.out door.old) (D.out door.new) result }
+    ensures sessions { Told (D.sessions door.old) (D.sessions door.new) (HasTouched D.id_of result) }
     ensures read_fault { result ≡ Greeted.ReadFault → Rose (S.faults source.old) (S.faults source.new) }
     ensures write_fault { result ≡ Greeted.WriteFault → Rose (K.faults sink.old) (K.faults sink.new) }
     ensures dial { result ≡ Greeted.Refused 519 → Rose (D.dial_faults door.old) (D.dial_faults door.new) }
@@ -271,7 +276,8 @@ fn converse<R: Threads + Wait + Copy + Send + 'static, S: Source, K: Sink, D: Do
 
 /// Greets a client: reads instructions up to `connect`, asks the door what they ask, and writes the answer.
 /// `rest` is left holding the bytes that were read and aren't part of those instructions; what it held before
-/// is let go. A place that the client couldn't be told of goes back to the door.
+/// is let go. A place that the client couldn't be told of goes back to the door, to the session that gave it:
+/// no other session is touched.
 pub fn greet<R: Threads + Wait + Copy + Send + 'static, S: Source, K: Sink, D: Door>(
     rt: &R,
     alloc: Global,
@@ -282,10 +288,16 @@ pub fn greet<R: Threads + Wait + Copy + Send + 'static, S: Source, K: Sink, D: D
 ) -> Greeted<D::Place>
     ensures greeting { IsGreeting D.id_of (D.sessions door.old) (D.sessions door.new) (D.draws door.old) (S.left source.old) (S.left source.new) (K.written sink.old) (K.written sink.new) (D.asked door.old) (D.asked door.new) rest.new.items result }
     ensures out { HasOut (D.out door.old) (D.out door.new) result }
+    ensures sessions { Told (D.sessions door.old) (D.sessions door.new) (HasTouched D.id_of result) }
     ensures read_fault { result ≡ Greeted.ReadFault → Rose (S.faults source.old) (S.faults source.new) }
     ensures write_fault { result ≡ Greeted.WriteFault → Rose (K.faults sink.old) (K.faults sink.new) }
     ensures dial { result ≡ Greeted.Refused 519 → Rose (D.dial_faults door.old) (D.dial_faults door.new) }
     ensures busy { result ≡ Greeted.Refused 513 → Rose (D.start_faults door.old) (D.start_faults door.new) }
+    ensures conflict { result ≡ Greeted.Refused 517 → HasConflict (D.sessions door.old) }
+    ensures taken { result ≡ Greeted.Refused 517 → AreTaken (D.sessions door.old) (D.draws door.old) }
+    ensures closed { result ≡ Greeted.Refused 523 → HasRefused (D.sessions door.new) Closed ⊎ HasRefused (D.sessions door.new) Worn }
+    ensures forbidden { result ≡ Greeted.Refused 771 → HasRefused (D.sessions door.new) Forbidden }
+    ensures too_many { result ≡ Greeted.Refused 797 → HasRefused (D.sessions door.new) TooMany }
     ensures fresh { IfReady result (λ place first. D.Place.fresh place first) }
     ensures later_dials { D.dial_faults door.old ≤ D.dial_faults door.new }
     ensures later_starts { D.start_faults door.old ≤ D.start_faults door.new }

@@ -74,7 +74,7 @@ impl MemDoor {
         self.last.as_ref()
     }
 
-    /// How many places were given back; it ends at 2^64 - 1.
+    /// How many places were given back with an ID that is there; it ends at 2^64 - 1.
     pub fn given(&self) -> u64
         ensures { result ≡ self.now.given }
     {
@@ -183,9 +183,11 @@ impl Door for MemDoor {
         }
     }
 
-    fn give<R: Wait>(&mut self, _rt: &R, _id: &str, _place: MemPlace) {
+    fn give<R: Wait>(&mut self, _rt: &R, id: &str, _place: MemPlace) {
         self.out = self.out.saturating_sub(1);
-        self.given = self.given.saturating_add(1);
+        if id_of(&self.ids, id).is_some() {
+            self.given = self.given.saturating_add(1);
+        }
     }
 }
 
@@ -226,6 +228,7 @@ fn welcome(alloc: Global, id: Text) -> Welcome<MemPlace>
 // The ID that the name gives, where it is there.
 fn id_of(ids: &IdTable<()>, name: &str) -> Option<Uuid>
     ensures there { is_some result ≡ is_some (at_name (id_of_name name.now) (untold (held ids.now))) }
+    ensures named { IfSome result (λ id. id_of_name name.now ≡ Some id) }
 {
     let id = id_named(name)?;
     if ids.get(&id).is_some() {

@@ -4,9 +4,9 @@ ghost use Rattle.std.specs.Prelude.{◌<◌, IsTrue};
 ghost use Rattle.viewer_book.specs.Book.{is_live};
 
 use crate::keys::push_held;
-use crate::words::{first_word, numbers};
 use anyhow::{Context, Result, bail};
 use gate_model::{Mods, Role};
+use row_words::{first_word, numbers};
 use std::alloc::Global;
 use viewer_book::Book;
 

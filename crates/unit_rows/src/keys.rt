@@ -1,9 +1,9 @@
 //! Roles, and the bytes of keys.
 
-use crate::words::{first_word, push_escaped};
-use anyhow::{Context, Result, bail};
-use gate_model::{Asked, Mods, Share};
+use anyhow::{Context, Result};
+use gate_model::Mods;
 use key_input::{encode, mods_after};
+use row_words::{asked_of, first_word, push_escaped, share_of};
 use share_policy::grant;
 use std::alloc::Global;
 
@@ -13,27 +13,6 @@ const NONE_HELD: Mods = Mods {
     alt_left: false,
     alt_right: false,
 };
-
-/// The share mode of a word.
-pub fn share_of(word: &str) -> Result<Share> {
-    match word {
-        "none" => Ok(Share::Nobody),
-        "view" => Ok(Share::View),
-        "control" => Ok(Share::Control),
-        _ => bail!("no share mode"),
-    }
-}
-
-/// What a joiner asks for.
-pub fn asked_of(word: &str) -> Result<Asked> {
-    match word {
-        "owner" => Ok(Asked::Owner),
-        "control" => Ok(Asked::Control),
-        "view" => Ok(Asked::View),
-        "keep" => Ok(Asked::Keep),
-        _ => bail!("no role"),
-    }
-}
 
 /// The role of a joiner under a share mode.
 pub fn role(alloc: Global, input: &str) -> Result<String> {

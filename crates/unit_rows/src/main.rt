@@ -1,5 +1,5 @@
-//! The program `unit_rows`: it makes the calls of the crates under the script on rows that stand in
-//! files, and tells which of them give something else than their files say.
+//! The program `unit_rows`: it makes the calls of the crates that read and write bytes, keys and viewers on
+//! rows that stand in files, and tells which of them give something else than their files say.
 //!
 //! Its words are the names of files. The name of a file says which calls are made (`src/topics.rt`), and
 //! each of its lines is a row, `INPUT -> OUTPUT`. An empty line is none, and neither is one that begins
@@ -8,20 +8,15 @@
 #![tactic(auto)]
 
 mod books;
-mod canvases;
-mod desks;
-mod grids;
 mod keys;
-mod screens;
 mod sequences;
 mod telnet;
 mod texts;
 mod topics;
-mod words;
 
 use crate::topics::value;
-use crate::words::bytes_of;
 use anyhow::{Context, Result};
+use row_words::bytes_of;
 use std::alloc::Global;
 use std::rt::{Env, Files};
 use std::{env, fs};

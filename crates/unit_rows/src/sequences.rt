@@ -1,9 +1,9 @@
 //! Bytes as control functions.
 
-use crate::words::bytes_of;
 use anyhow::Result;
 use ecma_parser::Parser;
 use gate_model::{Control, Params};
+use row_words::bytes_of;
 use std::alloc::Global;
 
 const DEFAULT: u16 = 65535;

@@ -2,9 +2,9 @@
 
 ghost use Rattle.std.specs.Prelude.{◌<◌};
 
-use crate::words::{bytes_of, push_hexadecimal, size};
 use anyhow::{Context, Result, bail};
 use gate_model::Token;
+use row_words::{bytes_of, push_hexadecimal, size};
 use std::alloc::Global;
 use telnet_options::Options;
 use telnet_wire::{Wire, escape};

@@ -1,9 +1,9 @@
 //! Instructions as text: framing, what they mean, and how they are written.
 
-use crate::words::{bytes_of, first_word, push_escaped};
 use anyhow::{Context, Result, bail};
 use guac_framing::{BadAt, Frame, Next, next_instruction, put_element, put_end, put_number};
 use guac_instr::{read_client, read_hello, read_server, text_of, texts_of};
+use row_words::{bytes_of, first_word, push_escaped};
 use std::alloc::Global;
 
 /// What stands at the front of the bytes: a whole instruction, by the number of its elements and of its

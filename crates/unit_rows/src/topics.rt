@@ -1,6 +1,6 @@
 //! Which calls are made for the rows of a file.
 
-use crate::{books, canvases, desks, grids, keys, screens, sequences, telnet, texts};
+use crate::{books, keys, sequences, telnet, texts};
 use anyhow::{Result, bail};
 use std::alloc::Global;
 
@@ -11,16 +11,6 @@ pub fn value(alloc: Global, topic: &str, input: &str) -> Result<String> {
         "escapes" => telnet::escaped(alloc, input),
         "options" => telnet::answered(alloc, input),
         "sequences" => sequences::functions(alloc, input),
-        "grids" => grids::edited(alloc, input),
-        "screens" => screens::seen(alloc, input),
-        "looks" => screens::look(alloc, input),
-        "reports" => screens::reports(alloc, input),
-        "shifts" => screens::shifts(alloc, input),
-        "cursor_keys" => screens::cursor_keys(alloc, input),
-        "copies" => screens::copies(alloc, input),
-        "canvases" => canvases::drawn(alloc, input),
-        "dots" => canvases::dot(alloc, input),
-        "sames" => canvases::same(alloc, input),
         "roles" => keys::role(alloc, input),
         "keys" => keys::sent(alloc, input),
         "modifiers" => keys::held(alloc, input),
@@ -31,8 +21,6 @@ pub fn value(alloc: Global, topic: &str, input: &str) -> Result<String> {
         "acts" => texts::act(alloc, input),
         "hellos" => texts::hello(alloc, input),
         "instructions" => texts::instruction(alloc, input),
-        "desks" => desks::answers(alloc, input),
-        "desk_roles" => desks::roles(alloc, input),
         _ => bail!("no such topic"),
     }
 }

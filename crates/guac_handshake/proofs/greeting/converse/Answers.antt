@@ -3,6 +3,7 @@ use Rattle.guac_handshake.specs.Doors.{MayRefuse}
 use Rattle.guac_handshake.proofs.Endings.{greeted_ended, greeted_ok, greeted_refused, greeted_short, greeted_unread, greeted_unwritten}
 use Rattle.guac_handshake.proofs.Causes.{early_cause, error_fresh, error_read, not_early, rose_after, rose_from, served_read, told_status}
 use Rattle.guac_handshake.proofs.Refusing.{may_before, served_as}
+use Rattle.guac_handshake.proofs.Touching.{touched_behind, touched_early, touched_none}
 use Rattle.guac_handshake.proofs.greeting.converse.Goals as goal
 
 pub returns-in-Ok-clause-greeting : goal.returns-in-Ok-clause-greeting
@@ -56,3 +57,21 @@ returns-in-Err-ReadFault-clause-read_fault g c = λ e. c.in-Err-ReadFault.ensure
 
 pub returns-in-Err-WriteFault-clause-write_fault : goal.returns-in-Err-WriteFault-clause-write_fault
 returns-in-Err-WriteFault-clause-write_fault g c = λ e. early_cause _ _ c.in-Err-WriteFault.ensures.early c.in-Err-WriteFault.field-0-is
+
+pub returns-in-Ok-clause-sessions : goal.returns-in-Ok-clause-sessions
+returns-in-Ok-clause-sessions g c = touched_behind g.D.Door.id_of _ _ _ _ c.read_request.ensures.sessions c.serve.ensures.sessions
+
+pub returns-in-Err-Refused-clause-sessions : goal.returns-in-Err-Refused-clause-sessions
+returns-in-Err-Refused-clause-sessions g c = touched_early g.D.Door.id_of _ _ _ _ _ _ c.read_request.ensures.sessions c.refuse.ensures.told
+
+pub returns-in-Err-Ended-clause-sessions : goal.returns-in-Err-Ended-clause-sessions
+returns-in-Err-Ended-clause-sessions g c = c.read_request.ensures.sessions
+
+pub returns-in-Err-ReadFault-clause-sessions : goal.returns-in-Err-ReadFault-clause-sessions
+returns-in-Err-ReadFault-clause-sessions g c = c.read_request.ensures.sessions
+
+pub returns-in-Err-WriteFault-clause-sessions : goal.returns-in-Err-WriteFault-clause-sessions
+returns-in-Err-WriteFault-clause-sessions g c = touched_none _ _ c.read_request.ensures.sessions
+
+pub returns-in-Err-NoMemory-clause-sessions : goal.returns-in-Err-NoMemory-clause-sessions
+returns-in-Err-NoMemory-clause-sessions g c = touched_none _ _ c.read_request.ensures.sessions

@@ -3,6 +3,7 @@ use Rattle.guac_handshake.specs.Doors.{MayRefuse}
 use Rattle.guac_handshake.proofs.Endings.{serve_err, serve_ok}
 use Rattle.guac_handshake.specs.declared.refused.Refused.{Refused}
 use Rattle.guac_handshake.proofs.Causes.{error_fresh, ready_fresh, ready_not_refused, told_busy, told_dial}
+use Rattle.guac_handshake.proofs.Touching.{touched_ready, touched_refused}
 use Rattle.guac_handshake.proofs.greeting.serve.Goals as goal
 
 pub returns-in-Ok-clause-served : goal.returns-in-Ok-clause-served
@@ -28,3 +29,9 @@ returns-in-Err-clause-busy g c = λ e. c.in-Err.ensures.busy (ap (λ (r : Refuse
 
 pub returns-in-Err-clause-fresh : goal.returns-in-Err-clause-fresh
 returns-in-Err-clause-fresh g c = error_fresh _ _ _ _ _ c.refuse.ensures.told
+
+pub returns-in-Ok-clause-sessions : goal.returns-in-Ok-clause-sessions
+returns-in-Ok-clause-sessions g c = touched_ready g.D.Door.id_of _ _ _ _ _ _ _ c.in-Ok.ensures.sessions c.ready.ensures.sessions c.ready.ensures.told
+
+pub returns-in-Err-clause-sessions : goal.returns-in-Err-clause-sessions
+returns-in-Err-clause-sessions g c = touched_refused g.D.Door.id_of _ _ _ _ _ c.in-Err.refused _ c.in-Err.ensures.sessions c.refuse.ensures.told

@@ -4,11 +4,10 @@ ghost use Rattle.std.specs.Prelude.{◌≡◌, ℕ, ◌<◌, ◌≤◌, ◌^◌,
 ghost use Rattle.gate_model.specs.declared.event.Event.{Event as Calls};
 ghost use Rattle.gate_model.specs.Calls.{MeetsCondition};
 
-use crate::keys::{asked_of, share_of};
-use crate::words::{bytes_of, first_word, push_escaped, push_hexadecimal};
 use anyhow::{Context, Result, bail};
 use desk_core::{Answer, Desk, Event, JoinRefusal, NoMemory, Setup};
 use gate_model::{Act, Acts, Asked, Bytes, Cause, Role, Share, Text};
+use row_words::{asked_of, bytes_of, first_word, push_escaped, push_hexadecimal, share_of};
 use std::alloc::Global;
 
 /// The answers to calls, which stand apart by `; ` behind the share mode and the entries that the session
@@ -18,21 +17,32 @@ pub fn answers(alloc: Global, input: &str) -> Result<String> {
     let (mode, rest) = first_word(input);
     let (entries, calls) = first_word(rest);
     let events = events_of(alloc, calls)?;
-    let mut desk = opened(alloc, share_of(mode)?, entries.parse::<u64>()?)?;
+    let mode = share_of(mode)?;
+    let entries = entries.parse::<u64>()?;
+    let mut desk = opened(alloc, mode, entries)?;
+    answers_of(&mut desk, alloc, &events)
+}
+
+fn answers_of(desk: &mut Desk, alloc: Global, events: &[Event]) -> Result<String>
+    requires { (i : ℕ) (other : Calls) → i < length events.now → MeetsCondition (get_or events.now i other) }
+{
     let mut given = Vec::new(alloc);
     let answers = desk
-        .run(alloc, &events, &mut given)
+        .run(alloc, events, &mut given)
         .ok()
         .context("no memory")?;
+    told(alloc, desk, answers.as_slice(), &given)
+}
+
+// The answers, what the desk tells then, and the end of what was given.
+fn told(alloc: Global, desk: &Desk, answers: &[Answer], given: &[u8]) -> Result<String> {
     let mut text = String::new(alloc);
-    for answer in answers.as_slice() {
+    for answer in answers {
         push_answer(&mut text, answer)?;
     }
-    push_state(&mut text, &desk)?;
-    if given.is_empty() {
-        text.push_str("nothing")?;
-    }
-    push_end(&mut text, &given)?;
+    push_state(&mut text, desk)?;
+    text.push_str(if given.is_empty() { "nothing" } else { "" })?;
+    push_end(&mut text, given)?;
     Ok(text)
 }
 
@@ -47,11 +57,12 @@ fn open(alloc: Global, mode: Share, entries: u64) -> Result<Desk, NoMemory>
     requires some { 1 ≤ entries }
     requires few { entries ≤ 2 ^ 40 }
 {
+    let term = Text::of(String::from_str(alloc, "linux")?);
     let setup = Setup {
         cols: 80,
         rows: 24,
         mode,
-        term: Text::of(String::from_str(alloc, "linux")?),
+        term,
         entries,
     };
     Desk::start(alloc, setup, 0)
@@ -81,25 +92,50 @@ fn event_of(alloc: Global, call: &str) -> Result<Event>
 {
     let (name, rest) = first_word(call);
     match name {
-        "join" => Ok(Event::Join {
-            asked: asked_of(rest)?,
-        }),
+        "join" => join_of(rest),
         "feed" => feed_of(bytes_of(alloc, rest)?),
-        "read" => Ok(Event::Read {
-            viewer: rest.parse::<u32>()?,
-        }),
+        "read" => read_of(rest),
         "write" => write_of(alloc, rest),
-        "take" => Ok(Event::Take {
-            most: rest.parse::<u64>()?,
-        }),
-        "leave" => Ok(Event::Leave {
-            viewer: rest.parse::<u32>()?,
-        }),
-        "close" => Ok(Event::Close {
-            cause: cause_of(rest)?,
-        }),
+        "take" => take_of(rest),
+        "leave" => leave_of(rest),
+        "close" => close_of(rest),
         _ => bail!("no call"),
     }
+}
+
+fn join_of(word: &str) -> Result<Event>
+    ensures { IfOk result MeetsCondition }
+{
+    let asked = asked_of(word)?;
+    Ok(Event::Join { asked })
+}
+
+fn read_of(word: &str) -> Result<Event>
+    ensures { IfOk result MeetsCondition }
+{
+    let viewer = word.parse::<u32>()?;
+    Ok(Event::Read { viewer })
+}
+
+fn take_of(word: &str) -> Result<Event>
+    ensures { IfOk result MeetsCondition }
+{
+    let most = word.parse::<u64>()?;
+    Ok(Event::Take { most })
+}
+
+fn leave_of(word: &str) -> Result<Event>
+    ensures { IfOk result MeetsCondition }
+{
+    let viewer = word.parse::<u32>()?;
+    Ok(Event::Leave { viewer })
+}
+
+fn close_of(word: &str) -> Result<Event>
+    ensures { IfOk result MeetsCondition }
+{
+    let cause = cause_of(word)?;
+    Ok(Event::Close { cause })
 }
 
 fn feed_of(bytes: Vec<u8>) -> Result<Event>
@@ -118,10 +154,7 @@ fn write_of(alloc: Global, words: &str) -> Result<Event>
 {
     let (viewer, keys) = first_word(words);
     let viewer = viewer.parse::<u32>()?;
-    let mut acts = Vec::new(alloc);
-    for key in keys.split_whitespace() {
-        acts.push(act_of(key)?)?;
-    }
+    let acts = acts_of(alloc, keys)?;
     if 4096 < acts.len() {
         bail!("too many acts");
     }
@@ -129,18 +162,23 @@ fn write_of(alloc: Global, words: &str) -> Result<Event>
     Ok(Event::Write { viewer, acts })
 }
 
-fn act_of(key: &str) -> Result<Act> {
-    match key.strip_prefix("-") {
-        Some(keysym) => Ok(Act::Key {
-            keysym: keysym.parse::<u32>()?,
-            pressed: false,
-        }),
-        None if key == "nop" => Ok(Act::Nop),
-        None => Ok(Act::Key {
-            keysym: key.parse::<u32>()?,
-            pressed: true,
-        }),
+fn acts_of(alloc: Global, keys: &str) -> Result<Vec<Act>> {
+    let mut acts = Vec::new(alloc);
+    for key in keys.split_whitespace() {
+        let act = act_of(key)?;
+        acts.push(act)?;
     }
+    Ok(acts)
+}
+
+fn act_of(key: &str) -> Result<Act> {
+    if key == "nop" {
+        return Ok(Act::Nop);
+    }
+    let digits = key.strip_prefix("-").unwrap_or(key);
+    let keysym = digits.parse::<u32>()?;
+    let pressed = digits.len() == key.len();
+    Ok(Act::Key { keysym, pressed })
 }
 
 fn cause_of(word: &str) -> Result<Cause> {
@@ -161,13 +199,16 @@ fn push_answer(text: &mut String, answer: &Answer) -> Result<()> {
         Answer::Write(written) => write!(text, "{written:?}")?,
         Answer::Leave(left) => write!(text, "{left:?}")?,
         Answer::Close(closed) => write!(text, "{closed:?}")?,
-        Answer::Take { bytes, closed } => {
-            text.push_str(if *closed { "took, closed, " } else { "took " })?;
-            push_hexadecimal(text, bytes.as_slice())?;
-            text.push_str(if bytes.as_slice().is_empty() { "-" } else { "" })?;
-        }
+        Answer::Take { bytes, closed } => push_taken(text, bytes.as_slice(), *closed)?,
     }
     text.push_str("; ")?;
+    Ok(())
+}
+
+fn push_taken(text: &mut String, bytes: &[u8], closed: bool) -> Result<()> {
+    text.push_str(if closed { "took, closed, " } else { "took " })?;
+    push_hexadecimal(text, bytes)?;
+    text.push_str(if bytes.is_empty() { "-" } else { "" })?;
     Ok(())
 }
 
@@ -190,16 +231,26 @@ fn push_end(text: &mut String, bytes: &[u8]) -> Result<()> {
 
 /// The roles that the desk tells of viewers that join under a share mode.
 pub fn roles(alloc: Global, input: &str) -> Result<String> {
-    let mut desk = opened(alloc, share_of(input)?, 100)?;
+    let mode = share_of(input)?;
+    let mut desk = opened(alloc, mode, 100)?;
+    roles_of(&mut desk, alloc)
+}
+
+fn roles_of(desk: &mut Desk, alloc: Global) -> Result<String> {
     let mut text = String::new(alloc);
     for asked in [Asked::Owner, Asked::Control, Asked::View, Asked::Keep] {
-        match role_of_joiner(&mut desk, alloc, asked) {
-            Ok(role) => write!(text, "{role:?} ")?,
-            Err(refusal) => write!(text, "{refusal:?} ")?,
-        }
+        push_role(&mut text, role_of_joiner(desk, alloc, asked))?;
     }
     text.push_str("in all")?;
     Ok(text)
+}
+
+fn push_role(text: &mut String, role: Result<Role, JoinRefusal>) -> Result<()> {
+    match role {
+        Ok(role) => write!(text, "{role:?} ")?,
+        Err(refusal) => write!(text, "{refusal:?} ")?,
+    }
+    Ok(())
 }
 
 // The role that the desk tells of a viewer that has just joined.

@@ -1,7 +1,7 @@
 use Rattle.std.proofs.Common.{ℕ, ◌<◌, get_or, length}
 use Rattle.gate_model.specs.declared.event.Event.{Event as Calls}
 use Rattle.gate_model.specs.Calls.{MeetsCondition}
-use Rattle.unit_rows.proofs.desks.events_of.Given as goal
+use Rattle.screen_rows.proofs.desks.events_of.Given as goal
 
 -- each call so far meets its condition
 abbrev pub invariant-loop-call : goal.invariant-loop-call

@@ -1,6 +1,9 @@
-//! Words, numbers and bytes of rows.
+//! Words, numbers and bytes of the rows that `unit_rows` and `screen_rows` read, and bytes as they print them
+//! (this project's own rule). Nothing else stands on it.
+#![tactic(auto)]
 
-use anyhow::{Context, Result};
+use anyhow::{Context, Result, bail};
+use gate_model::{Asked, Share};
 use std::alloc::Global;
 use text_rows::ByteReader;
 
@@ -51,4 +54,25 @@ pub fn push_escaped(text: &mut String, bytes: &[u8]) -> Result<()> {
         }
     }
     Ok(())
+}
+
+/// The share mode of a word.
+pub fn share_of(word: &str) -> Result<Share> {
+    match word {
+        "none" => Ok(Share::Nobody),
+        "view" => Ok(Share::View),
+        "control" => Ok(Share::Control),
+        _ => bail!("no share mode"),
+    }
+}
+
+/// What a joiner asks for.
+pub fn asked_of(word: &str) -> Result<Asked> {
+    match word {
+        "owner" => Ok(Asked::Owner),
+        "control" => Ok(Asked::Control),
+        "view" => Ok(Asked::View),
+        "keep" => Ok(Asked::Keep),
+        _ => bail!("no role"),
+    }
 }

@@ -1,8 +1,8 @@
 //! Edits of a grid of 4 columns and 3 rows, which has the letters A to L.
 
-use crate::words::{first_word, numbers};
 use anyhow::{Context, Result, bail};
 use gate_model::Cell;
+use row_words::{first_word, numbers};
 use screen_grid::Grid;
 use std::alloc::Global;
 
@@ -21,18 +21,26 @@ pub fn edited(alloc: Global, input: &str) -> Result<String> {
         return new_grid(alloc, &numbers);
     }
     let grid = letters(alloc)?;
-    let text = edited_copy(alloc, &grid, name, &numbers)?;
-    if text_of(alloc, &grid)?.as_str() != "ABCD|EFGH|IJKL|" {
+    edited_beside(alloc, &grid, name, &numbers)
+}
+
+// The text of a copy after an edit, which leaves the grid as it was.
+fn edited_beside(alloc: Global, grid: &Grid, name: &str, numbers: &[u32]) -> Result<String> {
+    let text = edited_copy(alloc, grid, name, numbers)?;
+    if text_of(alloc, grid)?.as_str() != "ABCD|EFGH|IJKL|" {
         bail!("the grid changed with its copy");
     }
     Ok(text)
 }
 
-// The text of a copy after an edit.
 fn edited_copy(alloc: Global, grid: &Grid, name: &str, numbers: &[u32]) -> Result<String> {
     let mut copy = grid.copy(alloc).ok().context("no memory")?;
-    edit(&mut copy, name, numbers)?;
-    text_of(alloc, &copy)
+    text_after(alloc, &mut copy, name, numbers)
+}
+
+fn text_after(alloc: Global, grid: &mut Grid, name: &str, numbers: &[u32]) -> Result<String> {
+    edit(grid, name, numbers)?;
+    text_of(alloc, grid)
 }
 
 // A cell whose colours and underline follow from its letter.
@@ -60,7 +68,9 @@ fn edit(grid: &mut Grid, name: &str, numbers: &[u32]) -> Result<()> {
     let [a, b, c] = numbers else {
         bail!("not three numbers");
     };
-    let (a, b, c) = (u16::try_from(*a)?, u16::try_from(*b)?, u16::try_from(*c)?);
+    let a = u16::try_from(*a)?;
+    let b = u16::try_from(*b)?;
+    let c = u16::try_from(*c)?;
     match name {
         "put" if grid.fits(a, b) => grid.put(a, b, cell_of(b'x')),
         "erase" if b <= c && 0 < c && grid.fits(c - 1, a) => grid.erase(a, b, c),
@@ -103,11 +113,18 @@ fn new_grid(alloc: Global, numbers: &[u32]) -> Result<String> {
     let [cols, rows] = numbers else {
         bail!("not two numbers");
     };
-    let (cols, rows) = (u16::try_from(*cols)?, u16::try_from(*rows)?);
+    let cols = u16::try_from(*cols)?;
+    let rows = u16::try_from(*rows)?;
     let grid = Grid::new(alloc, cols, rows).ok().context("no memory")?;
-    let ends = !grid.fits(cols, rows.saturating_sub(1)) && !grid.fits(cols.saturating_sub(1), rows);
+    blanks_of(alloc, &grid, cols, rows)
+}
+
+// Which corners are blank, and whether the grid ends behind the last.
+fn blanks_of(alloc: Global, grid: &Grid, cols: u16, rows: u16) -> Result<String> {
+    let (right, lower) = (cols.saturating_sub(1), rows.saturating_sub(1));
+    let ends = !grid.fits(cols, lower) && !grid.fits(right, rows);
     let mut text = String::new(alloc);
-    for (x, y) in [(0, 0), (cols.saturating_sub(1), rows.saturating_sub(1))] {
+    for (x, y) in [(0, 0), (right, lower)] {
         if grid.fits(x, y) && grid.cell(x, y) == BLANK {
             write!(text, "blank at {x} {y}, ")?;
         }

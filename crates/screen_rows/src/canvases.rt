@@ -4,10 +4,10 @@ ghost use Rattle.std.specs.Prelude.{IsTrue};
 ghost use Rattle.gate_model.specs.Shape.{IsLayer};
 ghost use Rattle.canvas.specs.Standing.{IsPlayable};
 
-use crate::words::first_word;
 use anyhow::{Context, Result, bail};
 use canvas::{Canvas, Dot};
 use gate_model::Instr;
+use row_words::first_word;
 use std::alloc::Global;
 
 /// The letters of layer 0 after the steps, which stand apart by `; `, row by row; a dot for a clear pixel.

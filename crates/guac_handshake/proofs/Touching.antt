@@ -1,0 +1,193 @@
+-- The sessions that a greeting touches.
+use Rattle.std.proofs.Common.{◌≡◌, ◌≢◌, ℕ, List, Option, Some, None, Ok, Err, Bool, true, false, refl, sym, ◌∙◌, subst, inl, inr}
+use Rattle.std.specs.Prelude.{Result, IfErr, IfOk, IfSome, IsSome, OnErr, is_some}
+use Rattle.gate_model.specs.History.{History}
+use Rattle.gate_model.specs.declared.sharing.Asked.{Asked}
+use Rattle.id_table.specs.Maps.{Same, Told}
+use Rattle.guac_handshake.specs.declared.greeted.Greeted.{Greeted}
+use Rattle.guac_handshake.specs.declared.greeted.Greeted.TheVariants as greeted
+use Rattle.guac_handshake.specs.declared.refused.Refused.{Refused}
+use Rattle.guac_handshake.specs.declared.refused.Refused.TheVariants.{Absent, Conflict, Dial, Busy, Closed, Forbidden, TooMany, Worn, NoMemory}
+use Rattle.guac_handshake.specs.declared.request.Request.{Request}
+use Rattle.guac_handshake.specs.declared.request.Request.TheVariants.{Join}
+use Rattle.guac_handshake.specs.declared.welcome.Welcome.{Welcome}
+use Rattle.guac_handshake.specs.Doors.{AddedOne, IsAbsent, IsJoinRefusal, JoinRefuses, KeepsIds, MayRefuse, MeetsHistory, MeetsTold, RefusesAt, SameId, Sessions, TouchesOne, at_name}
+use Rattle.guac_handshake.specs.Greetings.{HasAnswered, HasTouched, IsToldError, IsToldReady}
+
+-- what is told of the sessions before and after, and what follows from it
+told_as : (o p : Option Sessions) (P Q : Sessions → Sessions → Type 0) → ((m n : Sessions) → P m n → Q m n) → Told o p P → Told o p Q
+told_as None None P Q f t = tt
+told_as None (Some n) P Q f t = absurd t
+told_as (Some m) None P Q f t = absurd t
+told_as (Some m) (Some n) P Q f t = f m n t
+
+told_on : (o p q : Option Sessions) (P Q R : Sessions → Sessions → Type 0) → ((m n l : Sessions) → P m n → Q n l → R m l) → Told o p P → Told p q Q → Told o q R
+told_on None None None P Q R f t u = tt
+told_on None None (Some l) P Q R f t u = absurd u
+told_on None (Some n) q P Q R f t u = absurd t
+told_on (Some m) None q P Q R f t u = absurd t
+told_on (Some m) (Some n) None P Q R f t u = absurd u
+told_on (Some m) (Some n) (Some l) P Q R f t u = f m n l t u
+
+-- the same IDs are there
+same_id : {V : Type 0} (a b : Option V) → b ≡ a → SameId a b
+same_id None None e = tt
+same_id None (Some w) e = cc
+same_id (Some v) None e = cc
+same_id (Some v) (Some w) e = tt
+
+id_on : {V : Type 0} (a b c : Option V) → SameId a b → SameId b c → SameId a c
+id_on None None None h k = tt
+id_on None None (Some w) h k = absurd k
+id_on None (Some v) c h k = absurd h
+id_on (Some u) None c h k = absurd h
+id_on (Some u) (Some v) None h k = absurd k
+id_on (Some u) (Some v) (Some w) h k = tt
+
+some_on : {V : Type 0} (a b : Option V) → SameId a b → IsSome a → IsSome b
+some_on None None h is = is
+some_on None (Some w) h is = absurd h
+some_on (Some v) None h is = absurd h
+some_on (Some v) (Some w) h is = refl
+
+is_same : {V : Type 0} (a b : Option V) → SameId a b → is_some b ≡ is_some a
+is_same None None h = refl
+is_same None (Some w) h = absurd h
+is_same (Some v) None h = absurd h
+is_same (Some v) (Some w) h = refl
+
+kept_same : (name : Option (List ℕ)) (m n : Sessions) → Same m n → KeepsIds name m n
+kept_same name m n same = λ k. (same_id (m k) (n k) (same k), λ ne. same k)
+
+kept_on : (name : Option (List ℕ)) (m n l : Sessions) → KeepsIds name m n → KeepsIds name n l → KeepsIds name m l
+kept_on name m n l h k = λ id. (id_on (m id) (n id) (l id) (h id).0 (k id).0, λ ne. (k id).1 ne ∙ (h id).1 ne)
+
+kept_after : (name : Option (List ℕ)) (m n l : Sessions) → Same m n → KeepsIds name n l → KeepsIds name m l
+kept_after name m n l h k = kept_on name m n l (kept_same name m n h) k
+
+some_other : (name : Option (List ℕ)) (id k : List ℕ) → name ≡ Some id → k ≢ id → name ≢ Some k
+some_other name id k is ne = λ e. ne (let same : Some k ≡ Some id = sym e ∙ is in cc)
+
+-- a session that was added, or whose history alone may be another, is touched once more
+touched_on : (name : Option (List ℕ)) (m n l : Sessions) → TouchesOne name m n → KeepsIds name n l → TouchesOne name m l
+touched_on name m n l (inl a) k = inl (a.0, a.1, a.2, some_on (n a.0) (l a.0) (k a.0).0 a.3, λ id ne. (k id).1 (some_other name a.0 id a.1 ne) ∙ a.4 id ne)
+touched_on name m n l (inr h) k = inr (kept_on name m n l h k)
+
+touched_after : (name : Option (List ℕ)) (m n l : Sessions) → Same m n → TouchesOne name n l → TouchesOne name m l
+touched_after name m n l same (inl a) = inl (a.0, a.1, sym (same a.0) ∙ a.2, a.3, λ id ne. a.4 id ne ∙ same id)
+touched_after name m n l same (inr k) = inr (kept_after name m n l same k)
+
+-- a door that isn't called
+pub told_kept : (name : Option (List ℕ)) (o : Option Sessions) → Told o o (KeepsIds name)
+told_kept name None = tt
+told_kept name (Some m) = kept_same name m m (λ k. refl)
+
+-- a door that wasn't asked
+pub touched_none : (o p : Option Sessions) → Told o p Same → Told o p (λ m n. (name : Option (List ℕ)) × TouchesOne name m n)
+touched_none o p same = told_as o p Same (λ m n. (name : Option (List ℕ)) × TouchesOne name m n) (λ m n h. (None, inr (kept_same None m n h))) same
+
+module _ {P : Type 0} (id_of : List ℕ → Option (List ℕ)) (o p : Option Sessions) where
+  -- an answer to one that asks for a session that is to begin, and to a joiner
+  pub begin_answered : (result : Result (Welcome P) Refused) → IfOk result (λ welcome. Told o p (AddedOne (id_of welcome.id))) → OnErr result (Told o p Same) → Told o p (HasAnswered id_of result)
+  begin_answered (Ok welcome) added same = told_as o p (AddedOne (id_of welcome.id)) (HasAnswered id_of (Ok welcome)) (λ m n h. inl h) added
+  begin_answered (Err refusal) added same = told_as o p Same (HasAnswered {P = P} id_of (Err refusal)) (λ m n h. (None, kept_same None m n h)) same
+
+  pub join_answered : (name : Option (List ℕ)) (result : Result (Welcome P) Refused) → IfOk result (λ welcome. id_of welcome.id ≡ name) → Told o p (KeepsIds name) → Told o p (HasAnswered id_of result)
+  join_answered name (Ok welcome) is kept = told_as o p (KeepsIds name) (HasAnswered id_of (Ok welcome)) (λ m n h. inr (subst (λ (x : Option (List ℕ)). KeepsIds x m n) (sym is) h)) kept
+  join_answered name (Err refusal) is kept = told_as o p (KeepsIds name) (HasAnswered {P = P} id_of (Err refusal)) (λ m n h. (name, h)) kept
+
+  module _ (w v : Option (List ℕ)) where
+    -- the client was told of a refusal, before the door was asked and after
+    pub touched_early : (status : ℕ) (result : Greeted P) → Told o p Same → IsToldError status w v result → Told o p (HasTouched id_of result)
+    touched_early status (greeted.Ready welcome) same t = absurd t
+    touched_early status (greeted.Refused told) same t = told_as o p Same (HasTouched {P = P} id_of (greeted.Refused told)) (λ m n h. (None, kept_same None m n h)) same
+    touched_early status greeted.Ended same t = absurd t
+    touched_early status greeted.ReadFault same t = absurd t
+    touched_early status greeted.WriteFault same t = touched_none o p same
+    touched_early status greeted.NoMemory same t = touched_none o p same
+
+    pub touched_refused : (status : ℕ) (refusal : Refused) (result : Greeted P) → Told o p (HasAnswered {P = P} id_of (Err refusal)) → IsToldError status w v result → Told o p (HasTouched id_of result)
+    touched_refused status refusal (greeted.Ready welcome) a t = absurd t
+    touched_refused status refusal (greeted.Refused told) a t = told_as o p (HasAnswered {P = P} id_of (Err refusal)) (HasTouched {P = P} id_of (greeted.Refused told)) (λ m n h. h) a
+    touched_refused status refusal greeted.Ended a t = absurd t
+    touched_refused status refusal greeted.ReadFault a t = absurd t
+    touched_refused status refusal greeted.WriteFault a t = told_as o p (HasAnswered {P = P} id_of (Err refusal)) (HasTouched {P = P} id_of greeted.WriteFault) (λ m n h. (h.0, inr h.1)) a
+    touched_refused status refusal greeted.NoMemory a t = told_as o p (HasAnswered {P = P} id_of (Err refusal)) (HasTouched {P = P} id_of greeted.NoMemory) (λ m n h. (h.0, inr h.1)) a
+
+  module _ (q : Option Sessions) where
+    -- the client was told of its session, or the place went back there
+    pub touched_ready : (w v : Option (List ℕ)) (told : Welcome P) (result : Greeted P) → Told o p (HasAnswered id_of (Ok told)) → Told p q (KeepsIds (id_of told.id)) → IsToldReady told w v result → Told o q (HasTouched id_of result)
+    touched_ready w v told (greeted.Ready welcome) a k t =
+        told_on o p q (HasAnswered id_of (Ok told)) (KeepsIds (id_of told.id)) (HasTouched id_of (greeted.Ready welcome))
+        (λ m n l h g. subst (λ (x : Welcome P). TouchesOne (id_of x.id) m l) (sym t.0) (touched_on (id_of told.id) m n l h g)) a k
+    touched_ready w v told (greeted.Refused status) a k t = absurd t
+    touched_ready w v told greeted.Ended a k t = absurd t
+    touched_ready w v told greeted.ReadFault a k t = absurd t
+    touched_ready w v told greeted.WriteFault a k t = told_on o p q (HasAnswered id_of (Ok told)) (KeepsIds (id_of told.id)) (HasTouched {P = P} id_of greeted.WriteFault) (λ m n l h g. (id_of told.id, touched_on (id_of told.id) m n l h g)) a k
+    touched_ready w v told greeted.NoMemory a k t = told_on o p q (HasAnswered id_of (Ok told)) (KeepsIds (id_of told.id)) (HasTouched {P = P} id_of greeted.NoMemory) (λ m n l h g. (id_of told.id, touched_on (id_of told.id) m n l h g)) a k
+
+    -- the door was only looked at before
+    pub touched_behind : (result : Greeted P) → Told o p Same → Told p q (HasTouched id_of result) → Told o q (HasTouched id_of result)
+    touched_behind (greeted.Ready welcome) s t = told_on o p q Same (HasTouched id_of (greeted.Ready welcome)) (HasTouched id_of (greeted.Ready welcome)) (λ m n l h g. touched_after (id_of welcome.id) m n l h g) s t
+    touched_behind (greeted.Refused status) s t = told_on o p q Same (HasTouched {P = P} id_of (greeted.Refused status)) (HasTouched {P = P} id_of (greeted.Refused status)) (λ m n l h g. (g.0, kept_after g.0 m n l h g.1)) s t
+    touched_behind greeted.Ended s t = told_on o p q Same (HasTouched {P = P} id_of greeted.Ended) (HasTouched {P = P} id_of greeted.Ended) (λ m n l h g. λ k. g k ∙ h k) s t
+    touched_behind greeted.ReadFault s t = told_on o p q Same (HasTouched {P = P} id_of greeted.ReadFault) (HasTouched {P = P} id_of greeted.ReadFault) (λ m n l h g. λ k. g k ∙ h k) s t
+    touched_behind greeted.WriteFault s t = told_on o p q Same (HasTouched {P = P} id_of greeted.WriteFault) (HasTouched {P = P} id_of greeted.WriteFault) (λ m n l h g. (g.0, touched_after g.0 m n l h g.1)) s t
+    touched_behind greeted.NoMemory s t = told_on o p q Same (HasTouched {P = P} id_of greeted.NoMemory) (HasTouched {P = P} id_of greeted.NoMemory) (λ m n l h g. (g.0, touched_after g.0 m n l h g.1)) s t
+
+-- what a door refuses to a joiner, by its sessions before and after
+absent_as : (A : Type 0) (r : Refused) (there : Bool) → IsAbsent {A = A} (Err r) there → IsAbsent {A = Unit {0}} (Err r) there
+absent_as A Absent there h = h
+absent_as A Conflict there h = h
+absent_as A Dial there h = h
+absent_as A Busy there h = h
+absent_as A Closed there h = h
+absent_as A Forbidden there h = h
+absent_as A TooMany there h = h
+absent_as A Worn there h = h
+absent_as A NoMemory there h = h
+
+-- where no session is there, and where its history is told
+at_none : (A : Type 0) (role : Asked) (r : Refused) → IsAbsent {A = A} (Err r) false → RefusesAt None role r
+at_none A role Absent h = inl refl
+at_none A role Conflict h = cc
+at_none A role Dial h = cc
+at_none A role Busy h = cc
+at_none A role Closed h = cc
+at_none A role Forbidden h = cc
+at_none A role TooMany h = cc
+at_none A role Worn h = cc
+at_none A role NoMemory h = inr refl
+
+at_told : (A : Type 0) (h : History) (role : Asked) (r : Refused) → IsJoinRefusal r → IsAbsent {A = A} (Err r) true → MeetsTold {A = A} h role (Err r) → RefusesAt (Some (Some h)) role r
+at_told A h role Absent is a m = cc
+at_told A h role Conflict is a m = absurd is
+at_told A h role Dial is a m = absurd is
+at_told A h role Busy is a m = absurd is
+at_told A h role Closed is a m = inr m
+at_told A h role Forbidden is a m = inr m
+at_told A h role TooMany is a m = inr m
+at_told A h role Worn is a m = inr m
+at_told A h role NoMemory is a m = inl refl
+
+refuses_at : (A : Type 0) (o : Option (Option History)) (role : Asked) (r : Refused) → IsJoinRefusal r → IsAbsent {A = A} (Err r) (is_some o) → MeetsHistory {A = A} o role (Err r) → RefusesAt o role r
+refuses_at A None role r is a m = at_none A role r a
+refuses_at A (Some None) role r is a m = tt
+refuses_at A (Some (Some h)) role r is a m = at_told A h role r is a m
+
+there_on : (name : Option (List ℕ)) (m n : Sessions) → KeepsIds name m n → is_some (at_name name n) ≡ is_some (at_name name m)
+there_on None m n k = refl
+there_on (Some id) m n k = is_same (m id) (n id) (k id).0
+
+pub join_refuses : {A : Type 0} (name : Option (List ℕ)) (o p : Option Sessions) (role : Asked) (result : Result A Refused) → IfErr result IsJoinRefusal → Told o p (λ m n. IsAbsent result (is_some (at_name name m))) → Told o p (KeepsIds name) → IfSome p (λ n. MeetsHistory (at_name name n) role result) → IfErr result (JoinRefuses name o p role)
+join_refuses name o p role (Ok a) is absent kept meets = tt
+join_refuses name None None role (Err r) is absent kept meets = (is, tt, tt)
+join_refuses name None (Some n) role (Err r) is absent kept meets = absurd absent
+join_refuses name (Some m) None role (Err r) is absent kept meets = absurd absent
+join_refuses {A = A} name (Some m) (Some n) role (Err r) is absent kept meets =
+    (is, absent_as A r (is_some (at_name name m)) absent, refuses_at A (at_name name n) role r is (subst (λ (b : Bool). IsAbsent {A = A} (Err r) b) (sym (there_on name m n kept)) absent) meets)
+
+-- the same of what the door was asked
+pub join_may : {A : Type 0} (id_of : List ℕ → Option (List ℕ)) (o p : Option Sessions) (draws : Option (ℕ → List ℕ)) (request : Request) (id name : List ℕ) (role : Asked) (result : Result A Refused) → request ≡ Join id role → name ≡ id → IfErr result (JoinRefuses (id_of name) o p role) → IfErr result (MayRefuse id_of o draws p request)
+join_may id_of o p draws request id name role result is same h =
+    subst (λ (q : Request). IfErr result (MayRefuse id_of o draws p q)) (sym is) (subst (λ (n : List ℕ). IfErr result (JoinRefuses (id_of n) o p role)) same h)

@@ -1,0 +1,13 @@
+use Rattle.guac_handshake.proofs.Touching.{begin_answered, join_answered, join_may, join_refuses}
+use Rattle.guac_handshake.proofs.greeting.ask.Goals as goal
+
+pub returns-in-Begin-clause-sessions : goal.returns-in-Begin-clause-sessions
+returns-in-Begin-clause-sessions g c = begin_answered g.D.Door.id_of _ _ _ c.begin.ensures.added c.begin.ensures.refused
+
+pub returns-in-Join-clause-sessions : goal.returns-in-Join-clause-sessions
+returns-in-Join-clause-sessions g c = join_answered g.D.Door.id_of _ _ _ _ c.join.ensures.same_id c.join.ensures.ids
+
+pub returns-in-Join-clause-kind : goal.returns-in-Join-clause-kind
+returns-in-Join-clause-kind g c =
+    join_may _ _ _ _ _ _ _ _ _ c.in-Join.is c.as_str.ensures
+    (join_refuses _ _ _ _ _ c.join.ensures.kind c.join.ensures.absent c.join.ensures.ids c.join.ensures.history)

@@ -1,0 +1,24 @@
+//! Which calls are made for the rows of a file.
+
+use crate::{canvases, desks, grids, screens};
+use anyhow::{Result, bail};
+use std::alloc::Global;
+
+/// What the calls of a topic give on an input.
+pub fn value(alloc: Global, topic: &str, input: &str) -> Result<String> {
+    match topic {
+        "grids" => grids::edited(alloc, input),
+        "screens" => screens::seen(alloc, input),
+        "looks" => screens::look(alloc, input),
+        "reports" => screens::reports(alloc, input),
+        "shifts" => screens::shifts(alloc, input),
+        "cursor_keys" => screens::cursor_keys(alloc, input),
+        "copies" => screens::copies(alloc, input),
+        "canvases" => canvases::drawn(alloc, input),
+        "dots" => canvases::dot(alloc, input),
+        "sames" => canvases::same(alloc, input),
+        "desks" => desks::answers(alloc, input),
+        "desk_roles" => desks::roles(alloc, input),
+        _ => bail!("no such topic"),
+    }
+}
