@@ -6,3 +6,4 @@ pub mod Places
 pub mod Copies
 pub mod Playing
 pub mod Comparing
+pub mod Playable

@@ -1,6 +1,6 @@
 -- Worked refusals: a session of at most three entries with its owner.
 use Rattle.std.proofs.Common.{◌≡◌, [], ◌∷◌, refl}
-use Rattle.std.specs.Prelude.{Some, None, Ok, Err}
+use Rattle.std.specs.Prelude.{map, Some, None, Ok, Err}
 use Rattle.gate_model.specs.declared.cause.Cause.TheVariants.{Stopped}
 use Rattle.gate_model.specs.declared.how.How.TheVariants.{Suffix}
 use Rattle.gate_model.specs.declared.sharing.Role.TheVariants.{Control}
@@ -30,81 +30,42 @@ abbrev shut : History
 shut = Close Stopped ∷ full
 
 -- feed: a full session tells its entries, and a closed one its cause first
-feeds_opened : feed_refusal with_owner ≡ None
-feeds_opened = refl
+feeds : map feed_refusal (with_owner ∷ full ∷ shut ∷ []) ≡ None ∷ Some (feed_worn 3) ∷ Some (feed_closed Stopped) ∷ []
+feeds = refl
 
-feeds_full : feed_refusal full ≡ Some (feed_worn 3)
-feeds_full = refl
+-- join: an open session that nobody shares refuses whoever isn't its owner, and tells so before it tells that
+-- it is full
+owner_joins : map (λ h. join_refusal h Owner) (opened ∷ full ∷ shut ∷ []) ≡ None ∷ Some (join_worn 3) ∷ Some (join_closed Stopped) ∷ []
+owner_joins = refl
 
-closed_before_worn : feed_refusal shut ≡ Some (feed_closed Stopped)
-closed_before_worn = refl
+others_join : map (λ h. join_refusal h ask_view) (opened ∷ full ∷ shut ∷ []) ≡ Some join_forbidden ∷ Some join_forbidden ∷ Some (join_closed Stopped) ∷ []
+others_join = refl
 
--- join
-joins_opened : join_refusal opened Owner ≡ None
-joins_opened = refl
+-- read: nobody has the numbers 0 and 2; the owner has every frame, or lacks one
+nobody_reads : map (read_stop full) (0 ∷ 2 ∷ []) ≡ Some (Err read_no_viewer) ∷ Some (Err read_no_viewer) ∷ []
+nobody_reads = refl
 
-joins_full : join_refusal full Owner ≡ Some (join_worn 3)
-joins_full = refl
+owner_reads : map (λ h. read_stop h 1) (with_owner ∷ full ∷ []) ≡ Some (Ok Empty) ∷ Some (Err (read_worn 3)) ∷ []
+owner_reads = refl
 
-joins_shut : join_refusal shut ask_view ≡ Some (join_closed Stopped)
-joins_shut = refl
+lacks : map (λ h. lacked h 1) (with_owner ∷ full ∷ []) ≡ 0 ∷ 1 ∷ []
+lacks = refl
 
--- an open session that nobody shares refuses whoever isn't its owner, and tells so before it tells that it is full
-joins_forbidden : join_refusal full ask_view ≡ Some join_forbidden
-joins_forbidden = refl
-
--- read: nobody; the owner with every frame; the owner that lacks one
-reads_nobody : read_stop full 2 ≡ Some (Err read_no_viewer)
-reads_nobody = refl
-
-reads_zero : read_stop full 0 ≡ Some (Err read_no_viewer)
-reads_zero = refl
-
-reads_at_once : read_stop with_owner 1 ≡ Some (Ok Empty)
-reads_at_once = refl
-
-reads_full : read_stop full 1 ≡ Some (Err (read_worn 3))
-reads_full = refl
-
-lacks_none : lacked with_owner 1 ≡ 0
-lacks_none = refl
-
-lacks_one : lacked full 1 ≡ 1
-lacks_one = refl
-
--- a full session that has nothing more to give is Empty and not worn
-had_all : read_stop (Read 1 Suffix ∷ full) 1 ≡ Some (Ok Empty)
-had_all = refl
+-- a full session that has nothing more to give is Empty and not worn; a closed session gives all that is left
+-- once, and then nothing
+last_reads : map (λ h. read_stop h 1) ((Read 1 Suffix ∷ full) ∷ shut ∷ (Read 1 Suffix ∷ shut) ∷ []) ≡ Some (Ok Empty) ∷ None ∷ Some (Ok Ended) ∷ []
+last_reads = refl
 
 -- write
-writes_owner : write_refusal with_owner 1 ≡ None
-writes_owner = refl
+owner_writes : map (λ h. write_refusal h 1) (with_owner ∷ full ∷ shut ∷ []) ≡ None ∷ Some (write_worn 3) ∷ Some (write_closed Stopped) ∷ []
+owner_writes = refl
 
-writes_nobody : write_refusal shut 2 ≡ Some write_no_viewer
-writes_nobody = refl
-
-writes_full : write_refusal full 1 ≡ Some (write_worn 3)
-writes_full = refl
-
-writes_shut : write_refusal shut 1 ≡ Some (write_closed Stopped)
-writes_shut = refl
-
--- a closed session gives all that is left once, and then nothing
-reads_shut : read_stop shut 1 ≡ None
-reads_shut = refl
-
-reads_ended : read_stop (Read 1 Suffix ∷ shut) 1 ≡ Some (Ok Ended)
-reads_ended = refl
+nobody_writes : write_refusal shut 2 ≡ Some write_no_viewer
+nobody_writes = refl
 
 -- leave and close
-leaves_owner : leave_refusal shut 1 ≡ None
-leaves_owner = refl
+leaves : map (λ h. leave_refusal h 1) (shut ∷ (Leave 1 ∷ shut) ∷ []) ≡ None ∷ Some record {} ∷ []
+leaves = refl
 
-leaves_nobody : leave_refusal (Leave 1 ∷ shut) 1 ≡ Some record {}
-leaves_nobody = refl
-
-closes_open : close_refusal full ≡ None
-closes_open = refl
-
-closes_shut : close_refusal shut ≡ Some record { cause = Stopped }
-closes_shut = refl
+closes : map close_refusal (full ∷ shut ∷ []) ≡ None ∷ Some record { cause = Stopped } ∷ []
+closes = refl

@@ -1,5 +1,5 @@
-//! What a lock keeps, and the type parameters by which a caller names a list and an entry.
-ghost use Rattle.std.specs.Prelude.{◌≡◌, ◌<◌, ◌^◌, ℕ, List, [], Option, length};
+//! What a lock keeps, and the type parameter by which a caller names an entry.
+ghost use Rattle.std.specs.Prelude.{◌≡◌, ◌<◌, ◌^◌, ℕ, List, Option, length};
 
 use std::marker::Brand;
 
@@ -21,16 +21,6 @@ pub trait Kept {
 
     // Each list that a value stands for has fewer than 2^62 entries, so that their number never wraps.
     ghost few: { (v : Self) (h : List Self.Entry) → stands v h → length h < 2 ^ 62 };
-}
-
-/// Names, for contracts alone, the list that a lock begins with. At `Brand` the caller's proof picks
-/// it, and else it is the empty list.
-pub trait Lists<E> {
-    ghost list: { List E };
-}
-
-impl<E> Lists<E> for Brand {
-    ghost list = { [] };
 }
 
 /// Names, for contracts alone, the entry that a turn adds, by what is true of it. At `Brand` the

@@ -12,7 +12,6 @@
 
 mod kept;
 mod lock;
-mod opening;
 mod pass;
 mod passes;
 mod plays;
@@ -24,7 +23,8 @@ mod turn;
 mod view;
 mod waits;
 
-pub use kept::{Adds, Kept, Lists};
+pub use ghost_list::Lists;
+pub use kept::{Adds, Kept};
 pub use lock::TurnLock;
 pub use pass::Pass;
 pub use turn::Turn;

@@ -1,14 +1,14 @@
 //! The lock: its making, a turn, and its end.
 ghost use Rattle.std.specs.Prelude.{◌≡◌};
 
-use crate::kept::{Kept, Lists};
-use crate::opening::Opening;
+use crate::kept::Kept;
 use crate::pass::Pass;
 use crate::rule::LockRule;
 use crate::turn::Turn;
 use crate::view::View;
 use atomic_table::Table;
 use gate_model::NoMemory;
+use ghost_list::{GhostList, Lists};
 use std::alloc::Global;
 use std::sync::Wait;
 use std::sync::atomic::AtomicU64;
@@ -17,7 +17,7 @@ use std::sync::atomic::AtomicU64;
 /// `name_of` of `specs/Passes.antt`.
 #[derive(Drop)]
 pub struct TurnLock<V: Kept + Drop> {
-    pub(crate) table: Table<Option<V>, View<V::Entry>, Opening<V::Entry>, LockRule<V>, Global>,
+    pub(crate) table: Table<Option<V>, View<V::Entry>, GhostList<V::Entry>, LockRule<V>, Global>,
     // How many passes sleep or are about to. No clause speaks of it.
     pub(crate) sleepers: AtomicU64,
     ghost shape: { (table.shared.table_id.words ≡ 3) × (table.shared.table_id.slots ≡ 1) },
@@ -46,7 +46,7 @@ impl<V: Kept + Drop> TurnLock<V> {
         let words = [value.count(), 0, 0];
         let mut slots = Vec::with_capacity(alloc, 1)?;
         slots.push_reserved(Some(value));
-        let opening = Opening::of::<L>();
+        let opening = GhostList::of::<L>();
         match Table::new(alloc, &words, slots, &opening) {
             Ok((table, seat)) => {
                 let sleepers = AtomicU64::new(0);

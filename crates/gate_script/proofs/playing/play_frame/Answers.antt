@@ -1,5 +1,5 @@
 use Rattle.std.proofs.Common.{sym, ◌∙◌}
-use Rattle.gate_script.proofs.PlayingLaws.{playable}
+use Rattle.canvas.proofs.Playable.{playable}
 use Rattle.gate_script.proofs.playing.play_frame.Goals as goal
 
 pub play-requires : goal.play-requires

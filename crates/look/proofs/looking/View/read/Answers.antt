@@ -1,5 +1,5 @@
 use Rattle.std.proofs.Common.{sym, ◌∙◌}
-use Rattle.look.proofs.Playable.{playable}
+use Rattle.canvas.proofs.Playable.{playable}
 use Rattle.look.proofs.looking.View.read.Goals as goal
 
 pub take-requires-clause-playable : goal.take-requires-clause-playable

@@ -10,7 +10,7 @@ new-requires g c =
     let slots : c.push_reserved.new.self.items ≡ Some c.args.value ∷ [] = search rules in
     let n = c.count.result in
     let starts = begins g.V.Kept.stands g.V.Kept.mark c.args.value g.L.Lists.list n c.requires.stands c.requires.unmarked (c.count.ensures g.L.Lists.list c.requires.stands) in
-    subst (λ xs. Ruled g.V.Kept.stands g.V.Kept.mark (opening (n ∷ 0 ∷ 0 ∷ []) xs (beginning g.V.Kept.mark c.of-opening.result.entries))) (sym slots)
+    subst (λ xs. Ruled g.V.Kept.stands g.V.Kept.mark (opening (n ∷ 0 ∷ 0 ∷ []) xs (beginning g.V.Kept.mark c.of-opening.result.items))) (sym slots)
     (subst (λ h. Ruled g.V.Kept.stands g.V.Kept.mark (opening (n ∷ 0 ∷ 0 ∷ []) (Some c.args.value ∷ []) (beginning g.V.Kept.mark h))) (sym c.of-opening.ensures) starts)
 
 pub returns-in-Ok-clause-places : goal.returns-in-Ok-clause-places
