@@ -305,11 +305,11 @@ module _ (slots : LruCache HashKey ℕ) (keys : Buffers) (t : IsTied slots keys)
   missing_here : is_held keys key ≡ false
   missing_here = subst (λ (s : CacheState). is_held s.keys key ≡ false) (sym view) missing
 
-  pub made_as : length state.keys < 1024 → (number : ℕ) → number ≡ length keys → (more : Buffers) → more ≡ keys ++ key ∷ [] → (new : LruCache HashKey ℕ) → new ≡ lru_cache (put_entries is_equal slots (by_hash key) number) slots.cap → IsTied new more × (keys_in new.entries ≡ key ∷ state.order)
-  made_as room number is more grown new put =
+  pub made_as : length state.keys < 1024 → (number : ℕ) → number ≡ length keys → (grown : Buffers) → grown ≡ keys ++ key ∷ [] → (new : LruCache HashKey ℕ) → new ≡ lru_cache (put_entries is_equal slots (by_hash key) number) slots.cap → IsTied new grown × (keys_in new.entries ≡ key ∷ state.order)
+  made_as room number is grown parts new put =
       let few : length keys < 1024 = subst (λ (s : CacheState). length s.keys < 1024) (sym view) room in
       let done = made slots keys t key coloured missing_here few new (subst (λ n. new ≡ lru_cache (put_entries is_equal slots (by_hash key) n) slots.cap) is put) in
-      (subst (λ l. IsTied new l) (sym grown) done.0, subst (λ (s : CacheState). keys_in new.entries ≡ key ∷ s.order) view done.1)
+      (subst (λ l. IsTied new l) (sym parts) done.0, subst (λ (s : CacheState). keys_in new.entries ≡ key ∷ s.order) view done.1)
 
   module _ (full : length state.keys ≡ 1024) (e : HashKey × ℕ) (last : Some e ≡ slice_get slots.entries (length slots.entries - 1)) where
     full_here : length keys ≡ 1024

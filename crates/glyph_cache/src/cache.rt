@@ -47,7 +47,7 @@ impl Cache {
         })
     }
 
-    /// The layer of the key's buffer, if it has one. The key isn't used by this.
+    /// The layer of the key's buffer, if it has one. The order of use stays.
     pub fn find(&self, key: Key) -> Option<i32>
         ensures none { IsNone result ↔ (is_held self.now.keys key ≡ false) }
         ensures layer { IfSome result (λ layer. (n : ℕ) × (layer ≡ negsuc n) × (slice_get self.now.keys n ≡ Some key)) }
