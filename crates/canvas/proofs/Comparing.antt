@@ -2,7 +2,7 @@
 use Rattle.std.proofs.Common.{◌≡◌, ℕ, zero, suc, ◌+◌, ◌<◌, ◌≤◌, inl, inr, ℤ, pos, negsuc, List, length, get_or, refl, sym, subst, ◌∙◌, arith}
 use Rattle.std.proofs.lemmas.Bool.{cases_lt}
 use Rattle.std.proofs.lemmas.List.{get_or_past}
-use Rattle.gate_model.specs.Layers.{IsAlike, Layer, Layers, Same}
+use Rattle.gate_model.specs.picture.Layers.{IsAlike, Layer, Layers, Same}
 use Rattle.canvas.specs.Kept.{IsKeptAlike, KeptLayer, kept_empty}
 use Rattle.canvas.specs.Standing.{Keeps, Stands, kept_at}
 use Rattle.canvas.proofs.Places.{none_above}

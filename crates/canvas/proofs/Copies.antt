@@ -5,8 +5,8 @@ use Rattle.std.proofs.lemmas.Bool.Decides.{nat_tests}
 use Rattle.std.proofs.lemmas.Bool.{cases_lt}
 use Rattle.std.proofs.lemmas.List.{get_or_default, get_or-set_same}
 use Rattle.gate_model.specs.declared.colour.Colour.{Colour}
-use Rattle.gate_model.specs.Layers.{is_covered, over}
-use Rattle.gate_model.specs.Shape.{IsLayer}
+use Rattle.gate_model.specs.picture.Layers.{is_covered, over}
+use Rattle.gate_model.specs.picture.Shape.{IsLayer}
 use Rattle.canvas.specs.declared.rectangle.Rectangle.{Rectangle}
 use Rattle.canvas.specs.Kept.{HasPart, IsCopied, IsPainted, KeptLayer, Shows, is_within, kept_empty, pixel_in, source_in}
 use Rattle.canvas.specs.Standing.{KeepsAll, kept_at}

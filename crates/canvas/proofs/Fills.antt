@@ -4,7 +4,7 @@ use Rattle.std.proofs.lemmas.Bool.Decides.{nat_tests}
 use Rattle.std.proofs.lemmas.List.{get_or-replicate, length-replicate}
 use Rattle.std.proofs.lemmas.Bool.{cases_lt}
 use Rattle.gate_model.specs.declared.colour.Colour.{Colour}
-use Rattle.gate_model.specs.Layers.{is_covered}
+use Rattle.gate_model.specs.picture.Layers.{is_covered}
 use Rattle.canvas.specs.declared.rectangle.Rectangle.{Rectangle}
 use Rattle.canvas.specs.Kept.{Shows, area_of, is_within, pixel_in, with_part}
 use Rattle.canvas.proofs.Rows.{else_case, then_case, length-part, row_pixel, row_fits}

@@ -4,7 +4,7 @@ use Rattle.std.specs.List.{slice_range}
 use Rattle.std.proofs.lemmas.Bool.{cases_lt}
 use Rattle.std.proofs.lemmas.List.{get_or-append_right, get_or_append_left, get_or-take, get_or-drop}
 use Rattle.gate_model.specs.declared.colour.Colour.{Colour}
-use Rattle.gate_model.specs.Layers.{over}
+use Rattle.gate_model.specs.picture.Layers.{over}
 use Rattle.canvas.specs.Kept.{IsOverlaid, Shows, is_within, pixel_in, with_part}
 use Rattle.canvas.proofs.Rows.{else_case, is_below, row_before, row_fits, row_is, row_left, row_pixel, row_right}
 use Rattle.canvas.proofs.Fills.{either_case, one_more_within, when_true}

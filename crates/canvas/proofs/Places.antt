@@ -6,7 +6,7 @@ use mir.Val.{SFits}
 use Rattle.std.proofs.Math.Facts.{to_z-of_z}
 use Rattle.std.proofs.lemmas.Int.{ints}
 use Rattle.std.proofs.lemmas.Bool.Decides.{nat_tests}
-use Rattle.gate_model.specs.Shape.{IsLayer}
+use Rattle.gate_model.specs.picture.Shape.{IsLayer}
 use Rattle.canvas.specs.Kept.{KeptLayer, kept_empty}
 use Rattle.canvas.specs.Standing.{KeepsOthers, kept_at}
 use Rattle.canvas.proofs.Rows.{else_case}

@@ -6,10 +6,10 @@ use Rattle.std.proofs.lemmas.Bool.{leb-true, and_parts, cases_Bool}
 use Rattle.std.proofs.Math.Dec.{le→leb}
 use Rattle.gate_model.specs.declared.instr.Instr.{Instr}
 use Rattle.gate_model.specs.declared.instr.Instr.TheVariants.{Sync, Disconnect}
-use Rattle.gate_model.specs.Shape.{IsLayer}
-use Rattle.gate_model.specs.Spelling.{number_of}
-use Rattle.gate_model.specs.Numerals.{value_at, is_number, number_within, number_of_bits, layer_of}
-use Rattle.gate_model.specs.ServerMeaning.{extent_of, over_of, opaque_of, size_instr, rect_instr, cfill_instr, copy_instr, error_instr, instr_named, instr_of}
+use Rattle.gate_model.specs.picture.Shape.{IsLayer}
+use Rattle.gate_model.specs.text.Spelling.{number_of}
+use Rattle.gate_model.specs.text.Numerals.{value_at, is_number, number_within, number_of_bits, layer_of}
+use Rattle.gate_model.specs.text.ServerMeaning.{extent_of, over_of, opaque_of, size_instr, rect_instr, cfill_instr, copy_instr, error_instr, instr_named, instr_of}
 use Rattle.canvas.specs.Standing.{IsPlayable}
 
 -- what a value is, if there is one

@@ -8,7 +8,7 @@ use Rattle.std.proofs.lemmas.List.Folds.{list_any-append}
 use Rattle.gate_model.specs.declared.colour.Colour.{Colour}
 use Rattle.gate_model.specs.declared.instr.Instr.{Instr}
 use Rattle.gate_model.specs.declared.instr.Instr.TheVariants.{Size, Rect, Cfill, Copy}
-use Rattle.gate_model.specs.Layers.{Area, Layer, Layers, play, copied, is_covered, is_in, open_path, over, painted, sized, source_pixel, traced, with_layer}
+use Rattle.gate_model.specs.picture.Layers.{Area, Layer, Layers, play, copied, is_covered, is_in, open_path, over, painted, sized, source_pixel, traced, with_layer}
 use Rattle.canvas.specs.declared.rectangle.Rectangle.{Rectangle}
 use Rattle.canvas.specs.Kept.{IsCopied, IsPainted, IsSized, KeptLayer, area_of, covers, kept_traced, pixel_in, source_in}
 use Rattle.canvas.specs.Standing.{IsPlayable, Keeps, KeepsOthers, Stands, areas, kept_at}

@@ -8,7 +8,7 @@ use Rattle.std.proofs.lemmas.Nat.{mul-add-lt, div_below, mod_below}
 use Rattle.std.proofs.Math.Nat.{mul_comm}
 use Rattle.std.proofs.Math.Seq.{take-append_seam}
 use Rattle.gate_model.specs.declared.colour.Colour.{Colour}
-use Rattle.gate_model.specs.Layers.{over}
+use Rattle.gate_model.specs.picture.Layers.{over}
 use Rattle.canvas.specs.Kept.{IsKeptAlike, KeptLayer, Shows, is_within, pixel_in}
 
 abbrev Pixels : Type 0

@@ -2,7 +2,7 @@
 use Rattle.std.specs.Prelude.{◌≡◌, ℕ, ◌+◌, ◌-◌, ◌*◌, ◌<◌, List, [], ◌∷◌, ◌++◌, Bool, true, false, ◌&&◌, nat_lt, if◌then◌else◌, Option, Some, None, get_or, length, take, drop}
 use Rattle.std.specs.List.{list_any}
 use Rattle.gate_model.specs.declared.colour.Colour.{Colour}
-use Rattle.gate_model.specs.Layers.{Area, is_covered, over}
+use Rattle.gate_model.specs.picture.Layers.{Area, is_covered, over}
 use Rattle.canvas.specs.declared.rectangle.Rectangle.{Rectangle}
 use Rattle.canvas.specs.declared.dot.Dot.{Dot}
 use Rattle.canvas.specs.declared.dot.Dot.TheVariants.{Outside, Clear, Painted}

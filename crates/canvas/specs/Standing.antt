@@ -2,9 +2,9 @@
 use Rattle.std.specs.Prelude.{◌≡◌, ◌≢◌, ℕ, ◌+◌, ◌<◌, ◌≤◌, ℤ, pos, negsuc, List, map, reverse, get_or, ◌==◌, if◌then◌else◌, ⊤}
 use Rattle.gate_model.specs.declared.instr.Instr.{Instr}
 use Rattle.gate_model.specs.declared.instr.Instr.TheVariants.{Size, Rect, Cfill, Copy, Sync, Disconnect, Error}
-use Rattle.gate_model.specs.Layers.{Area, Layer, Layers, is_in}
+use Rattle.gate_model.specs.picture.Layers.{Area, Layer, Layers, is_in}
 use Rattle.gate_model.specs.Limits.{most_extent}
-use Rattle.gate_model.specs.Shape.{IsLayer}
+use Rattle.gate_model.specs.picture.Shape.{IsLayer}
 use Rattle.canvas.specs.declared.dot.Dot.{Dot}
 use Rattle.canvas.specs.declared.dot.Dot.TheVariants.{Outside}
 use Rattle.canvas.specs.declared.rectangle.Rectangle.{Rectangle}

@@ -1,7 +1,7 @@
 ghost use Rattle.gate_model.specs.Limits.{most_extent};
 ghost use Rattle.std.specs.Prelude.{◌≡◌, ◌≢◌, ℕ, ◌+◌, ◌-◌, ◌*◌, min, ◌<◌, ◌≤◌, ◌↔◌, [], IsTrue, length, get_or, unsigned_abs, IfOk, OnOk, OnErr, MatchOption};
-ghost use Rattle.gate_model.specs.Layers.{Layers, nothing, play, Same};
-ghost use Rattle.gate_model.specs.Shape.{IsLayer};
+ghost use Rattle.gate_model.specs.picture.Layers.{Layers, nothing, play, Same};
+ghost use Rattle.gate_model.specs.picture.Shape.{IsLayer};
 ghost use Rattle.canvas.specs.Kept.{IsCopied, IsKeptAlike, IsPainted, IsSized, kept_empty, kept_traced};
 ghost use Rattle.canvas.specs.Standing.{IsPlayable, KeepsAll, KeepsOthers, Stands, dot_at, kept_at};
 

@@ -1,6 +1,6 @@
 ghost use Rattle.gate_model.specs.Limits.{most_extent};
 ghost use Rattle.std.specs.Prelude.{◌≡◌, ℕ, ◌+◌, ◌-◌, ◌*◌, ◌<◌, ◌≤◌, get_or, is_some, IsTrue, IfOk, OnOk, ◌↔◌, ◌&&◌, nat_lt, List, length, replicate, Some, if◌then◌else◌};
-ghost use Rattle.gate_model.specs.Layers.{is_covered, over};
+ghost use Rattle.gate_model.specs.picture.Layers.{is_covered, over};
 ghost use Rattle.canvas.specs.Kept.{IsOverlaid, Shows, area_of, covers, is_within, pixel_in, with_part};
 
 use crate::rectangle::Rectangle;

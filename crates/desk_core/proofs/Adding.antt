@@ -18,17 +18,17 @@ use Rattle.gate_model.specs.declared.sharing.Asked.{Asked}
 use Rattle.gate_model.specs.declared.sharing.Role.{Role}
 use Rattle.gate_model.specs.declared.entry.Entry.{Entry}
 use Rattle.gate_model.specs.declared.entry.Entry.TheVariants.{Feed, Join, Read, Write, Take, Leave, Close}
-use Rattle.gate_model.specs.Screens.{shown}
-use Rattle.gate_model.specs.Shape.{Shape}
-use Rattle.gate_model.specs.Text.{texts}
-use Rattle.gate_model.specs.History.{History, at, bytes, columns, lines, newest, next_stamp, frames, frames_after, instructions, all_frames, joined, share_mode, is_closed}
-use Rattle.gate_model.specs.Delivered.{closing, position, handed, shown_to}
-use Rattle.gate_model.specs.Output.{untaken}
-use Rattle.gate_model.specs.Refusals.{only_if, close_cause, feed_refusal, join_refusal, read_stop, write_refusal}
-use Rattle.gate_model.specs.Rights.{is_live, may}
-use Rattle.gate_model.specs.Roles.{grant_of}
-use Rattle.gate_model.specs.Calls.{AreBytes, IsPiece, IsWrite, is_key_act, take_entry, Step}
-use Rattle.gate_model.specs.Runs.{handed_out}
+use Rattle.gate_model.specs.terminal.Screens.{shown}
+use Rattle.gate_model.specs.picture.Shape.{Shape}
+use Rattle.gate_model.specs.text.Text.{texts}
+use Rattle.gate_model.specs.session.History.{History, at, bytes, columns, rows, newest, next_stamp, frames, frames_after, instructions, all_frames, joined, share_mode, is_closed}
+use Rattle.gate_model.specs.session.Delivered.{closing, position, handed, shown_to}
+use Rattle.gate_model.specs.session.Output.{untaken}
+use Rattle.gate_model.specs.session.Refusals.{only_if, close_cause, feed_refusal, join_refusal, read_stop, write_refusal}
+use Rattle.gate_model.specs.session.Rights.{is_live, may}
+use Rattle.gate_model.specs.session.Roles.{grant_of}
+use Rattle.gate_model.specs.session.Calls.{AreBytes, IsPiece, IsWrite, is_key_act, take_entry, Step}
+use Rattle.gate_model.specs.session.Runs.{handed_out}
 use Rattle.gate_model.proofs.Truth.{facts_of}
 use Rattle.gate_model.proofs.Histories.{plain-join, plain-read, plain-write, plain-take, plain-leave, plain-close}
 use Rattle.viewer_book.specs.Book as book
@@ -58,7 +58,7 @@ pub added_feed : (d : DeskState) (h : History) (bs : List ℕ) (now t : ℕ) (r 
     → Answered h (feed bs now) (fed (Ok t)) record d { host = r.host; outgoing = outgoing; frames = frames; drawing = drawing; past = l.past; entries = l.entries } [] []
 added_feed d h bs now t r frame l outgoing frames drawing s piece octets allowed is_next follows draws logs waits shows =
     let next : t ≡ next_stamp (newest h) now = is_next ∙ ap (λ (n : ℕ). next_stamp n now) s.frames.stamp in
-    let shape : Shape (columns h) (lines h) frame t = subst (λ (k : ℕ). Shape (columns h) k frame t) (rows_of h r.host (at h).shift (bytes h ++ bs) follows.host) (subst (λ (k : ℕ). Shape k (shown r.host.screen).rows frame t) (cols_of h r.host (at h).shift (bytes h ++ bs) follows.host) draws.shape) in
+    let shape : Shape (columns h) (rows h) frame t = subst (λ (k : ℕ). Shape (columns h) k frame t) (rows_of h r.host (at h).shift (bytes h ++ bs) follows.host) (subst (λ (k : ℕ). Shape k (shown r.host.screen).rows frame t) (cols_of h r.host (at h).shift (bytes h ++ bs) follows.host) draws.shape) in
     let step : Step h (feed bs now) (fed (Ok t)) (Feed bs t frame ∷ []) = feed_step h bs now t frame piece octets allowed next shape in
     let above : newest h < t = omega (arith, next) in
     record {

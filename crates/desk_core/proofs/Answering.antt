@@ -19,11 +19,11 @@ use Rattle.gate_model.specs.declared.read_refusal.ReadRefusal.TheVariants.{NoVie
 use Rattle.gate_model.specs.declared.write_refusal.WriteRefusal.{WriteRefusal}
 use Rattle.gate_model.specs.declared.write_refusal.WriteRefusal.TheVariants.{NoViewer as write_no_viewer, Closed as write_closed, Worn as write_worn, NoMemory as write_no_memory}
 use Rattle.gate_model.specs.declared.sharing.Asked.{Asked}
-use Rattle.gate_model.specs.History.{History, newest, joined, share_mode, is_closed, is_full}
-use Rattle.gate_model.specs.Delivered.{position, ended}
-use Rattle.gate_model.specs.Rights.{is_live, live_count}
-use Rattle.gate_model.specs.Refusals.{first_of, only_if, close_cause, is_forbidden, is_crowded, feed_refusal, join_refusal, read_stop, write_refusal}
-use Rattle.gate_model.specs.Calls.{IsPiece, IsWrite, Step}
+use Rattle.gate_model.specs.session.History.{History, newest, joined, share_mode, is_closed, is_full}
+use Rattle.gate_model.specs.session.Delivered.{position, ended}
+use Rattle.gate_model.specs.session.Rights.{is_live, live_count}
+use Rattle.gate_model.specs.session.Refusals.{first_of, only_if, close_cause, is_forbidden, is_crowded, feed_refusal, join_refusal, read_stop, write_refusal}
+use Rattle.gate_model.specs.session.Calls.{IsPiece, IsWrite, Step}
 use Rattle.gate_model.proofs.Stepping.{feed_stop, join_stop, read_stopped, write_stop}
 use Rattle.desk_core.specs.Desk.{DeskState, Stands}
 use Rattle.desk_core.specs.Calls.{Answered, Ended, OnGiven, OnNothing, feed_answer, join_answer, read_answer, write_answer}

@@ -12,9 +12,9 @@ use Rattle.gate_model.specs.declared.sharing.Role.{Role}
 use Rattle.gate_model.specs.declared.instr.Instr.{Instr}
 use Rattle.gate_model.specs.declared.entry.Entry.{Entry}
 use Rattle.gate_model.specs.declared.entry.Entry.TheVariants.{Feed, Join, Read, Write, Take, Leave, Close}
-use Rattle.gate_model.specs.Text.{text, texts}
-use Rattle.gate_model.specs.History.{History, frames, frames_after, instructions, all_frames, newest, joined}
-use Rattle.gate_model.specs.Delivered.{last_sync, position, handed, shown_to}
+use Rattle.gate_model.specs.text.Text.{text, texts}
+use Rattle.gate_model.specs.session.History.{History, frames, frames_after, instructions, all_frames, newest, joined}
+use Rattle.gate_model.specs.session.Delivered.{last_sync, position, handed, shown_to}
 use Rattle.gate_model.proofs.Facts.{Facts}
 use Rattle.gate_model.proofs.Truth.{farewell-new}
 use Rattle.gate_model.proofs.Histories.{frames_after-feed}

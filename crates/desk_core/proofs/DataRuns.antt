@@ -8,13 +8,13 @@ use Rattle.ecma_parser.specs.declared.parser.Parser.{Parser}
 use Rattle.ecma_parser.specs.Parser.{HasRead}
 use Rattle.gate_model.specs.declared.control.Control.{Control}
 use Rattle.gate_model.specs.declared.control.Control.TheVariants.{Print}
-use Rattle.gate_model.specs.Characters.{characters}
-use Rattle.gate_model.specs.Controls.{controls}
-use Rattle.gate_model.specs.Effects.{effect}
-use Rattle.gate_model.specs.Replies.{reports_from}
-use Rattle.gate_model.specs.Screens.{after_controls}
-use Rattle.gate_model.specs.TelnetTokens.{doubled}
-use Rattle.gate_model.specs.Terminal.{Terminal}
+use Rattle.gate_model.specs.terminal.Characters.{characters}
+use Rattle.gate_model.specs.terminal.Controls.{controls}
+use Rattle.gate_model.specs.terminal.Effects.{effect}
+use Rattle.gate_model.specs.terminal.Replies.{reports_from}
+use Rattle.gate_model.specs.terminal.Screens.{after_controls}
+use Rattle.gate_model.specs.telnet.TelnetTokens.{doubled}
+use Rattle.gate_model.specs.terminal.Terminal.{Terminal}
 use Rattle.gate_model.proofs.ReplyLaws.{doubled-append, reports_from-append}
 use Rattle.gate_model.proofs.ScreenLaws.{after_controls-append}
 use Rattle.desk_core.specs.declared.host.Host.{Host}

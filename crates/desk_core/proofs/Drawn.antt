@@ -5,14 +5,14 @@ use Rattle.gate_model.specs.declared.entry.Entry.TheVariants.{Start, Feed}
 use Rattle.gate_model.specs.declared.instr.Instr.{Instr}
 use Rattle.gate_model.specs.declared.setup.Setup.{Setup}
 use Rattle.gate_model.specs.Limits.{most_buffers}
-use Rattle.gate_model.specs.KeyGrid.{KeyGrid}
-use Rattle.gate_model.specs.Buffers.{AreLayers, Buffers, Renews, new_keys}
-use Rattle.gate_model.specs.Cost.{AllFrugal, changes, cost, keys_shown, rise}
-use Rattle.gate_model.specs.Layers.{Layers, draw, nothing}
-use Rattle.gate_model.specs.Screens.{shown}
-use Rattle.gate_model.specs.Shape.{Shape}
-use Rattle.gate_model.specs.Terminal.{Terminal}
-use Rattle.gate_model.specs.History.{History, at, all_frames}
+use Rattle.gate_model.specs.picture.KeyGrid.{KeyGrid}
+use Rattle.gate_model.specs.picture.Buffers.{AreLayers, Buffers, Renews, new_keys}
+use Rattle.gate_model.specs.session.Cost.{AllFrugal, changes, cost, keys_shown, rise}
+use Rattle.gate_model.specs.picture.Layers.{Layers, draw, nothing}
+use Rattle.gate_model.specs.terminal.Screens.{shown}
+use Rattle.gate_model.specs.picture.Shape.{Shape}
+use Rattle.gate_model.specs.terminal.Terminal.{Terminal}
+use Rattle.gate_model.specs.session.History.{History, at, all_frames}
 use Rattle.gate_model.proofs.Histories.{IsPlain, at-plain}
 use Rattle.gate_model.proofs.Layering.{changes-few_lines}
 use Rattle.gate_model.proofs.Layered.{layers-plain, keys_shown-plain, layers-feed, held-feed, frugal-feed}

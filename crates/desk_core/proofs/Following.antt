@@ -3,13 +3,13 @@ use Rattle.std.proofs.Common.{◌≡◌, ℕ, ◌+◌, List, [], ◌++◌, Bool,
 use Rattle.std.specs.Prelude.{if◌then◌else◌}
 use Rattle.gate_model.specs.declared.act.Act.{Act}
 use Rattle.gate_model.specs.declared.mods.Mods.{Mods}
-use Rattle.gate_model.specs.KeyGrid.{KeyGrid}
-use Rattle.gate_model.specs.History.{History, at, bytes, columns, lines, terminal_type}
-use Rattle.gate_model.specs.Output.{typed}
-use Rattle.gate_model.specs.Rights.{may, mods, held_after}
-use Rattle.gate_model.specs.Screens.{AreColoured, shown}
-use Rattle.gate_model.specs.Steps.{IsScreenSize, Legal}
-use Rattle.gate_model.specs.Terminal.{Terminal}
+use Rattle.gate_model.specs.picture.KeyGrid.{KeyGrid}
+use Rattle.gate_model.specs.session.History.{History, at, bytes, columns, rows, terminal_type}
+use Rattle.gate_model.specs.session.Output.{typed}
+use Rattle.gate_model.specs.session.Rights.{may, mods, held_after}
+use Rattle.gate_model.specs.terminal.Screens.{AreColoured, shown}
+use Rattle.gate_model.specs.session.Steps.{IsScreenSize, Legal}
+use Rattle.gate_model.specs.terminal.Terminal.{Terminal}
 use Rattle.gate_model.proofs.Histories.{legal-size}
 use Rattle.gate_model.proofs.ScreenLaws.{columns-screen, rows-screen, coloured-screen}
 use Rattle.desk_core.specs.declared.host.Heard.{Heard}
@@ -27,20 +27,20 @@ heard_so d h s = rw (s.setup.cols, s.setup.rows) s.host.heard
 
 -- the host after more bytes, whose screen counts the lines that they scrolled
 hears : (d : DeskState) (h : History) (host : Host) (bs : List ℕ) → Stands d h
-    → ((before : List ℕ) (n : ℕ) → HasHeard d.host d.setup.cols d.setup.rows n before → HasHeard host d.setup.cols d.setup.rows (n + d.host.screen.shift) (before ++ bs)) → HasHeard host (columns h) (lines h) (at h).shift (bytes h ++ bs)
+    → ((before : List ℕ) (n : ℕ) → HasHeard d.host d.setup.cols d.setup.rows n before → HasHeard host d.setup.cols d.setup.rows (n + d.host.screen.shift) (before ++ bs)) → HasHeard host (columns h) (rows h) (at h).shift (bytes h ++ bs)
 hears d h host bs s goes_on =
     let counted : d.host.screen.shift + s.host.scrolled ≡ (at h).shift = ap (λ (m : Terminal). m.shift) s.host.heard.taken.screen in
     let before : s.host.scrolled + d.host.screen.shift ≡ (at h).shift = omega (arith, counted) in
-    let told : HasHeard host (columns h) (lines h) (s.host.scrolled + d.host.screen.shift) (bytes h ++ bs) =
-    subst (λ (n : ℕ). HasHeard host n (lines h) (s.host.scrolled + d.host.screen.shift) (bytes h ++ bs)) s.setup.cols
+    let told : HasHeard host (columns h) (rows h) (s.host.scrolled + d.host.screen.shift) (bytes h ++ bs) =
+    subst (λ (n : ℕ). HasHeard host n (rows h) (s.host.scrolled + d.host.screen.shift) (bytes h ++ bs)) s.setup.cols
     (subst (λ (n : ℕ). HasHeard host d.setup.cols n (s.host.scrolled + d.host.screen.shift) (bytes h ++ bs)) s.setup.rows (goes_on (bytes h) s.host.scrolled (heard_so d h s))) in
-    subst (λ (n : ℕ). HasHeard host (columns h) (lines h) n (bytes h ++ bs)) before told
+    subst (λ (n : ℕ). HasHeard host (columns h) (rows h) n (bytes h ++ bs)) before told
 
 replied : (d : DeskState) (h : History) (bs term replies : List ℕ) → Stands d h → term ≡ d.setup.term
     → ((before : List ℕ) (n : ℕ) → HasHeard d.host d.setup.cols d.setup.rows n before → replies ≡ replies_past d.setup.cols d.setup.rows term before bs)
-    → replies ≡ replies_past (columns h) (lines h) (terminal_type h) (bytes h) bs
+    → replies ≡ replies_past (columns h) (rows h) (terminal_type h) (bytes h) bs
 replied d h bs term replies s same says =
-    says (bytes h) s.host.scrolled (heard_so d h s) ∙ (ap (λ (n : ℕ). replies_past n d.setup.rows term (bytes h) bs) s.setup.cols ∙ (ap (λ (n : ℕ). replies_past (columns h) n term (bytes h) bs) s.setup.rows ∙ ap (λ (xs : List ℕ). replies_past (columns h) (lines h) xs (bytes h) bs) (same ∙ s.setup.term)))
+    says (bytes h) s.host.scrolled (heard_so d h s) ∙ (ap (λ (n : ℕ). replies_past n d.setup.rows term (bytes h) bs) s.setup.cols ∙ (ap (λ (n : ℕ). replies_past (columns h) n term (bytes h) bs) s.setup.rows ∙ ap (λ (xs : List ℕ). replies_past (columns h) (rows h) xs (bytes h) bs) (same ∙ s.setup.term)))
 
 pub follows : (d : DeskState) (h : History) (bs term : List ℕ) (r : Heard) → Stands d h → term ≡ d.setup.term
     → ((before : List ℕ) (n : ℕ) → HasHeard d.host d.setup.cols d.setup.rows n before → HasHeard r.host d.setup.cols d.setup.rows (n + d.host.screen.shift) (before ++ bs))
@@ -50,25 +50,25 @@ follows d h bs term r s same goes_on says = record { host = hears d h r.host bs 
 
 -- ---- what such a host shows can be drawn
 
-module _ (h : History) (host : Host) (n : ℕ) (bs : List ℕ) (heard : HasHeard host (columns h) (lines h) n bs) where
+module _ (h : History) (host : Host) (n : ℕ) (bs : List ℕ) (heard : HasHeard host (columns h) (rows h) n bs) where
   pub cols_of : (shown host.screen).cols ≡ columns h
-  cols_of = ap (λ (m : Terminal). m.grid.cols) heard.taken.screen ∙ columns-screen (columns h) (lines h) bs
+  cols_of = ap (λ (m : Terminal). m.grid.cols) heard.taken.screen ∙ columns-screen (columns h) (rows h) bs
 
-  pub rows_of : (shown host.screen).rows ≡ lines h
-  rows_of = ap (λ (m : Terminal). m.grid.rows) heard.taken.screen ∙ rows-screen (columns h) (lines h) bs
+  pub rows_of : (shown host.screen).rows ≡ rows h
+  rows_of = ap (λ (m : Terminal). m.grid.rows) heard.taken.screen ∙ rows-screen (columns h) (rows h) bs
 
   pub size_of : Legal h → IsScreenSize (shown host.screen).cols (shown host.screen).rows
   size_of legal = rw (cols_of, rows_of) (legal-size h legal)
 
   pub colours_of : AreColoured (shown host.screen).keys
-  colours_of = subst (λ (m : Terminal). AreColoured (shown m).keys) (sym heard.taken.screen) (coloured-screen (columns h) (lines h) bs)
+  colours_of = subst (λ (m : Terminal). AreColoured (shown m).keys) (sym heard.taken.screen) (coloured-screen (columns h) (rows h) bs)
 
 -- what is drawn has the size of the history's screen
 pub drawn_cols : (d : DrawingState) (h : History) → HasDrawn d h → d.screen.cols ≡ columns h
-drawn_cols d h has = ap (λ (s : KeyGrid). s.cols) has.screen ∙ columns-screen (columns h) (lines h) (bytes h)
+drawn_cols d h has = ap (λ (s : KeyGrid). s.cols) has.screen ∙ columns-screen (columns h) (rows h) (bytes h)
 
-pub drawn_rows : (d : DrawingState) (h : History) → HasDrawn d h → d.screen.rows ≡ lines h
-drawn_rows d h has = ap (λ (s : KeyGrid). s.rows) has.screen ∙ rows-screen (columns h) (lines h) (bytes h)
+pub drawn_rows : (d : DrawingState) (h : History) → HasDrawn d h → d.screen.rows ≡ rows h
+drawn_rows d h has = ap (λ (s : KeyGrid). s.rows) has.screen ∙ rows-screen (columns h) (rows h) (bytes h)
 
 -- what a viewer's acts send, and the modifiers that it then holds
 pub types_of : (d : DeskState) (h : History) (v : ℕ) (acts : List Act) (t : Typed) (may_type : Bool) (held : Mods) (cursor_mode : Bool) → Stands d h → may_type ≡ may h v → held ≡ mods h v → cursor_mode ≡ d.host.screen.modes.cursor_keys

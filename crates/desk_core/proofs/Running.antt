@@ -8,10 +8,10 @@ use Rattle.gate_model.specs.declared.entry.Entry.{Entry}
 use Rattle.gate_model.specs.declared.event.Event.{Event}
 use Rattle.gate_model.specs.declared.instr.Instr.{Instr}
 use Rattle.gate_model.specs.declared.memory.NoMemory.{NoMemory}
-use Rattle.gate_model.specs.Text.{texts}
-use Rattle.gate_model.specs.Calls.{Step}
-use Rattle.gate_model.specs.History.{History}
-use Rattle.gate_model.specs.Runs.{Runs, handed_out}
+use Rattle.gate_model.specs.text.Text.{texts}
+use Rattle.gate_model.specs.session.Calls.{Step}
+use Rattle.gate_model.specs.session.History.{History}
+use Rattle.gate_model.specs.session.Runs.{Runs, handed_out}
 use Rattle.desk_core.specs.Calls.{Answered, Ended, HasRun, RunEnds}
 use Rattle.desk_core.specs.Desk.{DeskState, Stands}
 use Rattle.desk_core.proofs.Coming.{texts-append}

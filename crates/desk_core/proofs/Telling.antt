@@ -16,12 +16,12 @@ use Rattle.gate_model.specs.declared.read_refusal.ReadRefusal.{ReadRefusal}
 use Rattle.gate_model.specs.declared.read_refusal.ReadRefusal.TheVariants.{NoViewer as read_no_viewer, Worn as read_worn}
 use Rattle.gate_model.specs.declared.write_refusal.WriteRefusal.TheVariants.{NoViewer as write_no_viewer, Closed as write_closed, Worn as write_worn}
 use Rattle.gate_model.specs.Limits.{most_live, most_joined}
-use Rattle.gate_model.specs.History.{History, newest, frames, frames_after, capacity, joined, is_closed, is_full, share_mode}
-use Rattle.gate_model.specs.Delivered.{closing, farewell, last_sync, position, ended, shown_to}
-use Rattle.gate_model.specs.Rights.{is_live, live_count, role_in, is_control, may, mods}
-use Rattle.gate_model.specs.Refusals.{first_of, only_if, close_cause, is_forbidden, feed_refusal, join_refusal, read_stop, write_refusal}
-use Rattle.gate_model.specs.Calls.{lacked}
-use Rattle.gate_model.specs.Laws.{EntriesAreFew}
+use Rattle.gate_model.specs.session.History.{History, newest, frames, frames_after, capacity, joined, is_closed, is_full, share_mode}
+use Rattle.gate_model.specs.session.Delivered.{closing, farewell, last_sync, position, ended, shown_to}
+use Rattle.gate_model.specs.session.Rights.{is_live, live_count, role_in, is_control, may, mods}
+use Rattle.gate_model.specs.session.Refusals.{first_of, only_if, close_cause, is_forbidden, feed_refusal, join_refusal, read_stop, write_refusal}
+use Rattle.gate_model.specs.session.Calls.{lacked}
+use Rattle.gate_model.specs.session.Laws.{EntriesAreFew}
 use Rattle.gate_model.proofs.Facts.{Facts}
 use Rattle.gate_model.proofs.Truth.{facts_of}
 use Rattle.gate_model.proofs.Bounds.{bounds_of}

@@ -19,11 +19,11 @@ use Rattle.gate_model.specs.declared.read_refusal.ReadRefusal.{ReadRefusal}
 use Rattle.gate_model.specs.declared.read_refusal.ReadRefusal.TheVariants.{NoMemory as read_no_memory}
 use Rattle.gate_model.specs.declared.write_refusal.WriteRefusal.{WriteRefusal}
 use Rattle.gate_model.specs.declared.write_refusal.WriteRefusal.TheVariants.{NoMemory as write_no_memory}
-use Rattle.gate_model.specs.Text.{texts}
-use Rattle.gate_model.specs.History.{History}
-use Rattle.gate_model.specs.Calls.{Step, stop_of}
-use Rattle.gate_model.specs.Steps.{StartStep}
-use Rattle.gate_model.specs.Runs.{Runs, handed_out}
+use Rattle.gate_model.specs.text.Text.{texts}
+use Rattle.gate_model.specs.session.History.{History}
+use Rattle.gate_model.specs.session.Calls.{Step, stop_of}
+use Rattle.gate_model.specs.session.Steps.{StartStep}
+use Rattle.gate_model.specs.session.Runs.{Runs, handed_out}
 use Rattle.desk_core.specs.Desk.{DeskState, Stands}
 
 -- a desk that was opened

@@ -3,12 +3,12 @@ use Rattle.std.specs.Prelude.{◌≡◌, ℕ, ◌≤◌, List, length, Option}
 use Rattle.gate_model.specs.declared.cause.Cause.{Cause}
 use Rattle.gate_model.specs.declared.entry.Entry.{Entry}
 use Rattle.gate_model.specs.declared.setup.Setup.{Setup}
-use Rattle.gate_model.specs.History.{History, bytes, columns, lines, share_mode, terminal_type, capacity}
-use Rattle.gate_model.specs.Cost.{AllFrugal}
-use Rattle.gate_model.specs.Output.{out, taken, untaken}
-use Rattle.gate_model.specs.Refusals.{close_cause}
-use Rattle.gate_model.specs.Steps.{Legal}
-use Rattle.gate_model.specs.Truth.{AllDrawn}
+use Rattle.gate_model.specs.session.History.{History, bytes, columns, rows, share_mode, terminal_type, capacity}
+use Rattle.gate_model.specs.session.Cost.{AllFrugal}
+use Rattle.gate_model.specs.session.Output.{out, taken, untaken}
+use Rattle.gate_model.specs.session.Refusals.{close_cause}
+use Rattle.gate_model.specs.session.Steps.{Legal}
+use Rattle.gate_model.specs.session.Truth.{AllDrawn}
 use Rattle.desk_core.specs.declared.host.Host.{Host}
 use Rattle.desk_core.specs.Host.{HasHeard}
 use Rattle.desk_core.specs.Frames.{FramesState, HasFrames}
@@ -32,7 +32,7 @@ pub record DeskState : Type 0 where
 -- the session was opened so
 pub record HasSetup (setup : Setup) (h : History) : Type 0 where
   pub cols : setup.cols ≡ columns h
-  pub rows : setup.rows ≡ lines h
+  pub rows : setup.rows ≡ rows h
   pub mode : setup.mode ≡ share_mode h
   pub term : setup.term ≡ terminal_type h
   pub entries : setup.entries ≡ capacity h
@@ -46,7 +46,7 @@ pub record IsWaiting (outgoing : List ℕ) (h : History) : Type 0 where
 -- before those that it counts
 pub record IsHost (host : Host) (h : History) : Type 0 where
   pub scrolled : ℕ
-  pub heard : HasHeard host (columns h) (lines h) scrolled (bytes h)
+  pub heard : HasHeard host (columns h) (rows h) scrolled (bytes h)
 
 -- the desk stands for the history
 pub record Stands (d : DeskState) (h : History) : Type 0 where

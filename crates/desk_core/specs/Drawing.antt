@@ -2,14 +2,14 @@
 use Rattle.std.specs.Prelude.{◌≡◌, ℕ, ◌≤◌, List, ◌++◌, length, Option, Some, None}
 use Rattle.gate_model.specs.declared.instr.Instr.{Instr}
 use Rattle.gate_model.specs.Limits.{most_buffers}
-use Rattle.gate_model.specs.KeyGrid.{KeyGrid}
-use Rattle.gate_model.specs.Buffers.{AreLayers, Buffers, Renews, new_keys}
-use Rattle.gate_model.specs.Cost.{changes, cost, keys_shown}
-use Rattle.gate_model.specs.Screens.{shown}
-use Rattle.gate_model.specs.Shape.{Shape}
-use Rattle.gate_model.specs.Terminal.{Terminal}
-use Rattle.gate_model.specs.History.{History, at}
-use Rattle.gate_model.specs.Truth.{all_layers}
+use Rattle.gate_model.specs.picture.KeyGrid.{KeyGrid}
+use Rattle.gate_model.specs.picture.Buffers.{AreLayers, Buffers, Renews, new_keys}
+use Rattle.gate_model.specs.session.Cost.{changes, cost, keys_shown}
+use Rattle.gate_model.specs.terminal.Screens.{shown}
+use Rattle.gate_model.specs.picture.Shape.{Shape}
+use Rattle.gate_model.specs.terminal.Terminal.{Terminal}
+use Rattle.gate_model.specs.session.History.{History, at}
+use Rattle.gate_model.specs.session.Truth.{all_layers}
 use Rattle.glyph_cache.specs.Cache.{CacheState}
 
 -- the screen that the newest frame shows, and the key of each glyph buffer, that of layer -1 first

@@ -1,8 +1,8 @@
 -- What a desk keeps of the frames (this project's own).
 use Rattle.std.specs.Prelude.{◌≡◌, ℕ, ◌+◌, ◌≤◌, List, ◌++◌, length, drop}
 use Rattle.gate_model.specs.declared.instr.Instr.{Instr}
-use Rattle.gate_model.specs.Text.{texts}
-use Rattle.gate_model.specs.History.{History, frames, newest, newest_frame, all_frames}
+use Rattle.gate_model.specs.text.Text.{texts}
+use Rattle.gate_model.specs.session.History.{History, frames, newest, newest_frame, all_frames}
 
 -- the text of every frame, where the newest frame's text begins in it, the newest stamp, and the number of
 -- frames

@@ -5,11 +5,11 @@ use Rattle.gate_model.specs.declared.entry.Entry.TheVariants.{Write}
 use Rattle.gate_model.specs.declared.join_refusal.JoinRefusal.{JoinRefusal}
 use Rattle.gate_model.specs.declared.sharing.Asked.{Asked}
 use Rattle.gate_model.specs.declared.sharing.Role.{Role}
-use Rattle.gate_model.specs.History.{History, at, bytes, columns, lines, share_mode, terminal_type}
-use Rattle.gate_model.specs.Output.{sent}
-use Rattle.gate_model.specs.Refusals.{join_refusal}
-use Rattle.gate_model.specs.Rights.{mods}
-use Rattle.gate_model.specs.Roles.{grant_of}
+use Rattle.gate_model.specs.session.History.{History, at, bytes, columns, rows, share_mode, terminal_type}
+use Rattle.gate_model.specs.session.Output.{sent}
+use Rattle.gate_model.specs.session.Refusals.{join_refusal}
+use Rattle.gate_model.specs.session.Rights.{mods}
+use Rattle.gate_model.specs.session.Roles.{grant_of}
 use Rattle.desk_core.specs.Drawing.{DrawingState, keys_of}
 use Rattle.desk_core.specs.Host.{HasHeard, replies_past}
 use Rattle.desk_core.specs.declared.drawing.Drawn.{Drawn}
@@ -24,8 +24,8 @@ Admits h asked (Err refusal) = join_refusal h asked ≡ Some refusal
 -- the host has heard these bytes too, its screen counts the lines that they scrolled, and this is what they are
 -- answered
 pub record Follows (h : History) (piece : List ℕ) (r : Heard) : Type 0 where
-  pub host : HasHeard r.host (columns h) (lines h) (at h).shift (bytes h ++ piece)
-  pub replies : r.replies.items ≡ replies_past (columns h) (lines h) (terminal_type h) (bytes h) piece
+  pub host : HasHeard r.host (columns h) (rows h) (at h).shift (bytes h ++ piece)
+  pub replies : r.replies.items ≡ replies_past (columns h) (rows h) (terminal_type h) (bytes h) piece
 
 -- what is drawn after a frame
 abbrev pub drawn_by : Drawn → DrawingState → DrawingState

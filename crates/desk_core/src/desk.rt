@@ -1,11 +1,11 @@
 //! The desk itself, and what it tells of its history.
 
 ghost use Rattle.std.specs.Prelude.{◌≡◌, ◌-◌, length, IsTrue, Some};
-ghost use Rattle.gate_model.specs.History.{History, newest, newest_frame};
-ghost use Rattle.gate_model.specs.Output.{out, taken};
-ghost use Rattle.gate_model.specs.Rights.{role_in};
+ghost use Rattle.gate_model.specs.session.History.{History, newest, newest_frame};
+ghost use Rattle.gate_model.specs.session.Output.{out, taken};
+ghost use Rattle.gate_model.specs.session.Rights.{role_in};
 ghost use Rattle.viewer_book.specs.Book.{is_live};
-ghost use Rattle.gate_model.specs.Text.{texts};
+ghost use Rattle.gate_model.specs.text.Text.{texts};
 
 mod close;
 mod feed;

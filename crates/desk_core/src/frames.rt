@@ -1,5 +1,5 @@
 ghost use Rattle.std.specs.Prelude.{◌≡◌, ◌+◌, ◌-◌, ◌<◌, ◌≤◌, ◌^◌, drop, length, IfOk, OnErr, OnOk};
-ghost use Rattle.gate_model.specs.Text.{texts};
+ghost use Rattle.gate_model.specs.text.Text.{texts};
 ghost use Rattle.desk_core.specs.Frames.{with_frame};
 
 use crate::giving::text_from;

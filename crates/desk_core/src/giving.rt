@@ -1,8 +1,8 @@
 //! The text that a viewer is given: all of it, or for want of memory none.
 
 ghost use Rattle.std.specs.Prelude.{◌≡◌, ◌≤◌, ◌++◌, drop, length, OnErr, OnOk};
-ghost use Rattle.gate_model.specs.Text.{texts};
-ghost use Rattle.gate_model.specs.Delivered.{farewell};
+ghost use Rattle.gate_model.specs.text.Text.{texts};
+ghost use Rattle.gate_model.specs.session.Delivered.{farewell};
 ghost use Rattle.gate_model.specs.Sequences.{BeginsWith};
 ghost use Rattle.desk_core.specs.Farewell.{farewell_of};
 

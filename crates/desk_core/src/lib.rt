@@ -4,7 +4,7 @@
 //! Contracts see a desk as what it keeps (`DeskState`), and `Stands` says for which histories it may
 //! stand (`specs/Desk.antt`): each part of a desk has a relation of its own to the history. Each call
 //! ends in one way (`Ended` in `specs/Calls.antt`): it answers by the rule of its call in gate_model
-//! (`Step` in `specs/Calls.antt` there) for every history for which the desk stood, and leaves a desk
+//! (`Step` in `specs/session/Calls.antt` there) for every history for which the desk stood, and leaves a desk
 //! that stands for that history with the entry that the call added. A call that is refused leaves the
 //! desk and the buffer as they were, and one that is refused for want of memory was stopped by nothing
 //! else. No entry is stored: the history is in no memory.

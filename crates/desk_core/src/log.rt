@@ -1,7 +1,7 @@
 ghost use Rattle.std.specs.Prelude.{◌≡◌, ◌∷◌, ◌<◌, ◌-◌, ◌^◌, [], List, nat_le};
 ghost use Rattle.gate_model.specs.declared.entry.Entry.TheVariants.{Feed, Join, Start, Write};
-ghost use Rattle.gate_model.specs.Calls.{AreBytes};
-ghost use Rattle.gate_model.specs.History.{all_frames};
+ghost use Rattle.gate_model.specs.session.Calls.{AreBytes};
+ghost use Rattle.gate_model.specs.session.History.{all_frames};
 ghost use Rattle.desk_core.specs.Log.{with_entry};
 
 use gate_model::{Act, Entry, Instrs, Role, Setup};

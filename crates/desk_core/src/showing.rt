@@ -5,11 +5,11 @@ ghost use Rattle.std.specs.List.{cons_option};
 ghost use Rattle.ecma_parser.specs.Held.{held_bytes};
 ghost use Rattle.ecma_parser.specs.Parser.{HasRead};
 ghost use Rattle.ecma_parser.specs.State.{control_by};
-ghost use Rattle.gate_model.specs.Characters.{characters};
-ghost use Rattle.gate_model.specs.Controls.{HasFewParameters, controls};
-ghost use Rattle.gate_model.specs.Replies.{reports_from};
-ghost use Rattle.gate_model.specs.Screens.{after_controls};
-ghost use Rattle.gate_model.specs.TelnetTokens.{doubled};
+ghost use Rattle.gate_model.specs.terminal.Characters.{characters};
+ghost use Rattle.gate_model.specs.terminal.Controls.{HasFewParameters, controls};
+ghost use Rattle.gate_model.specs.terminal.Replies.{reports_from};
+ghost use Rattle.gate_model.specs.terminal.Screens.{after_controls};
+ghost use Rattle.gate_model.specs.telnet.TelnetTokens.{doubled};
 
 use crate::host::Host;
 use ecma_parser::{Completed, Parser};

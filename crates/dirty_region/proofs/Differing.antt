@@ -8,10 +8,10 @@ use Rattle.std.proofs.lemmas.Option.{slice_get-get_or}
 use Rattle.std.proofs.lemmas.Nat.{div-mul-add, mod-mul-add}
 use Rattle.std.proofs.Math.Seq.{get_or-drop, get_or-take}
 use Rattle.gate_model.specs.declared.key.Key.{Key}
-use Rattle.gate_model.specs.KeyGrid.{KeyGrid}
-use Rattle.gate_model.specs.Buffers.{is_same_key}
-use Rattle.gate_model.specs.Pictures.{key_at, blank_key}
-use Rattle.gate_model.specs.Cost.{changes, is_changed, old_key, old_row}
+use Rattle.gate_model.specs.picture.KeyGrid.{KeyGrid}
+use Rattle.gate_model.specs.picture.Buffers.{is_same_key}
+use Rattle.gate_model.specs.picture.Pictures.{key_at, blank_key}
+use Rattle.gate_model.specs.session.Cost.{changes, is_changed, old_key, old_row}
 use Rattle.dirty_region.specs.Places.{differing, differs, place_of}
 
 -- one more number stands last

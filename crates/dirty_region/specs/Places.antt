@@ -2,8 +2,8 @@
 use Rattle.std.specs.Prelude.{ℕ, ◌/◌, ◌%◌, List, map, filter, Bool, not}
 use Rattle.std.specs.List.{range_with_len}
 use Rattle.gate_model.specs.declared.key.Key.{Key}
-use Rattle.gate_model.specs.Buffers.{is_same_key}
-use Rattle.gate_model.specs.Pictures.{key_at}
+use Rattle.gate_model.specs.picture.Buffers.{is_same_key}
+use Rattle.gate_model.specs.picture.Pictures.{key_at}
 
 -- column and row of a place that is counted row by row
 abbrev pub place_of : ℕ → ℕ → ℕ × ℕ

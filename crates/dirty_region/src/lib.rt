@@ -2,7 +2,7 @@
 //!
 //! A screen is compared with the one before it, once as many lines of that one were moved up as the whole
 //! screen was scrolled by: a frame moves them by one copy, and redraws the places that differ then
-//! (`changes` of gate_model's `specs/Cost.antt`). This is this project's own rule.
+//! (`changes` of gate_model's `specs/session/Cost.antt`). This is this project's own rule.
 #![tactic(auto)]
 
 mod places;

@@ -1,6 +1,6 @@
 ghost use Rattle.std.specs.Prelude.{◌≡◌, ◌+◌, ◌^◌, ◌<◌, ◌++◌, length, map, not, IfOk, OnOk};
-ghost use Rattle.gate_model.specs.Buffers.{is_same_key};
-ghost use Rattle.gate_model.specs.Cost.{changes, old_row};
+ghost use Rattle.gate_model.specs.picture.Buffers.{is_same_key};
+ghost use Rattle.gate_model.specs.session.Cost.{changes, old_row};
 ghost use Rattle.dirty_region.specs.Places.{differing, place_of};
 
 use crate::Changes;

@@ -6,8 +6,8 @@ use Rattle.std.proofs.lemmas.List.{drop_all, drop_at, take_more_set, length-take
 use Rattle.std.specs.List.{cons_option}
 use Rattle.bstr.specs.Utf8.{Decoded, decoded, bad, good, lead_len, or_replacement}
 use Rattle.bstr.proofs.lemmas.PieceLemmas.{by-shape, piece-bounds, value-1, value-2, value-3, value-4}
-use Rattle.gate_model.specs.Characters.{is_unfinished, head_char}
-use Rattle.gate_model.specs.Reading.{read, after}
+use Rattle.gate_model.specs.terminal.Characters.{is_unfinished, head_char}
+use Rattle.gate_model.specs.text.Reading.{read, after}
 use Rattle.ecma_parser.specs.Waiting.{IsWaiting}
 use Rattle.gate_model.proofs.Cutting.{read-whole, read-unfinished}
 use Rattle.gate_model.proofs.CharacterLaws.{head_char-is, head_char-whole, head_char-none, unfinished-parts, unfinished-from, decoded-front}

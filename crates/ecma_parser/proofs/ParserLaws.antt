@@ -6,9 +6,9 @@ use Rattle.std.proofs.lemmas.List.Elements.{All-cons, All-head, All-tail}
 use Rattle.bstr.proofs.lemmas.PieceLemmas.{lossy_chars-nil}
 use Rattle.gate_model.specs.declared.control.Control.{Control}
 use Rattle.gate_model.specs.declared.control.Control.TheVariants.{Print}
-use Rattle.gate_model.specs.Characters.{characters, pending, head_char}
-use Rattle.gate_model.specs.Controls.{controls, unfinished, control_of, head_control}
-use Rattle.gate_model.specs.Reading.{read, after}
+use Rattle.gate_model.specs.terminal.Characters.{characters, pending, head_char}
+use Rattle.gate_model.specs.terminal.Controls.{controls, unfinished, control_of, head_control}
+use Rattle.gate_model.specs.text.Reading.{read, after}
 use Rattle.gate_model.proofs.CharacterLaws.{characters_read, head_char-is}
 use Rattle.gate_model.proofs.ControlLaws.{head_control-is}
 use Rattle.gate_model.proofs.Cutting.{read-unfinished, resumes}

@@ -8,7 +8,7 @@ use Rattle.std.specs.Char.{digit_value}
 use Rattle.std.specs.List.{onto_first}
 use Rattle.std.specs.Prelude.{◌==◌, slice_index}
 use Rattle.std.specs.Str.Parse.{digits_value}
-use Rattle.gate_model.specs.Parameters.{is_separator, default, value, parts}
+use Rattle.gate_model.specs.terminal.Parameters.{is_separator, default, value, parts}
 use Rattle.ecma_parser.specs.Sequence.{next_value}
 
 -- ---- the parts of a text

@@ -6,8 +6,8 @@ use Rattle.std.proofs.lemmas.List.Folds.{list_all-append}
 use Rattle.std.specs.List.{list_all}
 use Rattle.std.specs.Prelude.{◌==◌, slice_index}
 use Rattle.gate_model.specs.declared.control.Control.TheVariants.{Csi}
-use Rattle.gate_model.specs.Controls.{has_effect, sequence}
-use Rattle.gate_model.specs.Parameters.{is_separator, private_mark, without_mark, is_plain, value, parts, params_of}
+use Rattle.gate_model.specs.terminal.Controls.{has_effect, sequence}
+use Rattle.gate_model.specs.terminal.Parameters.{is_separator, private_mark, without_mark, is_plain, value, parts, params_of}
 use Rattle.ecma_parser.specs.declared.sequence.Sequence.{Sequence}
 use Rattle.ecma_parser.specs.Sequence.{Holds, Continues, IsVoid, next_value, with_digit, with_separator, csi_of}
 use Rattle.ecma_parser.proofs.PartLaws.{LastPart, last-part, filled, filled-next, filled-past, filled-at, filled-set, value-more}

@@ -4,8 +4,8 @@ use Rattle.std.proofs.lemmas.Bool.{cond-true, cond-false, ne_eqb}
 use Rattle.std.proofs.lemmas.List.Sums.{take_while-cons}
 use Rattle.std.specs.List.{take_while}
 use Rattle.gate_model.specs.declared.control.Control.{Control}
-use Rattle.gate_model.specs.Controls.{Found, after_while, ended_by, no_control, is_parameter, is_intermediate, is_csi_final, has_effect, sequence, csi_after, string_escape, head_string, head_palette, head_osc, is_escape_final, begins_string, escape_after, plain_escape, head_escape, control_of, head_control}
-use Rattle.gate_model.specs.Reading.{read, after}
+use Rattle.gate_model.specs.terminal.Controls.{Found, after_while, ended_by, no_control, is_parameter, is_intermediate, is_csi_final, has_effect, sequence, csi_after, string_escape, head_string, head_palette, head_osc, is_escape_final, begins_string, escape_after, plain_escape, head_escape, control_of, head_control}
+use Rattle.gate_model.specs.text.Reading.{read, after}
 use Rattle.gate_model.proofs.Cutting.{read-whole, read-unfinished, resumes}
 use Rattle.gate_model.proofs.ControlLaws.{head_control-is}
 use Rattle.ecma_parser.specs.declared.machine.Machine.{Machine}

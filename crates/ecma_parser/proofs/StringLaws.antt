@@ -2,7 +2,7 @@
 use Rattle.std.proofs.Common.{◌≡◌, ◌≢◌, ℕ, zero, suc, ◌-◌, ◌≤◌, ◌<◌, List, [], ◌∷◌, Bool, true, false, cond, Some, None, refl, ap, ◌∙◌, arith}
 use Rattle.std.proofs.lemmas.Bool.{cond-true, cond-false, ne_eqb, eq-eqb}
 use Rattle.std.specs.Prelude.{◌==◌}
-use Rattle.gate_model.specs.Controls.{ends_string, string_escape, head_string, head_palette, head_osc}
+use Rattle.gate_model.specs.terminal.Controls.{ends_string, string_escape, head_string, head_palette, head_osc}
 use Rattle.ecma_parser.specs.State.{palette_escape}
 
 -- ---- strings

@@ -2,8 +2,8 @@
 use Rattle.std.specs.Prelude.{◌≡◌, ℕ, List, [], take, Option}
 use Rattle.std.specs.List.{cons_option}
 use Rattle.ecma_parser.specs.declared.held.Held.{Held}
-use Rattle.gate_model.specs.Characters.{head_char}
-use Rattle.gate_model.specs.Reading.{read}
+use Rattle.gate_model.specs.terminal.Characters.{head_char}
+use Rattle.gate_model.specs.text.Reading.{read}
 
 -- the bytes that are held
 abbrev pub held_bytes : Held → List ℕ

@@ -4,8 +4,8 @@ use Rattle.ecma_parser.specs.declared.held.Held.{Held}
 use Rattle.ecma_parser.specs.declared.machine.Machine.{Machine}
 use Rattle.ecma_parser.specs.Held.{held_bytes}
 use Rattle.ecma_parser.specs.State.{Stands}
-use Rattle.gate_model.specs.Characters.{characters, pending}
-use Rattle.gate_model.specs.Controls.{unfinished}
+use Rattle.gate_model.specs.terminal.Characters.{characters, pending}
+use Rattle.gate_model.specs.terminal.Controls.{unfinished}
 
 -- the bytes that may still become a character are held, and the machine stands for the unfinished characters
 pub record HaveRead (held : Held) (machine : Machine) (bytes : List ℕ) : Type 0 where

@@ -4,8 +4,8 @@ use Rattle.std.specs.List.{list_all}
 use Rattle.ecma_parser.specs.declared.sequence.Sequence.{Sequence}
 use Rattle.gate_model.specs.declared.control.Control.{Control}
 use Rattle.gate_model.specs.declared.control.Control.TheVariants.{Csi}
-use Rattle.gate_model.specs.Controls.{has_effect, most_in_sequence}
-use Rattle.gate_model.specs.Parameters.{private_mark, without_mark, is_plain, parts, params_of, default}
+use Rattle.gate_model.specs.terminal.Controls.{has_effect, most_in_sequence}
+use Rattle.gate_model.specs.terminal.Parameters.{private_mark, without_mark, is_plain, parts, params_of, default}
 
 -- the sequence has an effect so far, and has the parameters of the text
 pub record Holds (s : Sequence) (text : List ℕ) : Type 0 where

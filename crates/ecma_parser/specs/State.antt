@@ -9,8 +9,8 @@ use Rattle.ecma_parser.specs.declared.state.State.TheVariants.{Ground, Escape, E
 use Rattle.ecma_parser.specs.Sequence.{Holds, csi_of}
 use Rattle.gate_model.specs.declared.control.Control.{Control}
 use Rattle.gate_model.specs.declared.control.Control.TheVariants.{Esc}
-use Rattle.gate_model.specs.Controls.{Found, after_while, ended_by, no_control, is_parameter, is_intermediate, is_csi_final, csi_after, string_escape, head_string, head_palette, head_osc, escape_after, control_of, head_control}
-use Rattle.gate_model.specs.Reading.{read}
+use Rattle.gate_model.specs.terminal.Controls.{Found, after_while, ended_by, no_control, is_parameter, is_intermediate, is_csi_final, csi_after, string_escape, head_string, head_palette, head_osc, escape_after, control_of, head_control}
+use Rattle.gate_model.specs.text.Reading.{read}
 
 -- within a control sequence without effect: from its intermediates on
 abbrev pub csi_void_end : List ℕ → Found

@@ -1,7 +1,7 @@
 //! The kinds of characters in control functions (ECMA-48, sections 5.2 to 5.6).
 ghost use Rattle.std.specs.Prelude.{◌≡◌, [], IfSome};
 ghost use Rattle.std.specs.List.{cons_option};
-ghost use Rattle.gate_model.specs.Controls as model;
+ghost use Rattle.gate_model.specs.terminal.Controls as model;
 
 use gate_model::Control;
 

@@ -1,6 +1,6 @@
 ghost use Rattle.std.specs.Prelude.{◌≡◌, ◌++◌, ◌∷◌, [], ◌<◌, ◌≤◌, All, length, slice_index, take, ℕ, List, None, IsTrue, ◌↔◌, true, false, IfSome};
 ghost use Rattle.std.specs.List.{cons_option};
-ghost use Rattle.gate_model.specs.Controls.{HasFewParameters, csi_after, escape_after, head_osc, head_palette, head_string, string_escape};
+ghost use Rattle.gate_model.specs.terminal.Controls.{HasFewParameters, csi_after, escape_after, head_osc, head_palette, head_string, string_escape};
 ghost use Rattle.ecma_parser.specs.Sequence.{Holds, Continues};
 
 use crate::kinds::{

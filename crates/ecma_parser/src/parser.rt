@@ -1,7 +1,7 @@
 ghost use Rattle.std.specs.Prelude.{◌≡◌, ◌<◌, ◌≤◌, ◌++◌, ◌∷◌, [], ℕ, List, IfSome, IsTrue, ◌↔◌, All, length, map, slice_index, take};
 ghost use Rattle.std.specs.List.{cons_option};
-ghost use Rattle.gate_model.specs.Characters.{characters};
-ghost use Rattle.gate_model.specs.Controls.{controls, HasFewParameters};
+ghost use Rattle.gate_model.specs.terminal.Characters.{characters};
+ghost use Rattle.gate_model.specs.terminal.Controls.{controls, HasFewParameters};
 ghost use Rattle.ecma_parser.specs.Past.{HaveRead};
 ghost use Rattle.ecma_parser.specs.Printable.{IsPrintable};
 

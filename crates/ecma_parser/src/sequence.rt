@@ -22,7 +22,7 @@ pub struct Sequence {
 }
 
 impl Sequence {
-    ghost use Rattle.gate_model.specs.Controls.{HasFewParameters};
+    ghost use Rattle.gate_model.specs.terminal.Controls.{HasFewParameters};
     ghost use Rattle.ecma_parser.specs.Sequence.{Holds, opening, Continues, IsVoid, with_digit, with_separator, csi_of};
 
     /// After `ESC [`, or after `ESC [ ?` where it is private.

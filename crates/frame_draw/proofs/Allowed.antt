@@ -9,9 +9,9 @@ use Rattle.gate_model.specs.declared.instr.Instr.{Instr}
 use Rattle.gate_model.specs.declared.instr.Instr.TheVariants.{Size, Rect, Cfill, Copy, Sync, Disconnect, Error}
 use Rattle.gate_model.specs.declared.key.Key.{Key}
 use Rattle.glyph_table.specs.declared.patch.Patch.{Patch}
-use Rattle.gate_model.specs.Palette.{colour_of, palette}
+use Rattle.gate_model.specs.picture.Palette.{colour_of, palette}
 use Rattle.glyph_table.specs.GlyphRects.{IsInside, rects}
-use Rattle.gate_model.specs.Shape.{AreReadable, Draws, IsInRange, IsLayer, without_layer}
+use Rattle.gate_model.specs.picture.Shape.{AreReadable, Draws, IsInRange, IsLayer, without_layer}
 use Rattle.glyph_table.proofs.GlyphRects.{rects_few, rects_inside}
 use Rattle.gate_model.proofs.Readable.{readable_both}
 use Rattle.glyph_cache.specs.declared.slot.SlotKind.{SlotKind}

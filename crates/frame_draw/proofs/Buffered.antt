@@ -7,8 +7,8 @@ use Rattle.std.proofs.lemmas.Bool.Decides.{Decides-int_eq}
 use Rattle.gate_model.specs.declared.instr.Instr.{Instr}
 use Rattle.gate_model.specs.declared.instr.Instr.TheVariants.{Size}
 use Rattle.gate_model.specs.declared.key.Key.{Key}
-use Rattle.gate_model.specs.Layers.{Layer, Layers, IsAlike, HasNoPaths, draw, empty_layer, open_path}
-use Rattle.gate_model.specs.Buffers.{Buffers, layer_of}
+use Rattle.gate_model.specs.picture.Layers.{Layer, Layers, IsAlike, HasNoPaths, draw, empty_layer, open_path}
+use Rattle.gate_model.specs.picture.Buffers.{Buffers, layer_of}
 use Rattle.glyph_cache.specs.declared.slot.SlotKind.{SlotKind}
 use Rattle.glyph_cache.specs.declared.slot.SlotKind.TheVariants.{Held, Made, Reused}
 use Rattle.glyph_cache.specs.Cache.{Gets}

@@ -6,12 +6,12 @@ use Rattle.std.proofs.lemmas.Bool.Decides.{nat_tests, Decides-int_eq}
 use Rattle.std.proofs.lemmas.Nat.{div-mul-add, mod-mul-add, div-add-mod', same_from_place, rows as rows_fit}
 use Rattle.gate_model.specs.declared.colour.Colour.{Colour}
 use Rattle.gate_model.specs.declared.key.Key.{Key}
-use Rattle.gate_model.specs.KeyGrid.{KeyGrid}
-use Rattle.gate_model.specs.Glyphs.{glyph}
-use Rattle.gate_model.specs.Pictures.{key_at, picture}
-use Rattle.gate_model.specs.Layers.{Area, Layer, Layers, IsAlike, HasNoPaths, Same, copied, empty_layer, is_covered, is_in, open_path, over, play, source_pixel, with_layer}
-use Rattle.gate_model.specs.Buffers.{Buffers, AreLayers, layer_of, layers}
-use Rattle.gate_model.specs.Cost.{old_row, old_key}
+use Rattle.gate_model.specs.picture.KeyGrid.{KeyGrid}
+use Rattle.gate_model.specs.picture.Glyphs.{glyph}
+use Rattle.gate_model.specs.picture.Pictures.{key_at, picture}
+use Rattle.gate_model.specs.picture.Layers.{Area, Layer, Layers, IsAlike, HasNoPaths, Same, copied, empty_layer, is_covered, is_in, open_path, over, play, source_pixel, with_layer}
+use Rattle.gate_model.specs.picture.Buffers.{Buffers, AreLayers, layer_of, layers}
+use Rattle.gate_model.specs.session.Cost.{old_row, old_key}
 use Rattle.frame_draw.specs.Strokes.{cell_copy, scroll}
 use Rattle.frame_draw.specs.Cells.{Places, AreDrawn}
 

@@ -7,13 +7,13 @@ use Rattle.std.proofs.lemmas.List.{length-append}
 use Rattle.gate_model.specs.declared.instr.Instr.{Instr}
 use Rattle.gate_model.specs.declared.instr.Instr.TheVariants.{Size, Sync}
 use Rattle.gate_model.specs.declared.key.Key.{Key}
-use Rattle.gate_model.specs.KeyGrid.{KeyGrid}
-use Rattle.gate_model.specs.Pictures.{key_at}
-use Rattle.gate_model.specs.Layers.{Layer, Layers, HasNoPaths, IsAlike, draw, empty_layer, nothing, open_path, play, sized}
-use Rattle.gate_model.specs.Shape.{AreReadable, Draws, OpensScreen, Shape, is_size}
-use Rattle.gate_model.specs.Steps.{IsScreenSize}
-use Rattle.gate_model.specs.Buffers.{AreLayers, Buffers, Renews, new_keys}
-use Rattle.gate_model.specs.Cost.{changes, cost, is_changed, old_key}
+use Rattle.gate_model.specs.picture.KeyGrid.{KeyGrid}
+use Rattle.gate_model.specs.picture.Pictures.{key_at}
+use Rattle.gate_model.specs.picture.Layers.{Layer, Layers, HasNoPaths, IsAlike, draw, empty_layer, nothing, open_path, play, sized}
+use Rattle.gate_model.specs.picture.Shape.{AreReadable, Draws, OpensScreen, Shape, is_size}
+use Rattle.gate_model.specs.session.Steps.{IsScreenSize}
+use Rattle.gate_model.specs.picture.Buffers.{AreLayers, Buffers, Renews, new_keys}
+use Rattle.gate_model.specs.session.Cost.{changes, cost, is_changed, old_key}
 use Rattle.gate_model.proofs.Drawing.{draw-append}
 use Rattle.gate_model.proofs.Readable.{readable_both}
 use Rattle.frame_draw.specs.Strokes.{scroll, scrolling}

@@ -8,11 +8,11 @@ use Rattle.gate_model.specs.declared.instr.Instr.{Instr}
 use Rattle.gate_model.specs.declared.instr.Instr.TheVariants.{Size, Rect, Cfill, Copy, Sync, Disconnect, Error}
 use Rattle.gate_model.specs.declared.key.Key.{Key}
 use Rattle.glyph_table.specs.declared.patch.Patch.{Patch}
-use Rattle.gate_model.specs.Palette.{colour_of}
-use Rattle.gate_model.specs.Glyphs.{glyph}
+use Rattle.gate_model.specs.picture.Palette.{colour_of}
+use Rattle.gate_model.specs.picture.Glyphs.{glyph}
 use Rattle.glyph_table.specs.GlyphRects.{covers, rects}
-use Rattle.gate_model.specs.Layers.{Area, Layer, Layers, IsAlike, draw, play, with_layer, is_covered, is_in, open_path, painted, traced, sized}
-use Rattle.gate_model.specs.Buffers.{glyph_layer}
+use Rattle.gate_model.specs.picture.Layers.{Area, Layer, Layers, IsAlike, draw, play, with_layer, is_covered, is_in, open_path, painted, traced, sized}
+use Rattle.gate_model.specs.picture.Buffers.{glyph_layer}
 use Rattle.glyph_table.proofs.GlyphRects.{rects_cover}
 use Rattle.frame_draw.specs.Strokes.{fill, inked, rect_of, covering}
 

@@ -8,11 +8,11 @@ use Rattle.std.proofs.lemmas.Nat.{div-add-mod', div_below}
 use Rattle.std.proofs.Math.Nat.{mod-lt}
 use Rattle.gate_model.specs.declared.instr.Instr.{Instr}
 use Rattle.gate_model.specs.declared.key.Key.{Key}
-use Rattle.gate_model.specs.KeyGrid.{KeyGrid}
-use Rattle.gate_model.specs.Pictures.{key_at, blank_key}
-use Rattle.gate_model.specs.Layers.{Layers, draw}
-use Rattle.gate_model.specs.Steps.{IsScreenSize}
-use Rattle.gate_model.specs.Buffers.{Buffers, is_held, new_keys}
+use Rattle.gate_model.specs.picture.KeyGrid.{KeyGrid}
+use Rattle.gate_model.specs.picture.Pictures.{key_at, blank_key}
+use Rattle.gate_model.specs.picture.Layers.{Layers, draw}
+use Rattle.gate_model.specs.session.Steps.{IsScreenSize}
+use Rattle.gate_model.specs.picture.Buffers.{Buffers, is_held, new_keys}
 use Rattle.gate_model.proofs.Drawing.{draw-append}
 use Rattle.gate_model.proofs.Readable.{readable_both}
 use Rattle.glyph_cache.specs.declared.slot.SlotKind.{SlotKind}

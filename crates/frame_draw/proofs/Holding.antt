@@ -4,7 +4,7 @@ use Rattle.std.specs.Prelude.{Some}
 use Rattle.std.proofs.lemmas.Option.{slice_get_within}
 use Rattle.gate_model.specs.declared.instr.Instr.{Instr}
 use Rattle.gate_model.specs.declared.key.Key.{Key}
-use Rattle.gate_model.specs.Buffers.{Buffers}
+use Rattle.gate_model.specs.picture.Buffers.{Buffers}
 use Rattle.glyph_cache.specs.declared.slot.SlotKind.{SlotKind}
 use Rattle.glyph_cache.specs.declared.slot.SlotKind.TheVariants.{Held, Made, Reused}
 use Rattle.glyph_cache.specs.Cache.{CacheState, Gets, IsCache}

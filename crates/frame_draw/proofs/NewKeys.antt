@@ -4,7 +4,7 @@ use Rattle.std.specs.Prelude.{Some, slice_get, slice_index_or}
 use Rattle.std.proofs.lemmas.Bool.Decides.{nat_tests}
 use Rattle.std.proofs.lemmas.List.{take_more}
 use Rattle.gate_model.specs.declared.key.Key.{Key}
-use Rattle.gate_model.specs.Buffers.{Buffers, is_held, is_same_key, new_keys}
+use Rattle.gate_model.specs.picture.Buffers.{Buffers, is_held, is_same_key, new_keys}
 
 -- ---- keys that are the same
 same_number : (a : ℕ) → (a == a) ≡ true

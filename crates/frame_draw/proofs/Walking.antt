@@ -3,10 +3,10 @@ use Rattle.std.proofs.Common.{◌≡◌, ℕ, zero, suc, ◌+◌, ◌*◌, ◌/�
 use Rattle.std.specs.Prelude.{Option, Some, None, IfSome, slice_index_or}
 use Rattle.gate_model.specs.declared.instr.Instr.{Instr}
 use Rattle.gate_model.specs.declared.key.Key.{Key}
-use Rattle.gate_model.specs.KeyGrid.{KeyGrid}
-use Rattle.gate_model.specs.Pictures.{key_at, blank_key}
-use Rattle.gate_model.specs.Steps.{IsScreenSize}
-use Rattle.gate_model.specs.Buffers.{Buffers, is_held, new_keys}
+use Rattle.gate_model.specs.picture.KeyGrid.{KeyGrid}
+use Rattle.gate_model.specs.picture.Pictures.{key_at, blank_key}
+use Rattle.gate_model.specs.session.Steps.{IsScreenSize}
+use Rattle.gate_model.specs.picture.Buffers.{Buffers, is_held, new_keys}
 use Rattle.frame_draw.specs.declared.drawer.Held.{Held}
 use Rattle.frame_draw.specs.declared.wanted.Wanted.{Wanted}
 use Rattle.frame_draw.specs.Strokes.{cell_copy}

@@ -3,11 +3,11 @@ use Rattle.std.specs.Prelude.{◌≡◌, ℕ, zero, suc, ◌+◌, ◌-◌, ◌*�
 use Rattle.std.specs.List.{range_with_len}
 use Rattle.gate_model.specs.declared.instr.Instr.{Instr}
 use Rattle.gate_model.specs.declared.key.Key.{Key}
-use Rattle.gate_model.specs.KeyGrid.{KeyGrid}
-use Rattle.gate_model.specs.Pictures.{key_at}
-use Rattle.gate_model.specs.Layers.{Layers, draw}
-use Rattle.gate_model.specs.Shape.{AreReadable, Draws}
-use Rattle.gate_model.specs.Buffers.{Buffers, new_keys}
+use Rattle.gate_model.specs.picture.KeyGrid.{KeyGrid}
+use Rattle.gate_model.specs.picture.Pictures.{key_at}
+use Rattle.gate_model.specs.picture.Layers.{Layers, draw}
+use Rattle.gate_model.specs.picture.Shape.{AreReadable, Draws}
+use Rattle.gate_model.specs.picture.Buffers.{Buffers, new_keys}
 use Rattle.glyph_cache.specs.declared.slot.SlotKind.{SlotKind}
 use Rattle.glyph_cache.specs.Cache.{Gets}
 use Rattle.dirty_region.specs.Places.{place_of}

@@ -1,11 +1,11 @@
 -- The layers while a frame is drawn: at some places of the visible one a key is known (this project's own).
 use Rattle.std.specs.Prelude.{◌≡◌, ℕ, ◌+◌, ◌*◌, ◌/◌, ◌%◌, ◌<◌, pos, negsuc, suc, nat_lt, if◌then◌else◌, Option, Some, slice_get}
 use Rattle.gate_model.specs.declared.key.Key.{Key}
-use Rattle.gate_model.specs.KeyGrid.{KeyGrid}
-use Rattle.gate_model.specs.Pictures.{key_at}
-use Rattle.gate_model.specs.Glyphs.{glyph}
-use Rattle.gate_model.specs.Layers.{Layers, IsAlike, HasNoPaths, empty_layer}
-use Rattle.gate_model.specs.Buffers.{Buffers, layer_of}
+use Rattle.gate_model.specs.picture.KeyGrid.{KeyGrid}
+use Rattle.gate_model.specs.picture.Pictures.{key_at}
+use Rattle.gate_model.specs.picture.Glyphs.{glyph}
+use Rattle.gate_model.specs.picture.Layers.{Layers, IsAlike, HasNoPaths, empty_layer}
+use Rattle.gate_model.specs.picture.Buffers.{Buffers, layer_of}
 
 -- what is known of each place of the screen, row by row
 abbrev pub Places : Type 0

@@ -4,7 +4,7 @@ use Rattle.gate_model.specs.declared.instr.Instr.{Instr}
 use Rattle.gate_model.specs.declared.instr.Instr.TheVariants.{Size, Rect, Cfill, Copy}
 use Rattle.gate_model.specs.declared.key.Key.{Key}
 use Rattle.glyph_table.specs.declared.patch.Patch.{Patch}
-use Rattle.gate_model.specs.Palette.{colour_of}
+use Rattle.gate_model.specs.picture.Palette.{colour_of}
 use Rattle.glyph_table.specs.GlyphRects.{rects}
 use Rattle.glyph_cache.specs.declared.slot.SlotKind.{SlotKind}
 use Rattle.glyph_cache.specs.declared.slot.SlotKind.TheVariants.{Held, Made, Reused}

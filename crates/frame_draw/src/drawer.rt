@@ -2,12 +2,12 @@
 //! once, and each cell that changed is copied from there (this project's own).
 
 ghost use Rattle.std.specs.Prelude.{◌≡◌, ◌+◌, ◌*◌, ◌≤◌, ℕ, [], ◌++◌, length, true, IfOk, IfSome, OnOk, OnErr, Bool};
-ghost use Rattle.gate_model.specs.Buffers.{AreLayers, Renews, is_held, new_keys};
-ghost use Rattle.gate_model.specs.Cost.{changes, cost};
-ghost use Rattle.gate_model.specs.Layers.{draw, nothing};
-ghost use Rattle.gate_model.specs.Screens.{AreColoured, IsColoured};
-ghost use Rattle.gate_model.specs.Shape.{OpensScreen, Shape};
-ghost use Rattle.gate_model.specs.Steps.{IsScreenSize};
+ghost use Rattle.gate_model.specs.picture.Buffers.{AreLayers, Renews, is_held, new_keys};
+ghost use Rattle.gate_model.specs.session.Cost.{changes, cost};
+ghost use Rattle.gate_model.specs.picture.Layers.{draw, nothing};
+ghost use Rattle.gate_model.specs.terminal.Screens.{AreColoured, IsColoured};
+ghost use Rattle.gate_model.specs.picture.Shape.{OpensScreen, Shape};
+ghost use Rattle.gate_model.specs.session.Steps.{IsScreenSize};
 ghost use Rattle.frame_draw.specs.Along.{Along, Fits, Holds, IsBufferOf, IsLeft};
 ghost use Rattle.frame_draw.specs.Cells.{Places};
 

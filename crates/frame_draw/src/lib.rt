@@ -4,9 +4,9 @@
 //! moves the visible layer by the lines that the whole screen was scrolled up, gives every key of the new
 //! screen a buffer, and copies the cells that changed. Over the layers of the old screen and of the buffers
 //! before it, it leaves those of the new screen and of the buffers after it (`AreLayers` and `Renews` of
-//! gate_model's `specs/Buffers.antt`), it has the shape of a frame (`specs/Shape.antt`), and while no buffer
+//! gate_model's `specs/picture/Buffers.antt`), it has the shape of a frame (`specs/picture/Shape.antt`), and while no buffer
 //! is reused its length has a bound by the cells that changed and the keys that are new
-//! (`specs/Cost.antt`). How a frame goes on from place to place is `Along` of this crate's
+//! (`specs/session/Cost.antt`). How a frame goes on from place to place is `Along` of this crate's
 //! `specs/Along.antt`. All this is this project's own.
 #![tactic(auto)]
 

@@ -1,6 +1,6 @@
 ghost use Rattle.std.specs.Prelude.{◌≡◌, ◌+◌, ◌-◌, ◌*◌, ◌/◌, ◌%◌, ◌<◌, ◌≤◌, pos, [], ◌∷◌, ◌++◌, OnOk};
 ghost use Rattle.glyph_table.specs.GlyphRects.{rects};
-ghost use Rattle.gate_model.specs.Screens.{IsColoured};
+ghost use Rattle.gate_model.specs.terminal.Screens.{IsColoured};
 ghost use Rattle.frame_draw.specs.Strokes.{cell_copy, covering, fill, inked, painting, scrolling};
 
 use gate_model::{Instr, Key, NoMemory};

@@ -29,15 +29,15 @@ use Rattle.gate_model.specs.declared.read_answer.ReadAnswer.TheVariants.{Ended, 
 use Rattle.gate_model.specs.declared.read_refusal.ReadRefusal.{ReadRefusal}
 use Rattle.gate_model.specs.declared.read_refusal.ReadRefusal.TheVariants.{NoViewer as read_no_viewer, Worn as read_worn}
 use Rattle.gate_model.specs.Limits.{most_piece, most_acts, most_live, most_joined}
-use Rattle.gate_model.specs.Shape.{Shape}
-use Rattle.gate_model.specs.History.{History, next_stamp, size_now, newest, columns, lines, terminal_type, all_frames, joined, share_mode, is_closed, is_full}
-use Rattle.gate_model.specs.Delivered.{position, ended}
-use Rattle.gate_model.specs.Output.{out, taken, untaken}
-use Rattle.gate_model.specs.Rights.{is_live, live_count}
-use Rattle.gate_model.specs.Roles.{grant_of}
-use Rattle.gate_model.specs.Refusals.{first_of, only_if, close_cause, is_crowded, is_forbidden, feed_refusal, join_refusal, read_stop, write_refusal, leave_refusal, close_refusal}
-use Rattle.gate_model.specs.Calls.{AreBytes, Step}
-use Rattle.gate_model.specs.Steps.{Legal}
+use Rattle.gate_model.specs.picture.Shape.{Shape}
+use Rattle.gate_model.specs.session.History.{History, next_stamp, size_now, newest, columns, rows, terminal_type, all_frames, joined, share_mode, is_closed, is_full}
+use Rattle.gate_model.specs.session.Delivered.{position, ended}
+use Rattle.gate_model.specs.session.Output.{out, taken, untaken}
+use Rattle.gate_model.specs.session.Rights.{is_live, live_count}
+use Rattle.gate_model.specs.session.Roles.{grant_of}
+use Rattle.gate_model.specs.session.Refusals.{first_of, only_if, close_cause, is_crowded, is_forbidden, feed_refusal, join_refusal, read_stop, write_refusal, leave_refusal, close_refusal}
+use Rattle.gate_model.specs.session.Calls.{AreBytes, Step}
+use Rattle.gate_model.specs.session.Steps.{Legal}
 use Rattle.gate_model.proofs.Causes.{open_without_cause}
 
 -- a session that is open and isn't full
@@ -89,7 +89,7 @@ IsNext g (Write viewer acts) = Writes g viewer acts
 IsNext g (Take count) = Takes g count
 IsNext g (Leave viewer) = is_live g viewer ≡ true
 IsNext g (Close cause) = is_closed g ≡ false
-IsNext g (Start cols rows mode term entries stamp frame) = ⊥
+IsNext g (Start cols lines mode term entries stamp frame) = ⊥
 
 -- ---- of conditions in their order, none holds
 
@@ -212,7 +212,7 @@ next e f g l = added (f ∷ g) l.1 l.2 e l.3
 -- .. it is no Start, and what Start says stays
 pub record StaysStarted (h : History) (e : Entry) : Type 0 where
   pub cols : columns (e ∷ h) ≡ columns h
-  pub rows : lines (e ∷ h) ≡ lines h
+  pub rows : rows (e ∷ h) ≡ rows h
   pub term : terminal_type (e ∷ h) ≡ terminal_type h
 
 pub stays_started : (h : History) (e : Entry) → IsNext h e → StaysStarted h e
@@ -223,4 +223,4 @@ stays_started h (Write viewer acts) n = record { cols = refl; rows = refl; term 
 stays_started h (Take count) n = record { cols = refl; rows = refl; term = refl }
 stays_started h (Leave viewer) n = record { cols = refl; rows = refl; term = refl }
 stays_started h (Close cause) n = record { cols = refl; rows = refl; term = refl }
-stays_started h (Start cols rows mode term entries stamp frame) n = absurd n
+stays_started h (Start cols lines mode term entries stamp frame) n = absurd n

@@ -7,8 +7,8 @@ use Rattle.std.proofs.lemmas.Bool.Decides.{nat_tests, Decides-int_eq}
 use Rattle.gate_model.specs.declared.colour.Colour.{Colour}
 use Rattle.gate_model.specs.declared.instr.Instr.{Instr}
 use Rattle.gate_model.specs.declared.instr.Instr.TheVariants.{Size, Rect, Cfill, Copy, Sync, Disconnect, Error}
-use Rattle.gate_model.specs.Layers.{Area, HasNoPaths, Layer, Layers, with_layer, is_in, is_covered, open_path, sized, traced, painted, over, source_pixel, copied, draw, IsAlike, Same}
-use Rattle.gate_model.specs.Shape.{Draws, Shape, without_layer}
+use Rattle.gate_model.specs.picture.Layers.{Area, HasNoPaths, Layer, Layers, with_layer, is_in, is_covered, open_path, sized, traced, painted, over, source_pixel, copied, draw, IsAlike, Same}
+use Rattle.gate_model.specs.picture.Shape.{Draws, Shape, without_layer}
 use Rattle.gate_model.proofs.Drawing.{draw-append}
 
 -- one layer in two maps: they look alike

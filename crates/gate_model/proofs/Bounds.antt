@@ -6,10 +6,10 @@ use Rattle.gate_model.specs.declared.instr.Instr.{Instr}
 use Rattle.gate_model.specs.declared.entry.Entry.{Entry}
 use Rattle.gate_model.specs.declared.entry.Entry.TheVariants.{Start, Feed, Join, Read, Write, Take, Leave, Close}
 use Rattle.gate_model.specs.Limits.{most_entries, most_clock, most_joined}
-use Rattle.gate_model.specs.Entries.{framed, stamp_of}
-use Rattle.gate_model.specs.History.{History, capacity, newest, frames, joined}
+use Rattle.gate_model.specs.session.Entries.{framed, stamp_of}
+use Rattle.gate_model.specs.session.History.{History, capacity, newest, frames, joined}
 use Rattle.gate_model.specs.declared.setup.Setup.{Setup}
-use Rattle.gate_model.specs.Steps.{StartStep, Legal}
+use Rattle.gate_model.specs.session.Steps.{StartStep, Legal}
 use Rattle.gate_model.proofs.Added.{IsNext, next}
 
 pub record Bounds (h : History) : Type 0 where

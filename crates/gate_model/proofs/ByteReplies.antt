@@ -2,9 +2,9 @@
 use Rattle.std.proofs.Common.{◌≡◌, ℕ, ◌≤◌, List, [], ◌∷◌, ◌++◌, length, drop, refl, ap, sym, ◌∙◌, arith, append-nil, append_assoc}
 use Rattle.std.proofs.Math.Seq.{drop-append_seam}
 use Rattle.gate_model.specs.declared.token.Token.{Token}
-use Rattle.gate_model.specs.OptionAnswers.{all_off, option_answer, option_answers, switches_from}
-use Rattle.gate_model.specs.TelnetTokens.{tokens, unfinished_token, doubled}
-use Rattle.gate_model.specs.Replies.{past, reports, reply_after, replies_from, replies, reply_to, replies_after, BytesAsTokens, RepliesGoOn}
+use Rattle.gate_model.specs.telnet.OptionAnswers.{all_off, option_answer, option_answers, switches_from}
+use Rattle.gate_model.specs.telnet.TelnetTokens.{tokens, unfinished_token, doubled}
+use Rattle.gate_model.specs.terminal.Replies.{past, reports, reply_after, replies_from, replies, reply_to, replies_after, BytesAsTokens, RepliesGoOn}
 use Rattle.gate_model.proofs.OneToken.{one-token}
 use Rattle.gate_model.proofs.OptionLaws.{answers-go-on}
 use Rattle.gate_model.proofs.ReplyLaws.{no_tokens, replies_after-append}

@@ -3,9 +3,9 @@ use Rattle.std.proofs.Common.{◌≡◌, [], ◌∷◌, true, false, refl, ap}
 use Rattle.std.specs.Prelude.{Some, None}
 use Rattle.gate_model.specs.declared.cause.Cause.{Cause}
 use Rattle.gate_model.specs.declared.entry.Entry.TheVariants.{Start, Feed, Join, Read, Write, Take, Leave, Close}
-use Rattle.gate_model.specs.History.{History, is_closed}
-use Rattle.gate_model.specs.Delivered.{closing, farewell}
-use Rattle.gate_model.specs.Refusals.{close_cause}
+use Rattle.gate_model.specs.session.History.{History, is_closed}
+use Rattle.gate_model.specs.session.Delivered.{closing, farewell}
+use Rattle.gate_model.specs.session.Refusals.{close_cause}
 
 pub open_without_cause : (h : History) → close_cause h ≡ None → is_closed h ≡ false
 open_without_cause [] e = refl

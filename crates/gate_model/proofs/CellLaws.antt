@@ -7,9 +7,9 @@ use Rattle.std.proofs.lemmas.List.{get_or-replicate, length-replicate, get_or-se
 use Rattle.std.proofs.Math.Nat.{mul-le-mul_right}
 use Rattle.std.proofs.Math.ListN.{length-set}
 use Rattle.gate_model.specs.declared.cell.Cell.{Cell}
-use Rattle.gate_model.specs.Cells.{blank, CellGrid, cell_at, moved_left, moved_right, put, erased, inserted, deleted, scrolled_up, scrolled_down}
+use Rattle.gate_model.specs.terminal.Cells.{blank, CellGrid, cell_at, moved_left, moved_right, put, erased, inserted, deleted, scrolled_up, scrolled_down}
 use Rattle.gate_model.proofs.CellRuns.{at_inside, at_outside, length-with_part, left_length, right_length, left_cell, left_free, right_cell, right_free, left_stays, right_stays}
-use Rattle.gate_model.specs.CellLaws.{IsFull, PutByCell, ErasedByCell, InsertedByCell, DeletedByCell, ScrolledUpByCell, ScrolledDownByCell, NothingAtZero}
+use Rattle.gate_model.specs.terminal.CellLaws.{IsFull, PutByCell, ErasedByCell, InsertedByCell, DeletedByCell, ScrolledUpByCell, ScrolledDownByCell, NothingAtZero}
 
 -- ---- rows
 rows_apart : (c row y : ℕ) → row < y → row * c + c ≤ y * c

@@ -2,7 +2,7 @@
 use Rattle.std.proofs.Common.{◌≡◌, ℕ, List, [], ◌∷◌, false, refl}
 use Rattle.std.specs.Prelude.{map}
 use Rattle.gate_model.specs.declared.cell.Cell.{Cell}
-use Rattle.gate_model.specs.Cells.{CellGrid, blank_grid, cell_at, put, erased, inserted, deleted, scrolled_up, scrolled_down}
+use Rattle.gate_model.specs.terminal.Cells.{CellGrid, blank_grid, cell_at, put, erased, inserted, deleted, scrolled_up, scrolled_down}
 
 -- a cell of a character, in the colours of a blank one
 letter : ℕ → Cell

@@ -5,7 +5,7 @@ use Rattle.std.proofs.lemmas.Bool.Decides.{nat_tests}
 use Rattle.std.proofs.lemmas.Grind.{common_steps}
 use Rattle.std.proofs.lemmas.List.{drop-drop, take-append-drop}
 use Rattle.gate_model.specs.declared.cell.Cell.{Cell}
-use Rattle.gate_model.specs.Cells.{blank, with_part, moved_left, moved_right}
+use Rattle.gate_model.specs.terminal.Cells.{blank, with_part, moved_left, moved_right}
 
 -- ---- a part of the cells, and others in its place
 at_range : (from to i : ℕ) (cells : List Cell) → i < to - from → get_or (slice_range cells from to) i blank ≡ get_or cells (from + i) blank

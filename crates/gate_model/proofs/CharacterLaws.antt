@@ -7,8 +7,8 @@ use Rattle.std.proofs.lemmas.List.{get_or_append_left, get_or-drop, drop-append-
 use Rattle.std.specs.Prelude.{is_some}
 use Rattle.bstr.specs.Utf8.{Decoded, decoded, decoded_by, lead_len, second, continues, or_replacement, lossy_chars}
 use Rattle.bstr.proofs.lemmas.PieceLemmas.{by-shape, decoded_by-cut, value-4, value-7, value-10, tail-continues, piece-bounds, lossy_chars-step, lossy_chars-nil}
-use Rattle.gate_model.specs.Characters.{is_unfinished, pending, settled, characters, head_char}
-use Rattle.gate_model.specs.Reading.{IsHead, read, after}
+use Rattle.gate_model.specs.terminal.Characters.{is_unfinished, pending, settled, characters, head_char}
+use Rattle.gate_model.specs.text.Reading.{IsHead, read, after}
 use Rattle.gate_model.proofs.Cutting.{read-whole, read-unfinished}
 
 -- a term of the type given

@@ -2,10 +2,10 @@
 use Rattle.std.specs.Prelude.{◌≡◌, ◌++◌, [], ◌∷◌, replicate, true, false, refl, codes}
 use Rattle.bstr.proofs.Computing.{computing}
 use Rattle.gate_model.specs.declared.control.Control.TheVariants.{Print, Code, Esc, Csi}
-use Rattle.gate_model.specs.Characters.{characters, pending}
-use Rattle.gate_model.specs.Parameters.{params_of, default}
-use Rattle.gate_model.specs.Controls.{controls, unfinished}
-use Rattle.gate_model.specs.Reading.{read}
+use Rattle.gate_model.specs.terminal.Characters.{characters, pending}
+use Rattle.gate_model.specs.terminal.Parameters.{params_of, default}
+use Rattle.gate_model.specs.terminal.Controls.{controls, unfinished}
+use Rattle.gate_model.specs.text.Reading.{read}
 
 -- one U+FFFD stands for each longest front: of F0 9F, of each byte of ED A0 80, and none yet for a cut E2 82
 cut_pair : characters (0xF0 ∷ 0x9F ∷ 0x41 ∷ []) ≡ 0xFFFD ∷ 0x41 ∷ []

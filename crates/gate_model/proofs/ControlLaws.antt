@@ -5,8 +5,8 @@ use Rattle.std.proofs.lemmas.List.Sums.{take_while-cons}
 use Rattle.std.specs.Prelude.{◌==◌, is_some}
 use Rattle.std.specs.List.{take_while}
 use Rattle.gate_model.specs.declared.control.Control.{Control}
-use Rattle.gate_model.specs.Controls.{Found, after_while, ended_by, no_control, is_parameter, is_intermediate, is_csi_final, sequence, csi_after, ends_string, string_escape, head_string, head_palette, head_osc, is_escape_final, begins_string, escape_after, plain_escape, head_escape, head_control}
-use Rattle.gate_model.specs.Reading.{IsHead}
+use Rattle.gate_model.specs.terminal.Controls.{Found, after_while, ended_by, no_control, is_parameter, is_intermediate, is_csi_final, sequence, csi_after, ends_string, string_escape, head_string, head_palette, head_osc, is_escape_final, begins_string, escape_after, plain_escape, head_escape, head_control}
+use Rattle.gate_model.specs.text.Reading.{IsHead}
 use Rattle.gate_model.proofs.Heads.{carried, either, left_of, left-either}
 
 ended_by-carried : (p : ℕ → Bool) (given : ℕ → List Control) (xs more : List ℕ) → is_some (ended_by p given xs) ≡ true

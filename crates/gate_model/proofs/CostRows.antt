@@ -1,21 +1,21 @@
 -- Worked buffers, changed places and costs, computed from the definitions.
 use Rattle.std.specs.Prelude.{◌≡◌, ℕ, List, [], ◌∷◌, true, false, refl, pos, negsuc, length, Some}
 use Rattle.bstr.proofs.Computing.{computing}
-use Rattle.gate_model.specs.Reading.{read}
-use Rattle.gate_model.specs.Palette.{colour_of}
+use Rattle.gate_model.specs.text.Reading.{read}
+use Rattle.gate_model.specs.picture.Palette.{colour_of}
 use Rattle.gate_model.specs.declared.colour.Colour.{Colour}
 use Rattle.gate_model.specs.declared.entry.Entry.{Entry}
 use Rattle.gate_model.specs.declared.entry.Entry.TheVariants.{Start, Feed}
 use Rattle.gate_model.specs.declared.instr.Instr.TheVariants.{Sync}
 use Rattle.gate_model.specs.declared.key.Key.{Key}
 use Rattle.gate_model.specs.declared.sharing.Share.TheVariants.{Nobody}
-use Rattle.gate_model.specs.KeyGrid.{KeyGrid}
-use Rattle.gate_model.specs.Glyphs.{lit}
-use Rattle.gate_model.specs.Pictures.{picture}
-use Rattle.gate_model.specs.Buffers.{buffer_key, layers, is_held, new_keys}
-use Rattle.gate_model.specs.Screens.{screen, shown}
-use Rattle.gate_model.specs.History.{History, at}
-use Rattle.gate_model.specs.Cost.{changes, cost, keys_shown, old_row, rise}
+use Rattle.gate_model.specs.picture.KeyGrid.{KeyGrid}
+use Rattle.gate_model.specs.picture.Glyphs.{lit}
+use Rattle.gate_model.specs.picture.Pictures.{picture}
+use Rattle.gate_model.specs.picture.Buffers.{buffer_key, layers, is_held, new_keys}
+use Rattle.gate_model.specs.terminal.Screens.{screen, shown}
+use Rattle.gate_model.specs.session.History.{History, at}
+use Rattle.gate_model.specs.session.Cost.{changes, cost, keys_shown, old_row, rise}
 
 -- ---- places
 

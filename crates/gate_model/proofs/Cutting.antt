@@ -1,6 +1,6 @@
 -- The law of every cutting, for any head that shrinks its list and is stable.
 use Rattle.std.proofs.Common.{◌≡◌, ℕ, zero, suc, ◌≤◌, List, [], ◌∷◌, ◌++◌, length, Option, Some, None, refl, ap, sym, ◌∙◌, arith, append_assoc}
-use Rattle.gate_model.specs.Reading.{Head, after, read_on, read_within, read, IsHead, Resumes}
+use Rattle.gate_model.specs.text.Reading.{Head, after, read_on, read_within, read, IsHead, Resumes}
 
 module _ {A B : Type 0} (head : Head A B) (is : IsHead head) where
   after-after : (a b : List B) (r : List B × List A) → after a (after b r) ≡ after (a ++ b) r

@@ -1,6 +1,6 @@
 -- Digits before a byte that is none, and the number that they spell.
 use Rattle.std.proofs.Common.{◌≡◌, ℕ, ◌+◌, ◌-◌, ◌*◌, ◌≤◌, List, [], ◌∷◌, ◌++◌, refl, sym, subst, arith}
-use Rattle.gate_model.specs.Spelling.{IsDigit, AllDigits, number_after, number_of}
+use Rattle.gate_model.specs.text.Spelling.{IsDigit, AllDigits, number_after, number_of}
 
 -- the head of a list that isn't empty, and its tail
 pub head_same : (a b : ℕ) (xs ys : List ℕ) → a ∷ xs ≡ b ∷ ys → a ≡ b

@@ -10,13 +10,13 @@ use Rattle.gate_model.specs.declared.instr.Instr.{Instr}
 use Rattle.gate_model.specs.declared.instr.Instr.TheVariants.{Sync}
 use Rattle.gate_model.specs.declared.entry.Entry.{Entry}
 use Rattle.gate_model.specs.Sequences.{BeginsWith}
-use Rattle.gate_model.specs.Shape.{Shape}
-use Rattle.gate_model.specs.Entries.{framed, stamp_of, is_join, is_close, joins, leaves}
-use Rattle.gate_model.specs.History.{History, frames, frames_after, instructions, all_frames, newest, upto, has_entry_at, joined, is_closed}
-use Rattle.gate_model.specs.Delivered.{last_sync_from, last_sync, delivered, position, closing, farewell, shown_by, closed_by, shown_to, farewell_to}
+use Rattle.gate_model.specs.picture.Shape.{Shape}
+use Rattle.gate_model.specs.session.Entries.{framed, stamp_of, is_join, is_close, joins, leaves}
+use Rattle.gate_model.specs.session.History.{History, frames, frames_after, instructions, all_frames, newest, upto, has_entry_at, joined, is_closed}
+use Rattle.gate_model.specs.session.Delivered.{last_sync_from, last_sync, delivered, position, closing, farewell, shown_by, closed_by, shown_to, farewell_to}
 use Rattle.gate_model.specs.declared.cause.Cause.{Cause}
 use Rattle.gate_model.specs.declared.cause.Cause.TheVariants.{ServerEnd, LinkFault, Stopped, Worn}
-use Rattle.gate_model.specs.Rights.{is_live}
+use Rattle.gate_model.specs.session.Rights.{is_live}
 use Rattle.gate_model.proofs.Fronts.{front_cases}
 use Rattle.gate_model.proofs.Syncs.{last_sync-body, last_sync-append, sync_is_last}
 

@@ -12,15 +12,15 @@ use Rattle.gate_model.specs.declared.entry.Entry.TheVariants.{Feed, Join, Read, 
 use Rattle.gate_model.specs.declared.how.How.{How}
 use Rattle.gate_model.specs.declared.sharing.Role.{Role}
 use Rattle.gate_model.specs.declared.control.Control.{Control}
-use Rattle.gate_model.specs.Screens.{after_controls, functions}
-use Rattle.gate_model.specs.TelnetTokens.{tokens}
-use Rattle.gate_model.specs.Terminal.{opening_screen}
-use Rattle.gate_model.specs.Entries.{fed, framed}
-use Rattle.gate_model.specs.History.{History, at, bytes, columns, lines, frames, frames_after, instructions, all_frames}
+use Rattle.gate_model.specs.terminal.Screens.{after_controls, functions}
+use Rattle.gate_model.specs.telnet.TelnetTokens.{tokens}
+use Rattle.gate_model.specs.terminal.Terminal.{opening_screen}
+use Rattle.gate_model.specs.session.Entries.{fed, framed}
+use Rattle.gate_model.specs.session.History.{History, at, bytes, columns, rows, frames, frames_after, instructions, all_frames}
 use Rattle.gate_model.specs.declared.answer.Answer.{Answer}
 use Rattle.gate_model.specs.declared.event.Event.{Event}
-use Rattle.gate_model.specs.Calls.{Step}
-use Rattle.gate_model.specs.Steps.{IsScreenSize, Legal}
+use Rattle.gate_model.specs.session.Calls.{Step}
+use Rattle.gate_model.specs.session.Steps.{IsScreenSize, Legal}
 use Rattle.gate_model.proofs.Added.{next, stays_started}
 use Rattle.gate_model.proofs.ScreenLaws.{after_controls-append}
 
@@ -29,7 +29,7 @@ pub all_frames-feed : (h : History) (bs : List ℕ) (t : ℕ) (frame : List Inst
 all_frames-feed h bs t frame = flat_map-append (λ (p : ℕ × List Instr). p.1) (frames h) ((t, frame) ∷ []) ∙ ap (λ (xs : List Instr). all_frames h ++ xs) (append-nil frame)
 
 pub at-feed : (h : History) (bs : List ℕ) (t : ℕ) (frame : List Instr) (cs : List Control) → functions (tokens (bytes h ++ bs)) ≡ functions (tokens (bytes h)) ++ cs → at (Feed bs t frame ∷ h) ≡ after_controls (at h) cs
-at-feed h bs t frame cs more = ap (after_controls (opening_screen (columns h) (lines h))) more ∙ after_controls-append (opening_screen (columns h) (lines h)) (functions (tokens (bytes h))) cs
+at-feed h bs t frame cs more = ap (after_controls (opening_screen (columns h) (rows h))) more ∙ after_controls-append (opening_screen (columns h) (rows h)) (functions (tokens (bytes h))) cs
 
 -- the frames after a stamp that is older than the new one
 pub frames_after-feed : (h : History) (s t : ℕ) (frame : List Instr) → s < t → frames_after s (frames h ++ (t, frame) ∷ []) ≡ frames_after s (frames h) ++ (t, frame) ∷ []
@@ -39,7 +39,7 @@ frames_after-feed h s t frame lt = filter-append (λ (p : ℕ × List Instr). na
 pub record IsPlain (e : Entry) : Type 0 where
   pub no_bytes : fed e ≡ []
   pub no_frame : framed e ≡ []
-  pub no_start : (g : History) → (columns (e ∷ g) ≡ columns g) × (lines (e ∷ g) ≡ lines g)
+  pub no_start : (g : History) → (columns (e ∷ g) ≡ columns g) × (rows (e ∷ g) ≡ rows g)
 
 pub plain-join : (viewer : ℕ) (role : Role) (first : List Instr) → IsPlain (Join viewer role first)
 plain-join viewer role first = record { no_bytes = refl; no_frame = refl; no_start = λ g. (refl, refl) }
@@ -68,9 +68,9 @@ pub all_frames-plain : (h : History) (e : Entry) → IsPlain e → all_frames (e
 all_frames-plain h e p = let f : frames (e ∷ h) ≡ frames h = rw p.no_frame (append-nil (frames h)) in ap instructions f
 
 -- what a legal history has
-pub legal-size : (h : History) → Legal h → IsScreenSize (columns h) (lines h)
+pub legal-size : (h : History) → Legal h → IsScreenSize (columns h) (rows h)
 legal-size [] l = absurd l
-legal-size (e ∷ []) l = subst (λ (x : Entry). IsScreenSize (columns (x ∷ [])) (lines (x ∷ []))) (sym l.2.4) l.2.0.size
+legal-size (e ∷ []) l = subst (λ (x : Entry). IsScreenSize (columns (x ∷ [])) (rows (x ∷ []))) (sym l.2.4) l.2.0.size
 legal-size (e ∷ f ∷ g) l = let same = stays_started (f ∷ g) e (next e f g l) in rw (same.cols, same.rows) (legal-size (f ∷ g) l.0)
 
 -- one entry more is legal where a call adds it

@@ -2,9 +2,9 @@
 use Rattle.std.specs.Prelude.{◌≡◌, [], ◌∷◌, true, false, pos, negsuc, Some, None, refl, codes}
 use Rattle.gate_model.specs.declared.act.Act.TheVariants.{Key, Mouse, Sync, Size, Nop, Disconnect}
 use Rattle.gate_model.specs.declared.instr.Instr.TheVariants as sent
-use Rattle.gate_model.specs.ClientMeaning.{act_of}
-use Rattle.gate_model.specs.HelloMeaning.{greeting_of, Selects, HasSize, Connects, SaysOther}
-use Rattle.gate_model.specs.ServerMeaning.{instr_of}
+use Rattle.gate_model.specs.text.ClientMeaning.{act_of}
+use Rattle.gate_model.specs.text.HelloMeaning.{greeting_of, Selects, HasSize, Connects, SaysOther}
+use Rattle.gate_model.specs.text.ServerMeaning.{instr_of}
 
 -- keys: `pressed` is `1` or `0` as it stands, and keysyms end at 2^32 - 1
 key_down : act_of (codes "key" ∷ codes "65" ∷ codes "1" ∷ []) ≡ Some (Key 65 true)

@@ -7,10 +7,10 @@ use Rattle.gate_model.specs.declared.instr.Instr.{Instr}
 use Rattle.gate_model.specs.declared.entry.Entry.{Entry}
 use Rattle.gate_model.specs.declared.entry.Entry.TheVariants.{Start, Feed, Join, Read, Write, Take, Leave, Close}
 use Rattle.gate_model.specs.Limits.{most_kept_frames, most_kept_text}
-use Rattle.gate_model.specs.Entries.{framed, stamp_of}
-use Rattle.gate_model.specs.History.{History, frames, frames_after, newest}
-use Rattle.gate_model.specs.Kept.{text_size, may_be_kept, kept_of, kept, Covers, last_stamp_from}
-use Rattle.gate_model.specs.Steps.{Legal}
+use Rattle.gate_model.specs.session.Entries.{framed, stamp_of}
+use Rattle.gate_model.specs.session.History.{History, frames, frames_after, newest}
+use Rattle.gate_model.specs.session.Kept.{text_size, may_be_kept, kept_of, kept, Covers, last_stamp_from}
+use Rattle.gate_model.specs.session.Steps.{Legal}
 use Rattle.gate_model.proofs.Added.{IsNext, next}
 
 -- ---- rising stamps

@@ -2,8 +2,8 @@
 use Rattle.std.specs.Prelude.{◌≡◌, ℕ, Bool, List, [], ◌∷◌, map, true, false, refl, codes}
 use Rattle.std.specs.Char.{encode_utf8}
 use Rattle.gate_model.specs.declared.mods.Mods.{Mods}
-use Rattle.gate_model.specs.Modifiers.{mods_after}
-use Rattle.gate_model.specs.Encoding.{encoding}
+use Rattle.gate_model.specs.keys.Modifiers.{mods_after}
+use Rattle.gate_model.specs.keys.Encoding.{encoding}
 
 abbrev none : Mods
 none = record { control_left = false; control_right = false; alt_left = false; alt_right = false }

@@ -2,9 +2,9 @@
 use Rattle.std.proofs.Common.{◌≡◌, ℕ, [], Bool, true, false, ◌==◌, refl, sym, subst, ⊎_elim, eqb-true}
 use Rattle.std.proofs.lemmas.Bool.{cases_Bool}
 use Rattle.gate_model.specs.declared.mods.Mods.{Mods}
-use Rattle.gate_model.specs.Modifiers.{mods_after}
-use Rattle.gate_model.specs.Encoding.{encoding}
-use Rattle.gate_model.specs.KeyLaws.{ModifiersSendNothing}
+use Rattle.gate_model.specs.keys.Modifiers.{mods_after}
+use Rattle.gate_model.specs.keys.Encoding.{encoding}
+use Rattle.gate_model.specs.keys.KeyLaws.{ModifiersSendNothing}
 
 left_control : (held : Mods) (m : Bool) → encoding 0xFFE3 held m ≡ []
 unfolding encoding

@@ -4,13 +4,13 @@ use Rattle.gate_model.specs.declared.instr.Instr.{Instr}
 use Rattle.gate_model.specs.declared.entry.Entry.{Entry}
 use Rattle.gate_model.specs.declared.entry.Entry.TheVariants.{Start, Feed, Join, Read, Write, Take, Leave, Close}
 use Rattle.gate_model.specs.Limits.{most_buffers}
-use Rattle.gate_model.specs.KeyGrid.{KeyGrid}
-use Rattle.gate_model.specs.Layers.{Layers, draw, nothing}
-use Rattle.gate_model.specs.Buffers.{Buffers, AreLayers, Renews, new_keys}
-use Rattle.gate_model.specs.Screens.{shown}
-use Rattle.gate_model.specs.History.{History, at, all_frames}
-use Rattle.gate_model.specs.Truth.{AllDrawn, all_layers}
-use Rattle.gate_model.specs.Cost.{changes, cost, keys_shown, rise, AllFrugal, IsFrugal}
+use Rattle.gate_model.specs.picture.KeyGrid.{KeyGrid}
+use Rattle.gate_model.specs.picture.Layers.{Layers, draw, nothing}
+use Rattle.gate_model.specs.picture.Buffers.{Buffers, AreLayers, Renews, new_keys}
+use Rattle.gate_model.specs.terminal.Screens.{shown}
+use Rattle.gate_model.specs.session.History.{History, at, all_frames}
+use Rattle.gate_model.specs.session.Truth.{AllDrawn, all_layers}
+use Rattle.gate_model.specs.session.Cost.{changes, cost, keys_shown, rise, AllFrugal, IsFrugal}
 use Rattle.gate_model.proofs.Drawing.{draw-append}
 use Rattle.gate_model.proofs.Histories.{IsPlain, at-plain, all_frames-plain, all_frames-feed}
 use Rattle.gate_model.proofs.Layering.{layers-drawn}

@@ -5,12 +5,12 @@ use Rattle.std.specs.List.{list_all, range_with_len}
 use Rattle.std.proofs.lemmas.Bool.Decides.{nat_tests}
 use Rattle.std.proofs.lemmas.List.Folds.{list_any-append}
 use Rattle.gate_model.specs.declared.key.Key.{Key}
-use Rattle.gate_model.specs.KeyGrid.{KeyGrid}
-use Rattle.gate_model.specs.Pictures.{key_at}
-use Rattle.gate_model.specs.Layers.{Layer, Layers, IsAlike, nothing, visible, empty_layer}
-use Rattle.gate_model.specs.Frames.{IsDrawn}
-use Rattle.gate_model.specs.Buffers.{Buffers, AreLayers, layers, is_same_key, is_held, new_keys}
-use Rattle.gate_model.specs.Cost.{changes}
+use Rattle.gate_model.specs.picture.KeyGrid.{KeyGrid}
+use Rattle.gate_model.specs.picture.Pictures.{key_at}
+use Rattle.gate_model.specs.picture.Layers.{Layer, Layers, IsAlike, nothing, visible, empty_layer}
+use Rattle.gate_model.specs.picture.Frames.{IsDrawn}
+use Rattle.gate_model.specs.picture.Buffers.{Buffers, AreLayers, layers, is_same_key, is_held, new_keys}
+use Rattle.gate_model.specs.session.Cost.{changes}
 
 pub layers-drawn : (m : Layers) (s : KeyGrid) (keys : Buffers) → AreLayers m s keys → IsDrawn (m visible) s
 layers-drawn m s keys a =

@@ -8,10 +8,10 @@ use Rattle.gate_model.specs.declared.entry.Entry.{Entry}
 use Rattle.gate_model.specs.declared.entry.Entry.TheVariants.{Start, Feed, Join, Read, Write, Take, Leave, Close}
 use Rattle.gate_model.specs.declared.instr.Instr.{Instr}
 use Rattle.gate_model.specs.declared.sharing.Role.{Role}
-use Rattle.gate_model.specs.History.{History, joined}
-use Rattle.gate_model.specs.Laws.{LiveAreCounted, LiveHaveJoined}
-use Rattle.gate_model.specs.Rights.{is_live, live_count}
-use Rattle.gate_model.specs.Steps.{Legal}
+use Rattle.gate_model.specs.session.History.{History, joined}
+use Rattle.gate_model.specs.session.Laws.{LiveAreCounted, LiveHaveJoined}
+use Rattle.gate_model.specs.session.Rights.{is_live, live_count}
+use Rattle.gate_model.specs.session.Steps.{Legal}
 use Rattle.gate_model.proofs.Added.{IsNext, next}
 use Rattle.gate_model.proofs.FewCounts.{one}
 

@@ -4,15 +4,15 @@ use Rattle.std.specs.Prelude.{Option, Some, None, option_map, encode_utf8_all, c
 use Rattle.std.specs.Char.{encode_utf8}
 use Rattle.std.proofs.lemmas.Option.{slice_get-map}
 use Rattle.gate_model.specs.declared.instr.Instr.TheVariants.{Size, Rect, Cfill, Copy, Sync, Disconnect, Error}
-use Rattle.gate_model.specs.Text.{refusal_text}
-use Rattle.gate_model.specs.Numerals.{value_at, number_within, number_of_bits, coordinate_of, layer_of}
-use Rattle.gate_model.specs.ClientMeaning.{pressed_of, act_named, act_of}
+use Rattle.gate_model.specs.text.Text.{refusal_text}
+use Rattle.gate_model.specs.text.Numerals.{value_at, number_within, number_of_bits, coordinate_of, layer_of}
+use Rattle.gate_model.specs.text.ClientMeaning.{pressed_of, act_named, act_of}
 use Rattle.gate_model.specs.declared.act.Act.{Act}
 use Rattle.gate_model.specs.declared.act.Act.TheVariants as acts
 use Rattle.gate_model.specs.declared.act.Act.TheVariants.{Key, Mouse, Nop}
-use Rattle.gate_model.specs.HelloMeaning.{Connects, selection, size_said, greeting_named}
-use Rattle.gate_model.specs.ServerMeaning.{extent_of, over_of, opaque_of, error_instr, instr_named}
-use Rattle.gate_model.specs.InstrLaws.{WrittenIsReadBack, ActInUtf8, GreetingInUtf8, InstrInUtf8, in_utf8}
+use Rattle.gate_model.specs.text.HelloMeaning.{Connects, selection, size_said, greeting_named}
+use Rattle.gate_model.specs.text.ServerMeaning.{extent_of, over_of, opaque_of, error_instr, instr_named}
+use Rattle.gate_model.specs.picture.InstrLaws.{WrittenIsReadBack, ActInUtf8, GreetingInUtf8, InstrInUtf8, in_utf8}
 use Rattle.gate_model.proofs.NumeralLaws.{number_within-decimal, layer_of-signed, number_in_utf8, word_in_utf8, coordinate_in_utf8, layer_in_utf8, value_in_utf8}
 
 -- ---- read back

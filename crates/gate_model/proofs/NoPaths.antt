@@ -5,9 +5,9 @@ use Rattle.std.specs.Ordering.{int_eq}
 use Rattle.std.proofs.lemmas.Bool.Decides.{Decides-int_eq}
 use Rattle.gate_model.specs.declared.instr.Instr.{Instr}
 use Rattle.gate_model.specs.declared.instr.Instr.TheVariants.{Size, Rect, Cfill, Copy, Sync, Disconnect, Error}
-use Rattle.gate_model.specs.Layers.{Area, Layer, Layers, HasNoPaths, with_layer, open_path, sized, traced, painted, copied, draw}
-use Rattle.gate_model.specs.Laws.{FramesLeaveNoPath}
-use Rattle.gate_model.specs.Shape.{Draws, without_layer}
+use Rattle.gate_model.specs.picture.Layers.{Area, Layer, Layers, HasNoPaths, with_layer, open_path, sized, traced, painted, copied, draw}
+use Rattle.gate_model.specs.session.Laws.{FramesLeaveNoPath}
+use Rattle.gate_model.specs.picture.Shape.{Draws, without_layer}
 use Rattle.gate_model.proofs.Drawing.{draw-append}
 
 -- nothing is unfilled, or the layer is among those with a rectangle that isn't filled yet

@@ -14,9 +14,9 @@ use Rattle.std.proofs.lemmas.Str.Parse.{IsNumeralModel, numerals_by_fold}
 use Rattle.std.proofs.lemmas.Option.{slice_get-map}
 use lib.Utf8.{encode}
 use lib.Dec.{leb→le}
-use Rattle.gate_model.specs.Spelling.{number_after, number_of}
-use Rattle.gate_model.specs.Numerals.{value_at, is_number, number_within, number_of_bits, coordinate_of, layer_of}
-use Rattle.gate_model.specs.Shape.{IsLayer}
+use Rattle.gate_model.specs.text.Spelling.{number_after, number_of}
+use Rattle.gate_model.specs.text.Numerals.{value_at, is_number, number_within, number_of_bits, coordinate_of, layer_of}
+use Rattle.gate_model.specs.picture.Shape.{IsLayer}
 
 -- ---- written and read
 

@@ -4,8 +4,8 @@ use Rattle.std.specs.Prelude.{◌==◌, nat_le, if◌then◌else◌}
 use Rattle.std.specs.Int.{is_in_range}
 use Rattle.gate_model.specs.declared.token.Token.{Token}
 use Rattle.gate_model.specs.declared.token.Token.TheVariants.{Byte, Sub, Single}
-use Rattle.gate_model.specs.Reading.{read, after}
-use Rattle.gate_model.specs.TelnetTokens.{FoundToken, iac, sub_token, tokens, unfinished_token, head_token, head_command, head_option, head_sub}
+use Rattle.gate_model.specs.text.Reading.{read, after}
+use Rattle.gate_model.specs.telnet.TelnetTokens.{FoundToken, iac, sub_token, tokens, unfinished_token, head_token, head_command, head_option, head_sub}
 use Rattle.gate_model.proofs.Cutting.{read-whole, read-unfinished, rest-unfinished}
 use Rattle.gate_model.proofs.TokenLaws.{head_token-is}
 

@@ -2,10 +2,10 @@
 use Rattle.std.proofs.Common.{◌≡◌, ℕ, List, [], ◌∷◌, ◌++◌, append_assoc, refl, sym, ap, ◌∙◌}
 use Rattle.std.specs.Prelude.{codes}
 use Rattle.gate_model.specs.declared.token.Token.{Token}
-use Rattle.gate_model.specs.Reading.{read}
-use Rattle.gate_model.specs.TelnetTokens.{tokens}
-use Rattle.gate_model.specs.OptionAnswers.{Switches, all_off, option_answer, switches_after, answers_from, switches_from, option_answers}
-use Rattle.gate_model.specs.TelnetLaws.{AnswersGoOn}
+use Rattle.gate_model.specs.text.Reading.{read}
+use Rattle.gate_model.specs.telnet.TelnetTokens.{tokens}
+use Rattle.gate_model.specs.telnet.OptionAnswers.{Switches, all_off, option_answer, switches_after, answers_from, switches_from, option_answers}
+use Rattle.gate_model.specs.telnet.TelnetLaws.{AnswersGoOn}
 
 answers_from-append : (cols rows : ℕ) (term : List ℕ) (s : Switches) (first second : List Token)
     → answers_from cols rows term s (first ++ second) ≡ answers_from cols rows term s first ++ answers_from cols rows term (switches_from s first) second

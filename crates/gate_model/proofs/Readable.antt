@@ -3,9 +3,9 @@ use Rattle.std.proofs.Common.{List, [], ◌∷◌, ◌++◌, sym, subst, append-
 use Rattle.gate_model.specs.declared.instr.Instr.{Instr}
 use Rattle.gate_model.specs.declared.entry.Entry.{Entry}
 use Rattle.gate_model.specs.declared.entry.Entry.TheVariants.{Start, Feed, Join, Read, Write, Take, Leave, Close}
-use Rattle.gate_model.specs.Shape.{AreReadable}
-use Rattle.gate_model.specs.History.{History, all_frames}
-use Rattle.gate_model.specs.Steps.{Legal}
+use Rattle.gate_model.specs.picture.Shape.{AreReadable}
+use Rattle.gate_model.specs.session.History.{History, all_frames}
+use Rattle.gate_model.specs.session.Steps.{Legal}
 use Rattle.gate_model.proofs.Added.{IsNext, next}
 use Rattle.gate_model.proofs.Histories.{all_frames-feed, all_frames-plain, plain-join, plain-read, plain-write, plain-take, plain-leave, plain-close}
 

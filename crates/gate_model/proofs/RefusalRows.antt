@@ -13,9 +13,9 @@ use Rattle.gate_model.specs.declared.join_refusal.JoinRefusal.TheVariants.{Close
 use Rattle.gate_model.specs.declared.read_answer.ReadAnswer.TheVariants.{Ended, Empty}
 use Rattle.gate_model.specs.declared.read_refusal.ReadRefusal.TheVariants.{NoViewer as read_no_viewer, Worn as read_worn}
 use Rattle.gate_model.specs.declared.write_refusal.WriteRefusal.TheVariants.{NoViewer as write_no_viewer, Closed as write_closed, Worn as write_worn}
-use Rattle.gate_model.specs.History.{History}
-use Rattle.gate_model.specs.Refusals.{feed_refusal, join_refusal, read_stop, write_refusal, leave_refusal, close_refusal}
-use Rattle.gate_model.specs.Calls.{lacked}
+use Rattle.gate_model.specs.session.History.{History}
+use Rattle.gate_model.specs.session.Refusals.{feed_refusal, join_refusal, read_stop, write_refusal, leave_refusal, close_refusal}
+use Rattle.gate_model.specs.session.Calls.{lacked}
 
 abbrev opened : History
 opened = Start 2 1 Nobody [] 3 1 (Sync 1 ∷ []) ∷ []

@@ -6,14 +6,14 @@ use Rattle.bstr.proofs.Computing.{computing}
 use Rattle.gate_model.specs.declared.control.Control.{Control}
 use Rattle.gate_model.specs.declared.token.Token.{Token}
 use Rattle.gate_model.specs.declared.token.Token.TheVariants.{Byte}
-use Rattle.gate_model.specs.Effects.{effect}
-use Rattle.gate_model.specs.OptionAnswers.{Switches, all_off, option_answer, switches_after, switches_from}
-use Rattle.gate_model.specs.Reading.{read}
-use Rattle.gate_model.specs.Reports.{report}
-use Rattle.gate_model.specs.Screens.{after_controls, data_byte, data_of, functions}
-use Rattle.gate_model.specs.TelnetTokens.{tokens, sent_byte, doubled}
-use Rattle.gate_model.specs.Terminal.{Terminal, opening_screen}
-use Rattle.gate_model.specs.Replies.{reports_from, reports, reply_to, replies_after}
+use Rattle.gate_model.specs.terminal.Effects.{effect}
+use Rattle.gate_model.specs.telnet.OptionAnswers.{Switches, all_off, option_answer, switches_after, switches_from}
+use Rattle.gate_model.specs.text.Reading.{read}
+use Rattle.gate_model.specs.terminal.Reports.{report}
+use Rattle.gate_model.specs.terminal.Screens.{after_controls, data_byte, data_of, functions}
+use Rattle.gate_model.specs.telnet.TelnetTokens.{tokens, sent_byte, doubled}
+use Rattle.gate_model.specs.terminal.Terminal.{Terminal, opening_screen}
+use Rattle.gate_model.specs.terminal.Replies.{reports_from, reports, reply_to, replies_after}
 
 -- no bytes, and no tokens
 pub no_tokens : tokens [] ≡ []

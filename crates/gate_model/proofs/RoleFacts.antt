@@ -4,7 +4,7 @@ use Rattle.gate_model.specs.declared.sharing.Share.TheVariants.{Nobody, View as 
 use Rattle.gate_model.specs.declared.sharing.Asked.{Asked}
 use Rattle.gate_model.specs.declared.sharing.Asked.TheVariants.{Owner, Control as ask_control, View as ask_view, Keep as ask_keep}
 use Rattle.gate_model.specs.declared.sharing.Role.TheVariants.{Control, View, Keep}
-use Rattle.gate_model.specs.Roles.{grant_of}
+use Rattle.gate_model.specs.session.Roles.{grant_of}
 
 abbrev all_asked : List Asked
 all_asked = Owner ∷ ask_control ∷ ask_view ∷ ask_keep ∷ []

@@ -2,20 +2,20 @@
 use Rattle.std.proofs.Common.{◌≡◌, [], ◌∷◌, true, false, refl, pos}
 use Rattle.std.specs.Prelude.{Some, None}
 use Rattle.bstr.proofs.Computing.{computing}
-use Rattle.gate_model.specs.Reading.{read}
-use Rattle.gate_model.specs.Palette.{colour_of}
+use Rattle.gate_model.specs.text.Reading.{read}
+use Rattle.gate_model.specs.picture.Palette.{colour_of}
 use Rattle.gate_model.specs.declared.colour.Colour.{Colour}
 use Rattle.gate_model.specs.declared.instr.Instr.TheVariants.{Size, Rect, Cfill, Copy, Sync}
 use Rattle.gate_model.specs.declared.sharing.Share.TheVariants.{Nobody}
 use Rattle.gate_model.specs.declared.sharing.Role.TheVariants.{Control}
 use Rattle.gate_model.specs.declared.how.How.TheVariants.{Suffix}
 use Rattle.gate_model.specs.declared.entry.Entry.TheVariants.{Start, Feed, Join, Read}
-use Rattle.gate_model.specs.Glyphs.{lit}
-use Rattle.gate_model.specs.Pictures.{picture}
-use Rattle.gate_model.specs.Layers.{draw, nothing, visible}
-use Rattle.gate_model.specs.Screens.{screen, shown}
-use Rattle.gate_model.specs.History.{History, next_stamp, newest, newest_frame, all_frames, upto}
-use Rattle.gate_model.specs.Delivered.{delivered, position}
+use Rattle.gate_model.specs.picture.Glyphs.{lit}
+use Rattle.gate_model.specs.picture.Pictures.{picture}
+use Rattle.gate_model.specs.picture.Layers.{draw, nothing, visible}
+use Rattle.gate_model.specs.terminal.Screens.{screen, shown}
+use Rattle.gate_model.specs.session.History.{History, next_stamp, newest, newest_frame, all_frames, upto}
+use Rattle.gate_model.specs.session.Delivered.{delivered, position}
 
 grey : Colour
 grey = record { red = 170; green = 170; blue = 170 }

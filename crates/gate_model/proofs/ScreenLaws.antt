@@ -9,21 +9,21 @@ use Rattle.gate_model.specs.declared.key.Key.{Key}
 use Rattle.gate_model.specs.declared.control.Control.{Control}
 use Rattle.gate_model.specs.declared.control.Control.TheVariants.{Print, Code, Esc, Csi}
 use Rattle.gate_model.specs.declared.control.Params.{Params}
-use Rattle.gate_model.specs.Arguments.{choice, first_amount, first_choice, listed}
-use Rattle.gate_model.specs.Pictures.{key_at, blank_key}
-use Rattle.gate_model.specs.Cells.{CellGrid, blank, with_part, place, rows_of, rest_of_row, moved_left, moved_right, erased, inserted, deleted}
-use Rattle.gate_model.specs.Cells as cells
-use Rattle.gate_model.specs.Terminal.{Pen, Saved, Terminal, opening_screen, plain}
-use Rattle.gate_model.specs.Pens.{styled_after, styled_by, is_colour, colour_size, drawn_with, pen_ink, pen_paper}
-use Rattle.gate_model.specs.TabStops.{with_stop, stops_cleared}
-use Rattle.gate_model.specs.Cursor.{returned, moved_back, moved_on, moved_up, moved_down, to_column, to_row, to_place, tabbed_on, tabbed_back, saved_cursor, restored_cursor}
-use Rattle.gate_model.specs.Editing.{blanked, cursor_place, place_count, display_erased, line_erased, characters_erased, characters_inserted, characters_deleted}
-use Rattle.gate_model.specs.Modes.{modes_set}
-use Rattle.gate_model.specs.Printing.{wrapped, opened_for, placed, printed, printed_often, repeated_as}
-use Rattle.gate_model.specs.Scrolling.{line_feed, scrolled_up, scrolled_down, is_within, are_margins, named_bottom}
-use Rattle.gate_model.specs.Effects.{act, code_effect, cursor_effect, editing_effect, effect, escape_effect, private_effect, reset, sequence_effect}
-use Rattle.gate_model.specs.TelnetTokens.{tokens}
-use Rattle.gate_model.specs.Screens.{functions, after_controls, screen, key_of, exchanged, exchanged_at, shown, IsColoured, AreColoured}
+use Rattle.gate_model.specs.terminal.Arguments.{choice, first_amount, first_choice, listed}
+use Rattle.gate_model.specs.picture.Pictures.{key_at, blank_key}
+use Rattle.gate_model.specs.terminal.Cells.{CellGrid, blank, with_part, place, rows_of, rest_of_row, moved_left, moved_right, erased, inserted, deleted}
+use Rattle.gate_model.specs.terminal.Cells as cells
+use Rattle.gate_model.specs.terminal.Terminal.{Pen, Saved, Terminal, opening_screen, plain}
+use Rattle.gate_model.specs.terminal.Pens.{styled_after, styled_by, is_colour, colour_size, drawn_with, pen_ink, pen_paper}
+use Rattle.gate_model.specs.terminal.TabStops.{with_stop, stops_cleared}
+use Rattle.gate_model.specs.terminal.Cursor.{returned, moved_back, moved_on, moved_up, moved_down, to_column, to_row, to_place, tabbed_on, tabbed_back, saved_cursor, restored_cursor}
+use Rattle.gate_model.specs.terminal.Editing.{blanked, cursor_place, place_count, display_erased, line_erased, characters_erased, characters_inserted, characters_deleted}
+use Rattle.gate_model.specs.terminal.Modes.{modes_set}
+use Rattle.gate_model.specs.terminal.Printing.{wrapped, opened_for, placed, printed, printed_often, repeated_as}
+use Rattle.gate_model.specs.terminal.Scrolling.{line_feed, scrolled_up, scrolled_down, is_within, are_margins, named_bottom}
+use Rattle.gate_model.specs.terminal.Effects.{act, code_effect, cursor_effect, editing_effect, effect, escape_effect, private_effect, reset, sequence_effect}
+use Rattle.gate_model.specs.telnet.TelnetTokens.{tokens}
+use Rattle.gate_model.specs.terminal.Screens.{functions, after_controls, screen, key_of, exchanged, exchanged_at, shown, IsColoured, AreColoured}
 
 -- a cell's ink and paper are indexes of the palette
 abbrev pub Coloured : Cell → Type 0

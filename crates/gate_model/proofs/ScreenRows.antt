@@ -3,13 +3,13 @@
 use Rattle.std.specs.Prelude.{◌≡◌, ℕ, List, [], ◌∷◌, ◌++◌, Bool, true, false, map, refl, codes, decimal}
 use Rattle.std.proofs.Common.{append-nil}
 use Rattle.bstr.proofs.Computing.{computing}
-use Rattle.gate_model.specs.Reading.{read}
-use Rattle.gate_model.specs.Printing.{printed_often}
-use Rattle.gate_model.specs.TabStops.{stops_above, stops_below}
-use Rattle.gate_model.specs.TelnetTokens.{tokens}
-use Rattle.gate_model.specs.Terminal.{Terminal}
-use Rattle.gate_model.specs.Screens.{face_of, screen}
-use Rattle.gate_model.specs.Replies.{reports}
+use Rattle.gate_model.specs.text.Reading.{read}
+use Rattle.gate_model.specs.terminal.Printing.{printed_often}
+use Rattle.gate_model.specs.terminal.TabStops.{stops_above, stops_below}
+use Rattle.gate_model.specs.telnet.TelnetTokens.{tokens}
+use Rattle.gate_model.specs.terminal.Terminal.{Terminal}
+use Rattle.gate_model.specs.terminal.Screens.{face_of, screen}
+use Rattle.gate_model.specs.terminal.Replies.{reports}
 
 -- what is seen of a screen
 pub record Seen : Type 0 where

@@ -5,17 +5,17 @@ use Rattle.std.specs.Int.{is_in_range}
 use Rattle.gate_model.specs.declared.control.Control.{Control}
 use Rattle.gate_model.specs.declared.control.Control.TheVariants.{Print, Code, Esc, Csi}
 use Rattle.gate_model.specs.declared.control.Params.{Params}
-use Rattle.gate_model.specs.Arguments.{first_amount, first_choice}
-use Rattle.gate_model.specs.Terminal.{Terminal}
-use Rattle.gate_model.specs.Cursor.{returned}
-use Rattle.gate_model.specs.Editing.{display_erased, line_erased}
-use Rattle.gate_model.specs.Printing.{wrapped, opened_for, placed, printed, printed_often, repeated_as}
-use Rattle.gate_model.specs.Reports.{report}
-use Rattle.gate_model.specs.Replies.{reports_from}
-use Rattle.gate_model.specs.Scrolling.{is_whole, scrolled_up, line_feed, reverse_line_feed, is_within, lines_inserted, lines_deleted, are_margins, with_margins}
-use Rattle.gate_model.specs.Effects.{code_effect, escape_effect, cursor_effect, editing_effect, sequence_effect, private_effect, act, clears_wrap, effect}
-use Rattle.gate_model.specs.Screens.{after_controls}
-use Rattle.gate_model.specs.ScreenLaws.{scrolled_more}
+use Rattle.gate_model.specs.terminal.Arguments.{first_amount, first_choice}
+use Rattle.gate_model.specs.terminal.Terminal.{Terminal}
+use Rattle.gate_model.specs.terminal.Cursor.{returned}
+use Rattle.gate_model.specs.terminal.Editing.{display_erased, line_erased}
+use Rattle.gate_model.specs.terminal.Printing.{wrapped, opened_for, placed, printed, printed_often, repeated_as}
+use Rattle.gate_model.specs.terminal.Reports.{report}
+use Rattle.gate_model.specs.terminal.Replies.{reports_from}
+use Rattle.gate_model.specs.terminal.Scrolling.{is_whole, scrolled_up, line_feed, reverse_line_feed, is_within, lines_inserted, lines_deleted, are_margins, with_margins}
+use Rattle.gate_model.specs.terminal.Effects.{code_effect, escape_effect, cursor_effect, editing_effect, sequence_effect, private_effect, act, clears_wrap, effect}
+use Rattle.gate_model.specs.terminal.Screens.{after_controls}
+use Rattle.gate_model.specs.terminal.ScreenLaws.{scrolled_more}
 
 -- the screen n is t with k more lines counted
 record Counted (k : ℕ) (n t : Terminal) : Type 0 where

@@ -3,7 +3,7 @@ use Rattle.std.proofs.Common.{◌≡◌, ℕ, ◌<◌, ◌≤◌, List, [], ◌�
 use Rattle.std.specs.Prelude.{encode_utf8_all}
 use Rattle.std.proofs.lemmas.Str.{encode_same}
 use lib.Utf8.{encode}
-use Rattle.gate_model.specs.Spelling.{IsDigit, AllDigits, number_of, SpellsElement, SpellsOthers, SpellsElements, SpellingsArePrefixFree}
+use Rattle.gate_model.specs.text.Spelling.{IsDigit, AllDigits, number_of, SpellsElement, SpellsOthers, SpellsElements, SpellingsArePrefixFree}
 use Rattle.gate_model.proofs.Digits.{head_same, tail_same, digits_go_on, AllDigits-rest}
 
 -- what stands behind the UTF-8 of characters, beside more characters

@@ -21,13 +21,13 @@ use Rattle.gate_model.specs.declared.write_refusal.WriteRefusal.{WriteRefusal}
 use Rattle.gate_model.specs.declared.read_answer.ReadAnswer.{ReadAnswer}
 use Rattle.gate_model.specs.declared.read_answer.ReadAnswer.TheVariants.{Frames}
 use Rattle.gate_model.specs.declared.read_refusal.ReadRefusal.{ReadRefusal}
-use Rattle.gate_model.specs.Shape.{Shape}
-use Rattle.gate_model.specs.History.{History, next_stamp, size_now, newest, all_frames, joined, share_mode, is_closed}
-use Rattle.gate_model.specs.Output.{untaken}
-use Rattle.gate_model.specs.Rights.{may}
-use Rattle.gate_model.specs.Roles.{grant_of}
-use Rattle.gate_model.specs.Refusals.{only_if, feed_refusal, join_refusal, read_stop, write_refusal, leave_refusal, close_refusal}
-use Rattle.gate_model.specs.Calls.{AreBytes, IsPiece, IsWrite, lacked, is_key_act, take_entry, Step}
+use Rattle.gate_model.specs.picture.Shape.{Shape}
+use Rattle.gate_model.specs.session.History.{History, next_stamp, size_now, newest, all_frames, joined, share_mode, is_closed}
+use Rattle.gate_model.specs.session.Output.{untaken}
+use Rattle.gate_model.specs.session.Rights.{may}
+use Rattle.gate_model.specs.session.Roles.{grant_of}
+use Rattle.gate_model.specs.session.Refusals.{only_if, feed_refusal, join_refusal, read_stop, write_refusal, leave_refusal, close_refusal}
+use Rattle.gate_model.specs.session.Calls.{AreBytes, IsPiece, IsWrite, lacked, is_key_act, take_entry, Step}
 
 -- ---- a call that nothing stops
 

@@ -3,8 +3,8 @@ use Rattle.std.proofs.Common.{◌≡◌, ℤ, ℕ, List, [], ◌∷◌, ◌++◌
 use Rattle.gate_model.specs.declared.instr.Instr.{Instr}
 use Rattle.gate_model.specs.declared.instr.Instr.TheVariants.{Size, Rect, Cfill, Copy, Sync, Disconnect, Error}
 use Rattle.gate_model.specs.Sequences.{BeginsWith}
-use Rattle.gate_model.specs.Shape.{Draws, without_layer}
-use Rattle.gate_model.specs.Delivered.{last_sync_from}
+use Rattle.gate_model.specs.picture.Shape.{Draws, without_layer}
+use Rattle.gate_model.specs.session.Delivered.{last_sync_from}
 
 -- a body holds no sync: the last sync of a frame is its own
 pub last_sync-body : (cols rows : ℕ) (unfilled : List ℤ) (body : List Instr) (t s : ℕ) → Draws cols rows unfilled body → last_sync_from s (body ++ Sync t ∷ []) ≡ t

@@ -11,10 +11,10 @@ use Rattle.std.proofs.lemmas.Str.{length-encode, len_utf8_bounds}
 use lib.Utf8.{encode}
 use lib.Dec.{leb→le}
 use Rattle.gate_model.specs.declared.instr.Instr.TheVariants.{Size, Rect, Cfill, Copy, Sync, Disconnect, Error}
-use Rattle.gate_model.specs.Text.{element, next_element, text_of_elements, refusal_text, text}
-use Rattle.gate_model.specs.Spelling.{AllDigits, IsLength, SpellsElement, SpellsOthers, Spells}
-use Rattle.gate_model.specs.Shape.{IsLayer}
-use Rattle.gate_model.specs.InstrLaws.{TextSpells}
+use Rattle.gate_model.specs.text.Text.{element, next_element, text_of_elements, refusal_text, text}
+use Rattle.gate_model.specs.text.Spelling.{AllDigits, IsLength, SpellsElement, SpellsOthers, Spells}
+use Rattle.gate_model.specs.picture.Shape.{IsLayer}
+use Rattle.gate_model.specs.picture.InstrLaws.{TextSpells}
 use Rattle.gate_model.proofs.NumeralLaws.{digits-decimal, value-decimal, short-decimal}
 
 -- a value of at most 20 characters

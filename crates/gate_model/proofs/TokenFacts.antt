@@ -1,8 +1,8 @@
 -- Worked facts of Telnet tokens, computed from the definition.
 use Rattle.std.specs.Prelude.{◌≡◌, ◌++◌, [], ◌∷◌, replicate, refl}
 use Rattle.gate_model.specs.declared.token.Token.TheVariants.{Byte, Do, Dont, Will, Wont, Sub, Single}
-use Rattle.gate_model.specs.Reading.{read}
-use Rattle.gate_model.specs.TelnetTokens.{tokens, unfinished_token, doubled}
+use Rattle.gate_model.specs.text.Reading.{read}
+use Rattle.gate_model.specs.telnet.TelnetTokens.{tokens, unfinished_token, doubled}
 
 -- an option may be 255
 option_255 : tokens (0xFF ∷ 0xFD ∷ 0xFF ∷ []) ≡ Do 0xFF ∷ []

@@ -5,9 +5,9 @@ use Rattle.std.specs.Prelude.{◌==◌, is_some}
 use Rattle.std.specs.Int.{is_in_range}
 use Rattle.gate_model.specs.declared.token.Token.{Token}
 use Rattle.gate_model.specs.declared.token.Token.TheVariants.{Byte}
-use Rattle.gate_model.specs.Reading.{read, after, IsHead}
-use Rattle.gate_model.specs.TelnetTokens.{iac, head_sub, head_option, head_command, head_token, sub_token, sent_byte, doubled}
-use Rattle.gate_model.specs.TelnetLaws.{TokensOfAnyCutting, DoubledIsData, SubnegotiationIsRead}
+use Rattle.gate_model.specs.text.Reading.{read, after, IsHead}
+use Rattle.gate_model.specs.telnet.TelnetTokens.{iac, head_sub, head_option, head_command, head_token, sub_token, sent_byte, doubled}
+use Rattle.gate_model.specs.telnet.TelnetLaws.{TokensOfAnyCutting, DoubledIsData, SubnegotiationIsRead}
 use Rattle.gate_model.proofs.Cutting.{read-whole, read-unfinished, resumes}
 use Rattle.gate_model.proofs.Heads.{carried, either, left_of, left-either}
 

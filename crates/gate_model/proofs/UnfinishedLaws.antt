@@ -10,10 +10,10 @@ use Rattle.bstr.proofs.lemmas.PieceLemmas.{value-1, value-5, value-6, value-8, v
 use Rattle.bstr.proofs.lemmas.EncodeLemmas.{decoded-encode}
 use Rattle.bstr.proofs.lemmas.SoundLemmas.{SpellsChar-decoded}
 use Rattle.bstr.proofs.lemmas.LossyLemmas.{lossy_chars-utf8_lossy}
-use Rattle.gate_model.specs.Characters.{is_unfinished, pending, settled, characters, head_char}
-use Rattle.gate_model.specs.Controls.{controls, unfinished, head_control}
-use Rattle.gate_model.specs.ControlLaws.{CharactersOfAnyCutting, ControlsOfAnyCutting, GivenControlsStay, BeginsCharacter, UnfinishedBeginsCharacter, CharactersAreLossy}
-use Rattle.gate_model.specs.Reading.{read, after}
+use Rattle.gate_model.specs.terminal.Characters.{is_unfinished, pending, settled, characters, head_char}
+use Rattle.gate_model.specs.terminal.Controls.{controls, unfinished, head_control}
+use Rattle.gate_model.specs.terminal.ControlLaws.{CharactersOfAnyCutting, ControlsOfAnyCutting, GivenControlsStay, BeginsCharacter, UnfinishedBeginsCharacter, CharactersAreLossy}
+use Rattle.gate_model.specs.text.Reading.{read, after}
 use Rattle.gate_model.proofs.Cutting.{resumes}
 use Rattle.gate_model.proofs.CharacterLaws.{unfinished-parts, fits-from, settled-pending, characters_read, head_char-is}
 use Rattle.gate_model.proofs.ControlLaws.{head_control-is}

@@ -4,7 +4,7 @@
 //!
 //! A history is the list of a session's entries. *True history*, the definition that the headline
 //! cites, says of a history that whatever any viewer was given up to a sync draws exactly the
-//! picture of the screen that the history up to that sync defines (`specs/Truth.antt`). No function
+//! picture of the screen that the history up to that sync defines (`specs/session/Truth.antt`). No function
 //! here waits, and none but the table of `statuses` computes. Limits stand in `limits`.
 #![tactic(auto)]
 

@@ -14,7 +14,7 @@ pub struct Shown {
 
 impl Model for Shown {
     ghost use Rattle.std.specs.Prelude.{◌≡◌, ◌<◌, ◌*◌, length};
-    ghost use Rattle.gate_model.specs.KeyGrid.{KeyGrid};
+    ghost use Rattle.gate_model.specs.picture.KeyGrid.{KeyGrid};
 
     ghost Value = { KeyGrid };
 

@@ -2,7 +2,7 @@
 //! codes), and the one of each refusal (this project's own).
 
 ghost use Rattle.std.specs.Prelude.{◌≡◌};
-ghost use Rattle.gate_model.specs.Statuses.{closed_status, feed_status, join_status, no_viewer_status, read_status, write_status};
+ghost use Rattle.gate_model.specs.text.Statuses.{closed_status, feed_status, join_status, no_viewer_status, read_status, write_status};
 
 use crate::{Closed, FeedRefusal, JoinRefusal, NoViewer, ReadRefusal, WriteRefusal};
 

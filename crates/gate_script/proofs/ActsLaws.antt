@@ -4,8 +4,8 @@ use Rattle.std.proofs.lemmas.List.{take_all, drop-drop, take-append-drop}
 use Rattle.gate_model.proofs.MeaningLaws.{act_in_utf8}
 use Rattle.guac_framing.specs.Answers.{IsWhole}
 use Rattle.std.specs.Prelude.{Option, Some, None}
-use Rattle.gate_model.specs.ClientMeaning.{act_of}
-use Rattle.gate_model.specs.Spelling.{Spells}
+use Rattle.gate_model.specs.text.ClientMeaning.{act_of}
+use Rattle.gate_model.specs.text.Spelling.{Spells}
 use Rattle.gate_model.specs.declared.act.Act.{Act}
 use Rattle.gate_script.specs.Acts.{HasTooMany, Splits, acts_from, acts_of, passed_from, passed_of}
 

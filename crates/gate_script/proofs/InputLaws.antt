@@ -6,7 +6,7 @@ use Rattle.std.proofs.lemmas.List.{take-append-drop, reverse-append, reverse-rev
 use Rattle.std.proofs.lemmas.Bool.{lt-ltb}
 use Rattle.std.proofs.Math.Seq.{take-add}
 use Rattle.gate_model.specs.Sequences.{IsLater}
-use Rattle.gate_model.specs.Reading.{read as read_stream, after}
+use Rattle.gate_model.specs.text.Reading.{read as read_stream, after}
 use Rattle.gate_model.proofs.Cutting.{resumes, read-whole, read-unfinished}
 use Rattle.std.specs.Prelude.{◌⊎◌, ◌^◌}
 use Rattle.gate_outside.specs.Edge.{AtEnd, came, Rose}

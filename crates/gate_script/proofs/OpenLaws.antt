@@ -18,10 +18,10 @@ use Rattle.gate_model.specs.declared.read_answer.ReadAnswer.{ReadAnswer}
 use Rattle.gate_model.specs.declared.read_answer.ReadAnswer.TheVariants.{Frames, Fresh, Ended, Empty, Hold}
 use Rattle.gate_model.specs.declared.sharing.Asked.{Asked}
 use Rattle.gate_model.specs.declared.written.Written.{Written}
-use Rattle.gate_model.specs.Calls.{Step}
-use Rattle.gate_model.specs.History.{History, capacity, is_full}
+use Rattle.gate_model.specs.session.Calls.{Step}
+use Rattle.gate_model.specs.session.History.{History, capacity, is_full}
 use Rattle.gate_model.specs.Limits.{most_entries}
-use Rattle.gate_model.specs.Refusals.{close_cause, first_of, only_if}
+use Rattle.gate_model.specs.session.Refusals.{close_cause, first_of, only_if}
 use Rattle.gate_model.proofs.Added.{Reads, added}
 use Rattle.gate_model.proofs.Bounds.{bounds_of}
 use Rattle.desk_core.specs.Desk.{DeskState, Stands}

@@ -7,7 +7,7 @@ use Rattle.std.proofs.lemmas.List.Folds.{prefix_len-append}
 use Rattle.std.proofs.lemmas.List.Sums.{prefix_len-le-length}
 use Rattle.std.proofs.lemmas.Bool.{leb-true, leb-false, le-leb, lt-leb, ltb-false, eq-eqb}
 use Rattle.std.proofs.lemmas.Bool.Decides.{nat_tests, eqb_tells}
-use Rattle.gate_model.specs.Reading.{IsHead}
+use Rattle.gate_model.specs.text.Reading.{IsHead}
 use Rattle.gate_script.specs.Pieces.{is_line_feed, piece_size, first_piece}
 
 -- the bytes before the first line feed

@@ -8,13 +8,13 @@ use Rattle.std.proofs.Math.Seq.{take-append_seam, drop-append_seam}
 use Rattle.std.proofs.Math.Dec.{le→leb}
 use Rattle.gate_model.specs.declared.instr.Instr.{Instr}
 use Rattle.gate_model.specs.declared.instr.Instr.TheVariants.{Sync, Disconnect}
-use Rattle.gate_model.specs.Layers.{Layers, play, draw}
-use Rattle.gate_model.specs.Shape.{IsLayer}
-use Rattle.gate_model.specs.Spelling.{SpellsElements, Spells, number_of}
-use Rattle.gate_model.specs.Text.{elements_of, text, texts}
-use Rattle.gate_model.specs.Numerals.{value_at, is_number, number_within, number_of_bits, layer_of}
-use Rattle.gate_model.specs.ServerMeaning.{extent_of, over_of, opaque_of, size_instr, rect_instr, cfill_instr, copy_instr, error_instr, instr_named, instr_of}
-use Rattle.gate_model.specs.Shape.{IsInRange}
+use Rattle.gate_model.specs.picture.Layers.{Layers, play, draw}
+use Rattle.gate_model.specs.picture.Shape.{IsLayer}
+use Rattle.gate_model.specs.text.Spelling.{SpellsElements, Spells, number_of}
+use Rattle.gate_model.specs.text.Text.{elements_of, text, texts}
+use Rattle.gate_model.specs.text.Numerals.{value_at, is_number, number_within, number_of_bits, layer_of}
+use Rattle.gate_model.specs.text.ServerMeaning.{extent_of, over_of, opaque_of, size_instr, rect_instr, cfill_instr, copy_instr, error_instr, instr_named, instr_of}
+use Rattle.gate_model.specs.picture.Shape.{IsInRange}
 use Rattle.gate_model.proofs.Drawing.{draw-append}
 use Rattle.gate_model.proofs.Spelt.{prefix_free}
 use Rattle.gate_model.proofs.TextLaws.{text_spells}
@@ -26,7 +26,7 @@ use Rattle.guac_framing.specs.declared.next.Next.{Next}
 use Rattle.guac_framing.specs.declared.next.Next.TheVariants.{More, Bad}
 use Rattle.guac_framing.specs.Answers.{IfBad, IfMore, IsWhole}
 use Rattle.guac_framing.specs.Found.{HasNoInstruction, IsBadPlace, IsUnfinished}
-use Rattle.gate_model.specs.Shape.{AreReadable}
+use Rattle.gate_model.specs.picture.Shape.{AreReadable}
 use Rattle.gate_script.specs.Playing.{IsPartPlayed}
 
 -- ---- the instruction at the front of a text

@@ -33,15 +33,15 @@ use Rattle.gate_model.specs.declared.read_refusal.ReadRefusal.TheVariants.{Worn 
 use Rattle.gate_model.specs.declared.write_refusal.WriteRefusal.{WriteRefusal}
 use Rattle.gate_model.specs.declared.write_refusal.WriteRefusal.TheVariants.{Worn as write_worn}
 use Rattle.gate_model.specs.Sequences.{BeginsWith}
-use Rattle.gate_model.specs.Text.{texts}
-use Rattle.gate_model.specs.History.{History, joined, newest, newest_frame, next_stamp, is_closed}
-use Rattle.gate_model.specs.Delivered.{delivered, given}
-use Rattle.gate_model.specs.Output.{out, taken, untaken}
-use Rattle.gate_model.specs.Rights.{is_live}
-use Rattle.gate_model.specs.Statuses.{not_found, session_closed}
-use Rattle.gate_model.specs.Calls.{Step, take_entry}
+use Rattle.gate_model.specs.text.Text.{texts}
+use Rattle.gate_model.specs.session.History.{History, joined, newest, newest_frame, next_stamp, is_closed}
+use Rattle.gate_model.specs.session.Delivered.{delivered, given}
+use Rattle.gate_model.specs.session.Output.{out, taken, untaken}
+use Rattle.gate_model.specs.session.Rights.{is_live}
+use Rattle.gate_model.specs.text.Statuses.{not_found, session_closed}
+use Rattle.gate_model.specs.session.Calls.{Step, take_entry}
 use Rattle.gate_model.proofs.Stepping.{take_step}
-use Rattle.gate_model.specs.Runs.{handed_out}
+use Rattle.gate_model.specs.session.Runs.{handed_out}
 use Rattle.gate_model.proofs.Truth.{faithful}
 use Rattle.gate_outside.specs.Edge.{gained}
 use Rattle.gate_outside.proofs.Moved.{gained-none, gained-gained}
@@ -67,8 +67,8 @@ use Rattle.canvas.specs.Standing.{Stands as stands_for, dot_at}
 use Rattle.canvas.specs.declared.dot.Dot.{Dot}
 use Rattle.gate_script.specs.declared.reading.Reading.TheVariants.{Whole, TooMany}
 use Rattle.gate_script.specs.Acts.{IsReading}
-use Rattle.gate_model.specs.Shape.{AreReadable}
-use Rattle.gate_model.specs.Layers.{Layers, Same, draw, nothing, visible}
+use Rattle.gate_model.specs.picture.Shape.{AreReadable}
+use Rattle.gate_model.specs.picture.Layers.{Layers, Same, draw, nothing, visible}
 use Rattle.gate_script.specs.declared.session.Session.{Session}
 
 abbrev pub play : ℕ → History → Play

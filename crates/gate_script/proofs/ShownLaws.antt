@@ -11,15 +11,15 @@ use Rattle.gate_model.specs.declared.instr.Instr.{Instr}
 use Rattle.gate_model.specs.declared.sharing.Role.{Role}
 use Rattle.gate_model.specs.declared.entry.Entry.{Entry}
 use Rattle.gate_model.specs.declared.entry.Entry.TheVariants.{Join, Read, Leave}
-use Rattle.gate_model.specs.Entries.{joins, leaves}
-use Rattle.gate_model.specs.Layers.{draw, nothing}
-use Rattle.gate_model.specs.Text.{texts}
-use Rattle.gate_model.specs.History.{History, joined}
-use Rattle.gate_model.specs.Delivered.{delivered, given, handed, closing, position}
-use Rattle.gate_model.specs.Rights.{is_live}
+use Rattle.gate_model.specs.session.Entries.{joins, leaves}
+use Rattle.gate_model.specs.picture.Layers.{draw, nothing}
+use Rattle.gate_model.specs.text.Text.{texts}
+use Rattle.gate_model.specs.session.History.{History, joined}
+use Rattle.gate_model.specs.session.Delivered.{delivered, given, handed, closing, position}
+use Rattle.gate_model.specs.session.Rights.{is_live}
 use Rattle.gate_model.proofs.Drawing.{draw-append}
 use Rattle.gate_model.proofs.Truth.{facts_of}
-use Rattle.gate_model.specs.Shape.{AreReadable}
+use Rattle.gate_model.specs.picture.Shape.{AreReadable}
 use Rattle.desk_core.specs.Desk.{DeskState, Stands}
 use Rattle.desk_core.proofs.Readables.{given_readable}
 use Rattle.canvas.specs.Kept.{KeptLayer}

@@ -25,12 +25,12 @@ use Rattle.gate_model.specs.declared.read_refusal.ReadRefusal.TheVariants.{NoVie
 use Rattle.gate_model.specs.declared.sharing.Asked.{Asked}
 use Rattle.gate_model.specs.declared.write_refusal.WriteRefusal.{WriteRefusal}
 use Rattle.gate_model.specs.declared.written.Written.{Written}
-use Rattle.gate_model.specs.Calls.{Adds, Step, lacked, stop_of, take_entry}
-use Rattle.gate_model.specs.Delivered.{position, ended}
-use Rattle.gate_model.specs.History.{History, newest, next_stamp, joined, all_frames, is_closed, is_full}
-use Rattle.gate_model.specs.Output.{untaken}
-use Rattle.gate_model.specs.Refusals.{only_if, first_of, feed_refusal, join_refusal, write_refusal, leave_refusal, close_refusal}
-use Rattle.gate_model.specs.Rights.{is_live}
+use Rattle.gate_model.specs.session.Calls.{Adds, Step, lacked, stop_of, take_entry}
+use Rattle.gate_model.specs.session.Delivered.{position, ended}
+use Rattle.gate_model.specs.session.History.{History, newest, next_stamp, joined, all_frames, is_closed, is_full}
+use Rattle.gate_model.specs.session.Output.{untaken}
+use Rattle.gate_model.specs.session.Refusals.{only_if, first_of, feed_refusal, join_refusal, write_refusal, leave_refusal, close_refusal}
+use Rattle.gate_model.specs.session.Rights.{is_live}
 
 -- ---- in general
 

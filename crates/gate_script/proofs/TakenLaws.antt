@@ -14,10 +14,10 @@ use Rattle.gate_model.specs.declared.entry.Entry.TheVariants.{Take}
 use Rattle.gate_model.specs.declared.event.Event.{Event}
 use Rattle.gate_model.specs.declared.event.Event.TheVariants.{Feed as feed, Join as join_in, Read as read_as, Write as write_acts, Take as take_most, Leave as leave_as, Close as close_for}
 use Rattle.gate_model.specs.declared.setup.Setup.{Setup}
-use Rattle.gate_model.specs.Entries.{taken_by}
-use Rattle.gate_model.specs.History.{History, newest, is_closed}
-use Rattle.gate_model.specs.Output.{out, sent, taken, untaken}
-use Rattle.gate_model.specs.Calls.{Step, take_entry}
+use Rattle.gate_model.specs.session.Entries.{taken_by}
+use Rattle.gate_model.specs.session.History.{History, newest, is_closed}
+use Rattle.gate_model.specs.session.Output.{out, sent, taken, untaken}
+use Rattle.gate_model.specs.session.Calls.{Step, take_entry}
 use Rattle.gate_script.specs.declared.reading.Reading.{Reading}
 use Rattle.gate_script.specs.declared.reading.Reading.TheVariants.{Whole, Cut, Bad, TooMany}
 use Rattle.gate_script.specs.Hexadecimal.{digits_of, lower_digit}

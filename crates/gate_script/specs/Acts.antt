@@ -1,9 +1,9 @@
 -- What the text of a script's line `write N TEXT` says (this project's own): instructions of a client (the
 -- Guacamole manual, "The Guacamole protocol"), one after the other. An instruction is the list of its elements.
 use Rattle.std.specs.Prelude.{◌≡◌, ◌≢◌, ℕ, ◌+◌, ◌≤◌, List, [], ◌∷◌, ◌++◌, length, Option, Some, None}
-use Rattle.gate_model.specs.Calls.{IsWrite}
-use Rattle.gate_model.specs.ClientMeaning.{act_of}
-use Rattle.gate_model.specs.Spelling.{Spells}
+use Rattle.gate_model.specs.session.Calls.{IsWrite}
+use Rattle.gate_model.specs.text.ClientMeaning.{act_of}
+use Rattle.gate_model.specs.text.Spelling.{Spells}
 use Rattle.gate_model.specs.declared.act.Act.{Act}
 use Rattle.guac_framing.specs.Found.{IsUnfinished, IsBadAt}
 use Rattle.guac_framing.specs.declared.next.BadAt.{BadAt}

@@ -1,7 +1,7 @@
 -- Which of a run's lines a script's line is (this project's own).
 use Rattle.std.specs.Prelude.{ℕ, ◌≤◌, length}
 use Rattle.gate_model.specs.Limits.{most_piece}
-use Rattle.gate_model.specs.Steps.{IsScreenSize}
+use Rattle.gate_model.specs.session.Steps.{IsScreenSize}
 use Rattle.gate_script.specs.declared.line.Call.{Call}
 use Rattle.gate_script.specs.declared.line.Call.TheVariants.{Server, Join, Read, Write, Take, Leave, Close, Pixel, Same}
 use Rattle.gate_script.specs.declared.line.Line.{Line as Said}

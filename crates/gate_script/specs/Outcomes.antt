@@ -3,7 +3,7 @@ use Rattle.std.specs.Prelude.{◌≡◌, ℕ, ◌+◌, List, [], ◌∷◌, ◌+
 use Rattle.gate_model.specs.declared.answer.Answer.{Answer}
 use Rattle.gate_model.specs.declared.event.Event.{Event}
 use Rattle.gate_model.specs.Sequences.{IsLater, BeginsWith}
-use Rattle.gate_model.specs.Calls.{Step}
+use Rattle.gate_model.specs.session.Calls.{Step}
 use Rattle.gate_outside.specs.Edge.{AtEnd, came, gained}
 use Rattle.gate_script.specs.declared.form.Form.{Form}
 use Rattle.gate_script.specs.declared.refused.Refused.{Refused}

@@ -2,7 +2,7 @@
 -- bytes, or at the end of the input.
 use Rattle.std.specs.Prelude.{ℕ, ◌+◌, min, List, [], ◌∷◌, ◌++◌, length, take, drop, Some, None, Bool, ◌==◌, nat_le, if◌then◌else◌}
 use Rattle.std.specs.List.{position_or_len}
-use Rattle.gate_model.specs.Reading.{Head, read}
+use Rattle.gate_model.specs.text.Reading.{Head, read}
 
 abbrev pub is_line_feed : ℕ → Bool
 is_line_feed byte = byte == 10

@@ -1,7 +1,7 @@
 -- How far instructions were played on a canvas (this project's own).
 use Rattle.std.specs.Prelude.{◌≡◌, List, ◌++◌}
 use Rattle.gate_model.specs.declared.instr.Instr.{Instr}
-use Rattle.gate_model.specs.Layers.{Layers, draw}
+use Rattle.gate_model.specs.picture.Layers.{Layers, draw}
 use Rattle.canvas.specs.Kept.{KeptLayer}
 use Rattle.canvas.specs.Standing.{Stands}
 

@@ -13,19 +13,19 @@ use Rattle.gate_model.specs.declared.sharing.Share.{Share}
 use Rattle.gate_model.specs.declared.act.Act.{Act}
 use Rattle.gate_model.specs.declared.written.Written.{Written}
 use Rattle.gate_model.specs.declared.write_refusal.WriteRefusal.{WriteRefusal}
-use Rattle.gate_model.specs.Layers.{Layers, Same, draw, nothing, visible}
-use Rattle.gate_model.specs.History.{History, newest, next_stamp}
-use Rattle.gate_model.specs.Delivered.{delivered}
-use Rattle.gate_model.specs.Output.{out, taken}
-use Rattle.gate_model.specs.Rights.{is_live}
+use Rattle.gate_model.specs.picture.Layers.{Layers, Same, draw, nothing, visible}
+use Rattle.gate_model.specs.session.History.{History, newest, next_stamp}
+use Rattle.gate_model.specs.session.Delivered.{delivered}
+use Rattle.gate_model.specs.session.Output.{out, taken}
+use Rattle.gate_model.specs.session.Rights.{is_live}
 use Rattle.canvas.specs.Standing.{dot_at}
 use Rattle.gate_script.specs.declared.reading.Reading.{Reading}
 use Rattle.gate_script.specs.declared.reading.Reading.TheVariants.{Whole, Cut, Bad, TooMany}
 use Rattle.gate_script.specs.Acts.{IsReading}
-use Rattle.gate_model.specs.Statuses.{not_found}
-use Rattle.gate_model.specs.Steps.{Legal, StartStep}
-use Rattle.gate_model.specs.Calls.{Step}
-use Rattle.gate_model.specs.Truth.{Faithful}
+use Rattle.gate_model.specs.text.Statuses.{not_found}
+use Rattle.gate_model.specs.session.Steps.{Legal, StartStep}
+use Rattle.gate_model.specs.session.Calls.{Step}
+use Rattle.gate_model.specs.session.Truth.{Faithful}
 use Rattle.gate_script.specs.declared.size.Size.{Size}
 use Rattle.gate_script.specs.Lines.{Line, blank, bad, moment, start, server, join, read, write, take_up_to, leave, close, pixel, same, read_untold, acknowledge, done}
 use Rattle.gate_script.specs.Told.{answer_line, answer_to, framings, refused_line, text_answer, cut_line, bad_text_line, pixel_line, same_line, differ_line, took_line}

@@ -4,10 +4,10 @@ use Rattle.std.specs.Prelude.{◌≡◌, ℕ, ◌*◌, ◌≤◌, Bool, List, []
 use Rattle.std.specs.List.{list_any}
 use Rattle.std.specs.Option.{is_some}
 use Rattle.gate_model.specs.Sequences.{IsLater, BeginsWith}
-use Rattle.gate_model.specs.Reading.{read as read_stream}
+use Rattle.gate_model.specs.text.Reading.{read as read_stream}
 use Rattle.gate_model.specs.declared.read_answer.ReadAnswer.{ReadAnswer}
 use Rattle.gate_model.specs.declared.read_answer.ReadAnswer.TheVariants.{Frames, Fresh}
-use Rattle.gate_model.specs.History.{History}
+use Rattle.gate_model.specs.session.History.{History}
 use Rattle.gate_model.specs.Limits.{most_entries}
 use Rattle.gate_outside.specs.Edge.{AtEnd, came, gained, GainedFront}
 use Rattle.desk_core.specs.Desk.{DeskState, IsKept, Stands}

@@ -3,13 +3,13 @@
 use Rattle.std.specs.Prelude.{◌≡◌, ◌≢◌, ℕ, ◌-◌, ◌==◌, List, length, slice_index_or, if◌then◌else◌, Option, None, IfSome}
 use Rattle.std.specs.Option.{is_some}
 use Rattle.gate_model.specs.declared.instr.Instr.{Instr}
-use Rattle.gate_model.specs.History.{History, joined}
-use Rattle.gate_model.specs.Layers.{Layers, draw}
-use Rattle.gate_model.specs.Rights.{is_live}
-use Rattle.gate_model.specs.Text.{texts}
+use Rattle.gate_model.specs.session.History.{History, joined}
+use Rattle.gate_model.specs.picture.Layers.{Layers, draw}
+use Rattle.gate_model.specs.session.Rights.{is_live}
+use Rattle.gate_model.specs.text.Text.{texts}
 use Rattle.canvas.specs.Kept.{KeptLayer}
 use Rattle.canvas.specs.Standing.{Stands}
-use Rattle.gate_model.specs.Shape.{AreReadable}
+use Rattle.gate_model.specs.picture.Shape.{AreReadable}
 use Rattle.gate_script.specs.Plays.{seen}
 
 abbrev pub Canvases : Type 0

@@ -20,15 +20,15 @@ use Rattle.gate_model.specs.declared.read_refusal.ReadRefusal.TheVariants.{NoVie
 use Rattle.gate_model.specs.declared.write_refusal.WriteRefusal.{WriteRefusal}
 use Rattle.gate_model.specs.declared.write_refusal.WriteRefusal.TheVariants.{NoViewer as write_no_viewer, Closed as write_closed, Worn as write_worn}
 use Rattle.gate_model.specs.declared.written.Written.{Written}
-use Rattle.gate_model.specs.Statuses.{not_found, session_closed, forbidden, too_many}
-use Rattle.gate_model.specs.Text.{texts}
+use Rattle.gate_model.specs.text.Statuses.{not_found, session_closed, forbidden, too_many}
+use Rattle.gate_model.specs.text.Text.{texts}
 use Rattle.guac_framing.specs.declared.next.BadAt.{BadAt}
 use Rattle.guac_framing.specs.declared.next.BadKind.{BadKind}
 use Rattle.guac_framing.specs.declared.next.BadKind.TheVariants.{Digit, Length, Separator, Utf8, TooMany, TooLong}
 use Rattle.canvas.specs.declared.dot.Dot.{Dot}
 use Rattle.canvas.specs.declared.dot.Dot.TheVariants.{Outside, Clear, Painted}
-use Rattle.gate_model.specs.History.{History}
-use Rattle.gate_model.specs.Delivered.{delivered, given}
+use Rattle.gate_model.specs.session.History.{History}
+use Rattle.gate_model.specs.session.Delivered.{delivered, given}
 use Rattle.gate_script.specs.Hexadecimal.{digits_of}
 
 abbrev pub blank_and : ℕ → List ℕ

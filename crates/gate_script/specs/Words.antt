@@ -1,7 +1,7 @@
 -- The words of the program (this project's own): `draw COLS ROWS`, `script`, `script ENTRIES`.
 use Rattle.std.specs.Prelude.{ℕ, ◌*◌, ◌≤◌, List, [], ◌∷◌, Bool, ◌&&◌, nat_le, if◌then◌else◌, Option, Some, None, codes, bytes_eq}
 use Rattle.gate_model.specs.Limits.{most_columns, most_rows, most_cells, most_entries}
-use Rattle.gate_model.specs.Steps.{IsScreenSize}
+use Rattle.gate_model.specs.session.Steps.{IsScreenSize}
 use Rattle.gate_script.specs.declared.form.Form.{Form}
 use Rattle.gate_script.specs.declared.form.Form.TheVariants.{Draw, Script}
 use Rattle.gate_script.specs.declared.size.Size.{Size}

@@ -1,13 +1,13 @@
 //! What a viewer sees: the text that it was given, read and played on a canvas.
 
 ghost use Rattle.std.specs.Prelude.{◌≡◌, ◌++◌, ◌≤◌, ℕ, List, Some, length, IfOk, OnErr, OnOk};
-ghost use Rattle.gate_model.specs.Shape.{IsInRange};
-ghost use Rattle.gate_model.specs.Layers.{Layers, draw, nothing, play};
-ghost use Rattle.gate_model.specs.ServerMeaning.{instr_of};
-ghost use Rattle.gate_model.specs.Text.{text, texts};
+ghost use Rattle.gate_model.specs.picture.Shape.{IsInRange};
+ghost use Rattle.gate_model.specs.picture.Layers.{Layers, draw, nothing, play};
+ghost use Rattle.gate_model.specs.text.ServerMeaning.{instr_of};
+ghost use Rattle.gate_model.specs.text.Text.{text, texts};
 ghost use Rattle.gate_model.specs.declared.instr.Instr.{Instr};
 ghost use Rattle.canvas.specs.Standing.{Stands};
-ghost use Rattle.gate_model.specs.Shape.{AreReadable};
+ghost use Rattle.gate_model.specs.picture.Shape.{AreReadable};
 ghost use Rattle.gate_script.specs.Playing.{IsPartPlayed};
 
 use canvas::Canvas;

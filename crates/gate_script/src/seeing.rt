@@ -2,7 +2,7 @@
 
 ghost use Rattle.std.specs.Prelude.{◌≡◌, ◌&&◌, ◌↔◌, IfSome, IsTrue};
 ghost use Rattle.std.specs.Option.{is_some, option_map};
-ghost use Rattle.gate_model.specs.Layers.{Layers, Same, visible};
+ghost use Rattle.gate_model.specs.picture.Layers.{Layers, Same, visible};
 ghost use Rattle.canvas.specs.Standing.{Stands, dot_at};
 ghost use Rattle.gate_script.specs.Seeing.{canvas_at};
 

@@ -2,7 +2,7 @@
 
 ghost use Rattle.std.specs.Prelude.{◌≡◌, ◌≢◌, ◌+◌, ◌≤◌, ◌⊎◌, [], ◌∷◌, ℕ, List, Option, length, IfOk, IfErr, OnOk};
 ghost use Rattle.gate_model.specs.Limits.{most_entries};
-ghost use Rattle.gate_model.specs.Steps.{IsScreenSize};
+ghost use Rattle.gate_model.specs.session.Steps.{IsScreenSize};
 ghost use Rattle.gate_outside.specs.Edge.{Rose};
 ghost use Rattle.gate_script.specs.Plays.{setup_of};
 
@@ -38,7 +38,7 @@ impl Session {
     ghost use Rattle.gate_model.specs.declared.sharing.Share.{Share as Shared};
     ghost use Rattle.desk_core.specs.Calls.{Opened};
     ghost use Rattle.gate_script.specs.declared.size.Size.{Size as Sized};
-    ghost use Rattle.gate_model.specs.Calls.{IsWrite};
+    ghost use Rattle.gate_model.specs.session.Calls.{IsWrite};
     ghost use Rattle.gate_script.specs.declared.reading.Reading.TheVariants.{Whole};
     ghost use Rattle.gate_script.specs.declared.stop.Stop.TheVariants.{ReadFault, WriteFault};
     ghost use Rattle.gate_script.specs.Acts.{IsReading};

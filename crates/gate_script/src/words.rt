@@ -1,7 +1,7 @@
 //! The words of the program, read by hand.
 
 ghost use Rattle.std.specs.Prelude.{◌≡◌, map, string_bytes, IfSome};
-ghost use Rattle.gate_model.specs.Steps.{IsScreenSize};
+ghost use Rattle.gate_model.specs.session.Steps.{IsScreenSize};
 ghost use Rattle.gate_script.specs.Words.{IsForm, counted, drawing, form_of, size_of, sized};
 
 use crate::form::Form;

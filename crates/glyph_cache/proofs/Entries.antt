@@ -8,7 +8,7 @@ use Rattle.std.proofs.lemmas.Map.Keys.{IsDistinct-cons, IsDistinct-head, IsDisti
 use Rattle.lru.specs.LruCache.{promoted}
 use Rattle.lru.proofs.CallerLemmas.{Contains-lookup_entry}
 use Rattle.gate_model.specs.declared.key.Key.{Key}
-use Rattle.gate_model.specs.Buffers.{is_held, is_same_key}
+use Rattle.gate_model.specs.picture.Buffers.{is_held, is_same_key}
 use Rattle.glyph_cache.specs.Cache.{without}
 use Rattle.glyph_cache.specs.declared.hash_key.HashKey.{HashKey}
 use Rattle.glyph_cache.specs.Tied.{is_equal, keys_in}

@@ -2,7 +2,7 @@
 use Rattle.std.proofs.Common.{◌≡◌, ◌==◌, ℕ, Bool, true, false, ◌&&◌, ◌||◌, not, refl, sym, ap, rules, arith, true≢false}
 use Rattle.std.specs.Cmp.{IsEquivalence, decided}
 use Rattle.gate_model.specs.declared.key.Key.{Key}
-use Rattle.gate_model.specs.Buffers.{is_same_key}
+use Rattle.gate_model.specs.picture.Buffers.{is_same_key}
 use Rattle.glyph_cache.specs.declared.hash_key.HashKey.{HashKey}
 use Rattle.glyph_cache.specs.Tied.{is_equal}
 

@@ -4,7 +4,7 @@ use Rattle.std.specs.Prelude.{Some, None, slice_get, slice_set}
 use Rattle.std.specs.List.{AllByRecursion, IsDistinct}
 use Rattle.std.proofs.lemmas.Map.Keys.{IsDistinct-cons}
 use Rattle.gate_model.specs.declared.key.Key.{Key}
-use Rattle.gate_model.specs.Buffers.{Buffers, is_held, is_same_key}
+use Rattle.gate_model.specs.picture.Buffers.{Buffers, is_held, is_same_key}
 use Rattle.glyph_cache.proofs.Keys.{same_is, same_refl}
 
 -- a key that is held has a number

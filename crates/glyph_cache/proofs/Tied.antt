@@ -12,8 +12,8 @@ use Rattle.std.proofs.lemmas.List.{map-append}
 use Rattle.std.proofs.lemmas.List.Elements.{All-set, All-append}
 use Rattle.lru.specs.LruCache.{LruCache, lru_cache, promoted, put_entries}
 use Rattle.gate_model.specs.declared.key.Key.{Key}
-use Rattle.gate_model.specs.Buffers.{Buffers, is_held, is_same_key}
-use Rattle.gate_model.specs.Screens.{AreColoured, IsColoured}
+use Rattle.gate_model.specs.picture.Buffers.{Buffers, is_held, is_same_key}
+use Rattle.gate_model.specs.terminal.Screens.{AreColoured, IsColoured}
 use Rattle.glyph_cache.specs.Cache.{CacheState, IsCache, IsTaken, without}
 use Rattle.glyph_cache.specs.declared.hash_key.HashKey.{HashKey}
 use Rattle.glyph_cache.specs.Tied.{IsTied, is_equal, keys_in}

@@ -2,8 +2,8 @@
 use Rattle.std.specs.Prelude.{◌≡◌, ℕ, ◌<◌, ◌≤◌, List, [], ◌∷◌, ◌++◌, length, take, filter, Bool, not, false, Some, slice_get, slice_set}
 use Rattle.std.specs.List.{IsDistinct}
 use Rattle.gate_model.specs.declared.key.Key.{Key}
-use Rattle.gate_model.specs.Buffers.{Buffers, is_held, is_same_key}
-use Rattle.gate_model.specs.Screens.{AreColoured}
+use Rattle.gate_model.specs.picture.Buffers.{Buffers, is_held, is_same_key}
+use Rattle.gate_model.specs.terminal.Screens.{AreColoured}
 use Rattle.glyph_cache.specs.declared.slot.SlotKind.{SlotKind}
 use Rattle.glyph_cache.specs.declared.slot.SlotKind.TheVariants.{Held, Made, Reused}
 

@@ -4,8 +4,8 @@ use Rattle.std.specs.List.{IsDistinct}
 use Rattle.std.specs.Map.{lookup, keys_of}
 use Rattle.lru.specs.LruCache.{LruCache}
 use Rattle.gate_model.specs.declared.key.Key.{Key}
-use Rattle.gate_model.specs.Buffers.{Buffers, is_same_key}
-use Rattle.gate_model.specs.Screens.{AreColoured}
+use Rattle.gate_model.specs.picture.Buffers.{Buffers, is_same_key}
+use Rattle.gate_model.specs.terminal.Screens.{AreColoured}
 use Rattle.glyph_cache.specs.declared.hash_key.HashKey.{HashKey}
 
 abbrev pub is_equal : HashKey → HashKey → Bool

@@ -1,7 +1,7 @@
 ghost use Rattle.std.specs.Prelude.{◌≡◌, ◌↔◌, ◌<◌, ℕ, negsuc, [], ◌∷◌, ◌++◌, length, Some, true, false, slice_get, IfOk, IfSome, IfNone, IsNone, IsOk, OnOk, OnErr};
 ghost use Rattle.std.specs.NonZero.{non_zero_usize_get};
-ghost use Rattle.gate_model.specs.Buffers.{buffer_key, is_held};
-ghost use Rattle.gate_model.specs.Screens.{IsColoured};
+ghost use Rattle.gate_model.specs.picture.Buffers.{buffer_key, is_held};
+ghost use Rattle.gate_model.specs.terminal.Screens.{IsColoured};
 ghost use Rattle.glyph_cache.specs.Cache.{Gets, IsCache, IsTaken, IsUsed, without};
 ghost use Rattle.glyph_cache.specs.declared.slot.SlotKind.TheVariants.{Made, Reused};
 

@@ -9,8 +9,8 @@ use Rattle.std.proofs.lemmas.List.Kept.{AllPairs-cons}
 use Rattle.std.proofs.lemmas.Grind.{common_steps}
 use Rattle.std.proofs.lemmas.Nat.{one_shl}
 use Rattle.glyph_table.specs.declared.patch.Patch.{Patch}
-use Rattle.gate_model.specs.Font.{font, box}
-use Rattle.gate_model.specs.Glyphs.{columns_of, lit}
+use Rattle.gate_model.specs.picture.Font.{font, box}
+use Rattle.gate_model.specs.picture.Glyphs.{columns_of, lit}
 use Rattle.glyph_table.specs.GlyphRects.{IsApart, IsInside, covers, first_bit, end_bit, without_run, run_rect, underline, rects, all_rects, columns_rects, column_rects, runs_within}
 use Rattle.glyph_table.proofs.GlyphTests.{all_below, both_or_neither, in_columns, covers_pixel, covers_all, is_before, all_before, is_inside, rects_pass, glyph_passes, font_passes, box_passes, left_after, column_passes, columns_pass}
 

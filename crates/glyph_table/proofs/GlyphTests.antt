@@ -3,8 +3,8 @@ use Rattle.std.proofs.Common.{◌≡◌, ℕ, zero, suc, ◌+◌, ◌-◌, ◌/�
 use lib.Count.{count_trailing_zeros}
 use Rattle.std.specs.List.{list_any, list_all}
 use Rattle.glyph_table.specs.declared.patch.Patch.{Patch}
-use Rattle.gate_model.specs.Font.{font, box}
-use Rattle.gate_model.specs.Glyphs.{bit_of}
+use Rattle.gate_model.specs.picture.Font.{font, box}
+use Rattle.gate_model.specs.picture.Glyphs.{bit_of}
 use Rattle.glyph_table.specs.GlyphRects.{covers, first_bit, end_bit, without_run, all_rects, columns_rects, column_rects, runs_within}
 
 unfoldable pub all_below : (ℕ → Bool) → ℕ → Bool

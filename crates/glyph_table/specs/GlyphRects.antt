@@ -2,7 +2,7 @@
 use Rattle.std.specs.Prelude.{ℕ, zero, suc, ◌+◌, ◌-◌, ◌*◌, ◌^◌, ◌≤◌, List, [], ◌∷◌, ◌++◌, Bool, ◌&&◌, ◌==◌, nat_le, nat_lt, IsTrue, slice_index, if◌then◌else◌, bit_and}
 use Rattle.std.specs.Int.{w8, trailing_zeros}
 use Rattle.glyph_table.specs.declared.patch.Patch.{Patch}
-use Rattle.gate_model.specs.Glyphs.{columns_of}
+use Rattle.gate_model.specs.picture.Glyphs.{columns_of}
 
 -- whether the rectangle has the pixel x, y of its cell
 abbrev pub covers : Patch → ℕ → ℕ → Bool

@@ -1,7 +1,7 @@
 //! The palette and the font (this project's own), and what they make of a key: colours, lit pixels
 //! and rectangles.
 //!
-//! The tables here are proved to be those of gate_model's `specs/Palette.antt` and `specs/Font.antt`,
+//! The tables here are proved to be those of gate_model's `specs/picture/Palette.antt` and `specs/picture/Font.antt`,
 //! which define the picture. The rectangles of a glyph are those of `specs/GlyphRects.antt`. The tables
 //! are statics: a read of a constant's element copies the whole table.
 #![tactic(auto)]

@@ -1,7 +1,7 @@
 ghost use Rattle.std.specs.Prelude.{◌≡◌, ◌+◌, ◌-◌, ◌*◌, ◌<◌, ◌≤◌, ℕ, List, [], ◌∷◌, ◌++◌, Bool, length, All};
 ghost use Rattle.std.specs.List.{list_any, AllPairs};
 ghost use Rattle.glyph_table.specs.declared.patch.Patch.{Patch};
-ghost use Rattle.gate_model.specs.Glyphs.{lit};
+ghost use Rattle.gate_model.specs.picture.Glyphs.{lit};
 ghost use Rattle.glyph_table.specs.GlyphRects.{IsApart, IsInside, column_rects, covers, rects, run_rect};
 
 use crate::Patch;

@@ -1,6 +1,6 @@
 ghost use Rattle.std.specs.Prelude.{◌≡◌, ◌<◌};
-ghost use Rattle.gate_model.specs.Palette.{colour_of};
-ghost use Rattle.gate_model.specs.Glyphs.{bit_of, columns_of, in_font, lit};
+ghost use Rattle.gate_model.specs.picture.Palette.{colour_of};
+ghost use Rattle.gate_model.specs.picture.Glyphs.{bit_of, columns_of, in_font, lit};
 
 use gate_model::Colour;
 
@@ -128,7 +128,7 @@ static FONT: [[u8; 5]; 95] = [
 const BOX: [u8; 5] = [0x7f, 0x41, 0x41, 0x41, 0x7f];
 
 /// The colour of an index of the palette.
-#[tactic(auto, unfolding(gate_model::specs::Palette::colour_of))]
+#[tactic(auto, unfolding(gate_model::specs::picture::Palette::colour_of))]
 pub fn colour_of(index: u8) -> Colour
     requires { index < 16 }
     ensures { result ≡ colour_of index }
@@ -168,7 +168,7 @@ fn in_font(face: char, x: u8, y: u8) -> bool
 
 /// Whether the face has the pixel: `x` counts the 8 pixels of the cell from the left, `y` the 16
 /// from above. A key with an underline has all of pixel line 15.
-#[tactic(auto, unfolding(gate_model::specs::Glyphs::lit))]
+#[tactic(auto, unfolding(gate_model::specs::picture::Glyphs::lit))]
 pub fn lit(face: char, under: bool, x: u8, y: u8) -> bool
     requires column { x < 8 }
     requires row { y < 16 }

@@ -3,13 +3,13 @@ use Rattle.std.proofs.Common.{◌≡◌, ℕ, suc, ◌+◌, ◌≢◌, ◌⊎◌
 use Rattle.std.specs.Prelude.{encode_utf8_all}
 use Rattle.std.specs.Char.{IsScalar, encode_utf8}
 use Rattle.std.proofs.lemmas.Str.{encode_same}
-use Rattle.gate_model.specs.Spelling.{AllDigits, number_of, IsLength, SpellsOthers}
+use Rattle.gate_model.specs.text.Spelling.{AllDigits, number_of, IsLength, SpellsOthers}
 use Rattle.gate_model.proofs.Digits.{head_same, tail_same, AllDigits-rest}
 use Rattle.gate_model.proofs.Spelt.{as_others, chars_go_on, digits_same, element_same, no_digit}
 use Rattle.guac_framing.specs.declared.next.BadKind.{BadKind}
 use Rattle.guac_framing.specs.declared.next.BadKind.TheVariants.{Digit, Length, Separator, Utf8, TooMany, TooLong}
 use Rattle.guac_framing.specs.Standing.{InLength, InValue, BehindValue}
-use Rattle.gate_model.specs.ControlLaws.{BeginsCharacter}
+use Rattle.gate_model.specs.terminal.ControlLaws.{BeginsCharacter}
 use Rattle.guac_framing.specs.Found.{HasKind, IsForbidden}
 use Rattle.guac_framing.proofs.Seen.{NoElements, see_length, see_value}
 use Rattle.guac_framing.proofs.Rejects.{first_of, length_rejects_digit, length_rejects_sixth, char_rejects, behind_rejects_separator, behind_rejects_many}

@@ -6,11 +6,11 @@ use Rattle.std.specs.Char.{encode_utf8}
 use lib.Utf8.{low_scalar}
 use Rattle.std.proofs.lemmas.Bool.{and_parts}
 use Rattle.std.proofs.lemmas.Str.{encodes-append}
-use Rattle.gate_model.specs.Spelling.{number_of, SpellsElement, SpellsOthers, SpellsElements}
+use Rattle.gate_model.specs.text.Spelling.{number_of, SpellsElement, SpellsOthers, SpellsElements}
 use Rattle.gate_model.proofs.Digits.{tail_same}
 use Rattle.guac_framing.specs.Begun.{Begins}
 use Rattle.guac_framing.specs.Standing.{InLength, InValue, BehindValue}
-use Rattle.gate_model.specs.ControlLaws.{BeginsCharacter}
+use Rattle.gate_model.specs.terminal.ControlLaws.{BeginsCharacter}
 use Rattle.guac_framing.specs.Found.{HasCompletion}
 use Rattle.guac_framing.proofs.Leads.{one}
 use Rattle.guac_framing.proofs.Begins.{completing}

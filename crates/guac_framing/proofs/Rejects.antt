@@ -5,7 +5,7 @@ use Rattle.std.specs.Str.{all_scalars}
 use Rattle.std.specs.Char.{IsScalar, encode_utf8}
 use Rattle.std.proofs.lemmas.Bool.{and_parts}
 use Rattle.std.proofs.lemmas.Str.{length-le-encodes}
-use Rattle.gate_model.specs.Spelling.{IsDigit, AllDigits, number_of, SpellsOthers}
+use Rattle.gate_model.specs.text.Spelling.{IsDigit, AllDigits, number_of, SpellsOthers}
 use Rattle.gate_model.proofs.Digits.{head_same, AllDigits-rest, number_of-le}
 use Rattle.gate_model.proofs.Spelt.{no_digit}
 use Rattle.guac_framing.specs.Begun.{Begins, BeginsNone}

@@ -5,7 +5,7 @@ use Rattle.std.specs.Str.{all_scalars}
 use Rattle.std.proofs.lemmas.List.{take-append-drop}
 use Rattle.std.proofs.lemmas.Bool.{and_parts}
 use Rattle.std.proofs.lemmas.Str.{encodes-append}
-use Rattle.gate_model.specs.Spelling.{AllDigits, number_of, SpellsElement, SpellsOthers}
+use Rattle.gate_model.specs.text.Spelling.{AllDigits, number_of, SpellsElement, SpellsOthers}
 use Rattle.gate_model.proofs.Digits.{head_same, tail_same, digits_go_on}
 use Rattle.gate_model.proofs.Spelt.{others_go_on, as_others, chars_go_on, digits_same, no_digit, not_comma}
 use Rattle.guac_framing.specs.Standing.{InLength, InValue, BehindValue}

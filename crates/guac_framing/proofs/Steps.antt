@@ -4,7 +4,7 @@ use Rattle.std.specs.Prelude.{encode_utf8_all}
 use Rattle.std.specs.Char.{IsScalar, encode_utf8}
 use Rattle.std.proofs.Math.Seq.{take-suc}
 use Rattle.std.proofs.lemmas.Str.{encodes-append}
-use Rattle.gate_model.specs.Spelling.{IsDigit, SpellsOthers, Spells}
+use Rattle.gate_model.specs.text.Spelling.{IsDigit, SpellsOthers, Spells}
 use Rattle.gate_model.proofs.Digits.{AllDigits-append, number_after-append}
 use Rattle.guac_framing.specs.Begun.{Begins}
 use Rattle.guac_framing.specs.Standing.{InLength, InValue, BehindValue}

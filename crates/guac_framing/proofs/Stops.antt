@@ -3,7 +3,7 @@ use Rattle.std.proofs.Common.{◌≡◌, ◌≢◌, ℕ, suc, ◌+◌, ◌-◌, 
 use Rattle.std.specs.Char.{encode_utf8}
 use Rattle.std.proofs.lemmas.List.{take_all}
 use Rattle.std.proofs.lemmas.Bool.{cases_lt}
-use Rattle.gate_model.specs.Spelling.{IsDigit, SpellsElements}
+use Rattle.gate_model.specs.text.Spelling.{IsDigit, SpellsElements}
 use Rattle.guac_framing.specs.declared.next.BadKind.{BadKind}
 use Rattle.guac_framing.specs.declared.next.BadKind.TheVariants.{Digit, Length, Separator, Utf8, TooMany, TooLong}
 use Rattle.guac_framing.specs.Begun.{Begins, BeginsNone}

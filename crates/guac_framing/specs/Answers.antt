@@ -1,6 +1,6 @@
 -- The reader's answer about some bytes.
 use Rattle.std.specs.Prelude.{◌≡◌, ℕ, ◌≤◌, List, map, length, take, encode_utf8_all}
-use Rattle.gate_model.specs.Spelling.{Spells}
+use Rattle.gate_model.specs.text.Spelling.{Spells}
 use Rattle.guac_framing.specs.declared.next.BadAt.{BadAt}
 use Rattle.guac_framing.specs.declared.next.Next.{Next}
 use Rattle.guac_framing.specs.declared.next.Next.TheVariants.{Whole, More, Bad}

@@ -1,6 +1,6 @@
 -- What a writer appends (the Guacamole manual, "The Guacamole protocol").
 use Rattle.std.specs.Prelude.{ℕ, List, ◌∷◌, ◌++◌, Bool, true, false}
-use Rattle.gate_model.specs.Text.{element}
+use Rattle.gate_model.specs.text.Text.{element}
 
 -- an element after what stands before it: a `,` unless it is an instruction's first
 abbrev pub separated : Bool → List ℕ → List ℕ

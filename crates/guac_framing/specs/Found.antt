@@ -2,9 +2,9 @@
 -- of a fault are this project's own).
 use Rattle.std.specs.Prelude.{◌≡◌, ◌≢◌, ℕ, suc, ◌+◌, ◌<◌, ◌≤◌, List, [], ◌∷◌, ◌++◌, length, take, slice_index}
 use Rattle.std.specs.Char.{IsScalar, encode_utf8}
-use Rattle.gate_model.specs.ControlLaws.{BeginsCharacter}
+use Rattle.gate_model.specs.terminal.ControlLaws.{BeginsCharacter}
 use Rattle.gate_model.specs.Limits.{most_elements}
-use Rattle.gate_model.specs.Spelling.{IsDigit, SpellsElements, Spells}
+use Rattle.gate_model.specs.text.Spelling.{IsDigit, SpellsElements, Spells}
 use Rattle.guac_framing.specs.declared.next.BadAt.{BadAt}
 use Rattle.guac_framing.specs.declared.next.BadKind.{BadKind}
 use Rattle.guac_framing.specs.declared.next.BadKind.TheVariants.{Digit, Length, Separator, Utf8, TooMany, TooLong}

@@ -2,7 +2,7 @@
 use Rattle.std.specs.Prelude.{◌≡◌, ℕ, ◌+◌, true, List, ◌++◌, length, take, encode_utf8_all}
 use Rattle.std.specs.Str.{all_scalars}
 use Rattle.std.specs.Char.{IsScalar, encode_utf8}
-use Rattle.gate_model.specs.Spelling.{AllDigits, number_of}
+use Rattle.gate_model.specs.text.Spelling.{AllDigits, number_of}
 use Rattle.guac_framing.specs.Begun.{Begins}
 
 -- digits that spell the number

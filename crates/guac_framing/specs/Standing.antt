@@ -3,7 +3,7 @@
 use Rattle.std.specs.Prelude.{◌≡◌, ℕ, ◌+◌, ◌<◌, ◌≤◌, true, List, ◌∷◌, ◌++◌, length, encode_utf8_all}
 use Rattle.std.specs.Str.{all_scalars}
 use Rattle.gate_model.specs.Limits.{most_elements}
-use Rattle.gate_model.specs.Spelling.{AllDigits, IsLength, SpellsOthers}
+use Rattle.gate_model.specs.text.Spelling.{AllDigits, IsLength, SpellsOthers}
 
 -- elements, and the digits of the next one's length so far
 pub record InLength (front : List ℕ) (values : List (List ℕ)) (digits : List ℕ) : Type 0 where

@@ -2,7 +2,7 @@
 use Rattle.std.proofs.Common.{◌≡◌, ℕ, List, [], ◌∷◌, ◌++◌, length, Option, Some, None, Ok, Err, Bool, false, refl, ap, sym, ◌∙◌, subst, append_assoc, append-nil, arith}
 use Rattle.std.specs.Prelude.{Result, IfErr, IfSome, is_some, ◌≤◌}
 use Rattle.std.proofs.Math.Seq.{take-length}
-use Rattle.gate_model.specs.HelloMeaning.{Greeting, Selects, HasSize, Connects, SaysOther, greeting_of}
+use Rattle.gate_model.specs.text.HelloMeaning.{Greeting, Selects, HasSize, Connects, SaysOther, greeting_of}
 use Rattle.gate_outside.specs.Edge.{GainedFront, Rose, came, gained}
 use Rattle.gate_outside.proofs.Moved.{came-came, came-none, gained-none}
 use Rattle.guac_handshake.specs.declared.request.Selected.{Selected}

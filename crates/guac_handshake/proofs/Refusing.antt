@@ -1,7 +1,7 @@
 -- Why a door refuses, by the sessions that it tells.
 use Rattle.std.proofs.Common.{◌≡◌, ℕ, List, Option, Some, None, refl, sym, subst}
 use Rattle.std.specs.Prelude.{Err, IfSome, IsSome, is_some}
-use Rattle.gate_model.specs.History.{History}
+use Rattle.gate_model.specs.session.History.{History}
 use Rattle.id_table.specs.Draws.{nth_id}
 use Rattle.id_table.specs.Maps.{Same, Told}
 use Rattle.guac_handshake.specs.declared.greeted.Greeted.{Greeted}

@@ -1,7 +1,7 @@
 -- The text of `ready`.
 use Rattle.std.proofs.Common.{◌≡◌, ℕ, List, [], ◌∷◌, ◌++◌, codes, refl, ap, sym, ◌∙◌, append-nil}
 use Rattle.std.specs.Str.{chars}
-use Rattle.gate_model.specs.Text.{element}
+use Rattle.gate_model.specs.text.Text.{element}
 use Rattle.guac_handshake.specs.Texts.{ready_text}
 
 ready_word : chars (codes "ready") ≡ codes "ready"

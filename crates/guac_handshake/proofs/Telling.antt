@@ -1,9 +1,9 @@
 -- Which refusal of a door a status tells, and what the door tells of it.
 use Rattle.std.proofs.Common.{◌≡◌, ℕ, List, [], ◌∷◌, Option, Some, None, Bool, true, false, refl, sym, subst, inl, inr, ◌⊎◌, drop, length, arith}
 use Rattle.std.specs.Prelude.{IfSome, find, if◌then◌else◌, nat_lt}
-use Rattle.gate_model.specs.History.{History}
-use Rattle.gate_model.specs.HelloMeaning.{Greeting, Selects, HasSize, Connects, SaysOther, greeting_of}
-use Rattle.gate_model.specs.Refusals.{join_refusal}
+use Rattle.gate_model.specs.session.History.{History}
+use Rattle.gate_model.specs.text.HelloMeaning.{Greeting, Selects, HasSize, Connects, SaysOther, greeting_of}
+use Rattle.gate_model.specs.session.Refusals.{join_refusal}
 use Rattle.gate_model.specs.declared.sharing.Asked.{Asked}
 use Rattle.std.specs.Option.{option_map}
 use Rattle.guac_handshake.specs.declared.ask.Ask.{Ask}

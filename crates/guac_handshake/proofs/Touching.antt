@@ -1,7 +1,7 @@
 -- The sessions that a greeting touches.
 use Rattle.std.proofs.Common.{◌≡◌, ◌≢◌, ℕ, List, Option, Some, None, Ok, Err, Bool, true, false, refl, sym, ◌∙◌, subst, inl, inr}
 use Rattle.std.specs.Prelude.{Result, IfErr, IfOk, IfSome, IsSome, OnErr, is_some}
-use Rattle.gate_model.specs.History.{History}
+use Rattle.gate_model.specs.session.History.{History}
 use Rattle.gate_model.specs.declared.sharing.Asked.{Asked}
 use Rattle.id_table.specs.Maps.{Same, Told}
 use Rattle.guac_handshake.specs.declared.greeted.Greeted.{Greeted}

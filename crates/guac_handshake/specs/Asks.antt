@@ -3,8 +3,8 @@
 use Rattle.std.specs.Prelude.{ℕ, ◌/◌, min, max, List, [], ◌∷◌, length, drop, take_while, find, fold, Bool, true, false, not, ◌&&◌, nat_le, nat_lt, if◌then◌else◌, Option, Some, None, bytes_eq, codes}
 use Rattle.std.specs.Int.{is_in_range}
 use Rattle.std.specs.List.{list_all}
-use Rattle.gate_model.specs.HelloMeaning.{Greeting, Selects, HasSize, Connects, SaysOther, greeting_of}
-use Rattle.gate_model.specs.Numerals.{number_within}
+use Rattle.gate_model.specs.text.HelloMeaning.{Greeting, Selects, HasSize, Connects, SaysOther, greeting_of}
+use Rattle.gate_model.specs.text.Numerals.{number_within}
 use Rattle.gate_model.specs.declared.sharing.Share.{Share}
 use Rattle.gate_model.specs.declared.sharing.Share.TheVariants as share
 use Rattle.gate_model.specs.declared.sharing.Asked.{Asked}

@@ -1,8 +1,8 @@
 -- The contract of a door: its refusals, its sessions, its places and what it was asked (this project's own).
 use Rattle.std.specs.Prelude.{◌≡◌, ◌≢◌, ℕ, ◌+◌, ◌-◌, ◌<◌, ◌⊎◌, List, [], ◌∷◌, ◌++◌, Bool, true, false, Option, Some, None, IsSome, IfSome, Result, Ok, Err, is_some}
 use Rattle.std.specs.Option.{option_map}
-use Rattle.gate_model.specs.History.{History}
-use Rattle.gate_model.specs.Refusals.{join_refusal}
+use Rattle.gate_model.specs.session.History.{History}
+use Rattle.gate_model.specs.session.Refusals.{join_refusal}
 use Rattle.gate_model.specs.declared.entry.Entry.{Entry}
 use Rattle.gate_model.specs.declared.join_refusal.JoinRefusal.{JoinRefusal}
 use Rattle.gate_model.specs.declared.join_refusal.JoinRefusal.TheVariants as refusal

@@ -1,7 +1,7 @@
 -- What a greeting read, asked and wrote, and why it ended (this project's own).
 use Rattle.std.specs.Prelude.{◌≡◌, ℕ, ◌+◌, List, [], ◌∷◌, ◌++◌, Option, Some, None, IfSome, Result, Ok, Err, is_some, bytes_eq, codes, if◌then◌else◌, Bool}
 use Rattle.std.specs.Option.{option_map}
-use Rattle.gate_model.specs.HelloMeaning.{Greeting, Selects, HasSize, Connects, SaysOther, greeting_of}
+use Rattle.gate_model.specs.text.HelloMeaning.{Greeting, Selects, HasSize, Connects, SaysOther, greeting_of}
 use Rattle.gate_outside.specs.Edge.{AtEnd, GainedFront, came, gained}
 use Rattle.guac_framing.specs.Found.{IsUnfinished, IsBadAt}
 use Rattle.guac_framing.specs.declared.next.BadAt.{BadAt}

@@ -1,6 +1,6 @@
 -- What one instruction says where a reader expects a `select`, or a `connect`.
 use Rattle.std.specs.Prelude.{◌≡◌, ℕ, List, ◌++◌, Option, Result, Ok, Err}
-use Rattle.gate_model.specs.HelloMeaning.{Greeting, Selects, HasSize, Connects, SaysOther, greeting_of}
+use Rattle.gate_model.specs.text.HelloMeaning.{Greeting, Selects, HasSize, Connects, SaysOther, greeting_of}
 use Rattle.gate_outside.specs.Edge.{AtEnd, came}
 use Rattle.guac_framing.specs.Found.{IsUnfinished, IsBadAt}
 use Rattle.guac_framing.specs.declared.next.BadAt.{BadAt}

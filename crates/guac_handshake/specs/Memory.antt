@@ -1,6 +1,6 @@
 -- What a door in memory tells, and the IDs of its names (this project's own).
 use Rattle.std.specs.Prelude.{ℕ, List, [], ◌∷◌, nat_eq, if◌then◌else◌, Option, Some, None}
-use Rattle.gate_model.specs.History.{History}
+use Rattle.gate_model.specs.session.History.{History}
 use Rattle.id_table.specs.Maps.{Map}
 use Rattle.uuid.specs.Text.{parsed}
 use Rattle.guac_handshake.specs.Doors.{Sessions}

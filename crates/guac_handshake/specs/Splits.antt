@@ -1,7 +1,7 @@
 -- Instructions one after the other (the Guacamole manual, "The Guacamole protocol"). An instruction is the list of
 -- its values, the opcode first, each in UTF-8.
 use Rattle.std.specs.Prelude.{◌≡◌, ℕ, List, [], ◌∷◌, ◌++◌, map, encode_utf8_all}
-use Rattle.gate_model.specs.Spelling.{Spells}
+use Rattle.gate_model.specs.text.Spelling.{Spells}
 
 -- these bytes are one instruction of these values
 abbrev pub IsInstruction : List ℕ → List (List ℕ) → Type 0

@@ -1,7 +1,7 @@
 -- What a client is written in the handshake (the Guacamole manual, "The Guacamole protocol").
 use Rattle.std.specs.Prelude.{ℕ, List, [], ◌∷◌, codes}
 use Rattle.std.specs.Str.{chars}
-use Rattle.gate_model.specs.Text.{text, text_of_elements}
+use Rattle.gate_model.specs.text.Text.{text, text_of_elements}
 use Rattle.gate_model.specs.declared.instr.Instr.TheVariants.{Error}
 use Rattle.guac_handshake.specs.declared.request.Selected.{Selected}
 use Rattle.guac_handshake.specs.declared.request.Selected.TheVariants.{Telnet, Known}

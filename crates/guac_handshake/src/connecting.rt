@@ -6,8 +6,8 @@ ghost use Rattle.std.specs.Int.{is_in_range};
 ghost use Rattle.std.specs.List.{list_all};
 ghost use Rattle.std.specs.Option.{option_map};
 ghost use Rattle.guac_handshake.specs.Asks.{beginning, cols_of, is_read_only, is_term, joining, mode_of, port_of, role_asked, rows_of, term_of};
-ghost use Rattle.gate_model.specs.Numerals.{is_number, number_within};
-ghost use Rattle.gate_model.specs.Spelling.{number_of};
+ghost use Rattle.gate_model.specs.text.Numerals.{is_number, number_within};
+ghost use Rattle.gate_model.specs.text.Spelling.{number_of};
 
 use crate::Ask;
 use gate_model::{Asked, NoMemory, Share, Text};

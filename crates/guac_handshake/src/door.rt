@@ -1,7 +1,7 @@
 ghost use Rattle.std.specs.Prelude.{◌≡◌, ◌≤◌, ◌-◌, ◌+◌, ℕ, List, Option, IfOk, IfErr, IfSome, OnErr, OnOk, is_some};
 ghost use Rattle.gate_outside.specs.Edge.{Rose};
 ghost use Rattle.id_table.specs.Maps.{Map, Same, Told};
-ghost use Rattle.gate_model.specs.History.{History};
+ghost use Rattle.gate_model.specs.session.History.{History};
 ghost use Rattle.guac_handshake.specs.Doors.{AddedOne, HasConflict, IsAbsent, IsBeginRefusal, IsBusy, IsConflict, IsDial, IsJoinRefusal, IsOpenRefusal, KeepsIds, MeetsHistory, RemovedOne, TellsConflict, at_name, logged, one_more_out, option_less};
 ghost use Rattle.guac_handshake.specs.declared.request.Request.{Request};
 ghost use Rattle.guac_handshake.specs.declared.request.Request.TheVariants.{Begin as begin_request, Join as join_request};

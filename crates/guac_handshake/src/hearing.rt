@@ -2,7 +2,7 @@
 
 ghost use Rattle.std.specs.Prelude.{◌≡◌, ◌<◌, ◌≤◌, IfOk, IfErr, length};
 ghost use Rattle.gate_outside.specs.Edge.{Rose};
-ghost use Rattle.gate_model.specs.HelloMeaning.{greeting_of};
+ghost use Rattle.gate_model.specs.text.HelloMeaning.{greeting_of};
 ghost use Rattle.guac_handshake.specs.Asks.{connects_as};
 ghost use Rattle.guac_handshake.specs.Heard.{HasHeard, said_behind, said_first, said_of, wish_said};
 

@@ -2,7 +2,7 @@
 use Rattle.std.proofs.Common.{◌≡◌, ℕ, ℤ, List, [], ◌∷◌, codes, decimal, refl}
 use Rattle.std.specs.Fmt.{signed_decimal}
 use Rattle.std.specs.Str.{chars}
-use Rattle.gate_model.specs.Text.{text_of_elements, text, refusal_text}
+use Rattle.gate_model.specs.text.Text.{text_of_elements, text, refusal_text}
 use Rattle.gate_model.specs.declared.instr.Instr.{Instr}
 use Rattle.gate_model.specs.declared.instr.Instr.TheVariants.{Size, Rect, Cfill, Copy, Sync, Disconnect, Error}
 use Rattle.guac_instr.proofs.Words.{size_word, rect_word, cfill_word, copy_word, sync_word, disconnect_word, error_word}

@@ -7,8 +7,8 @@ use Rattle.std.specs.List.{list_all}
 use Rattle.std.proofs.Math.Nat.{pow-suc, pow-le-pow_right}
 use Rattle.std.proofs.lemmas.List.{take_more}
 use Rattle.std.proofs.lemmas.Bool.{leb-true, and_parts}
-use Rattle.gate_model.specs.Spelling.{number_of}
-use Rattle.gate_model.specs.Numerals.{is_number}
+use Rattle.gate_model.specs.text.Spelling.{number_of}
+use Rattle.gate_model.specs.text.Numerals.{is_number}
 use Rattle.gate_model.proofs.Digits.{number_after-append}
 
 pub number_of-take : (ds : List ℕ) (i : ℕ) → i < length ds → number_of (take (i + 1) ds) ≡ 10 * number_of (take i ds) + (get_or ds i 0 - 48)

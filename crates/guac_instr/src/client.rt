@@ -1,8 +1,8 @@
 //! What the instructions of a client mean.
 
 ghost use Rattle.std.specs.Prelude.{◌≡◌, option_map};
-ghost use Rattle.gate_model.specs.ClientMeaning.{act_of, key_act, mouse_act, pressed_of, size_act};
-ghost use Rattle.gate_model.specs.Numerals.{coordinate_of, number_of_bits, value_at};
+ghost use Rattle.gate_model.specs.text.ClientMeaning.{act_of, key_act, mouse_act, pressed_of, size_act};
+ghost use Rattle.gate_model.specs.text.Numerals.{coordinate_of, number_of_bits, value_at};
 ghost use Rattle.gate_model.specs.declared.act.Act.TheVariants.{Sync};
 
 use crate::values::{coordinate_at, number_at, u8_at, u32_at, value};

@@ -1,8 +1,8 @@
 //! What the instructions of a client say in the handshake.
 
 ghost use Rattle.std.specs.Prelude.{◌≡◌, slice_get};
-ghost use Rattle.gate_model.specs.ClientMeaning.{act_of};
-ghost use Rattle.gate_model.specs.HelloMeaning.{greeting_of, selection, size_said};
+ghost use Rattle.gate_model.specs.text.ClientMeaning.{act_of};
+ghost use Rattle.gate_model.specs.text.HelloMeaning.{greeting_of, selection, size_said};
 ghost use Rattle.guac_instr.specs.Said.{said};
 
 use crate::client::read_client;

@@ -1,10 +1,10 @@
 //! What instructions mean, and the text of those that the gateway sends.
 //!
-//! A client's instruction asks for an act (`act_of` of gate_model's `specs/ClientMeaning.antt`), and in the
-//! handshake says who connects (`greeting_of` of `specs/HelloMeaning.antt`). The writers append exactly the
-//! text that `specs/Text.antt` defines, and the reader of the gateway's own instructions gives back what
-//! they wrote (`instr_of` of `specs/ServerMeaning.antt`). An instruction without a meaning is None. Decimal
-//! numbers are read as `specs/Numerals.antt` says.
+//! A client's instruction asks for an act (`act_of` of gate_model's `specs/text/ClientMeaning.antt`), and in the
+//! handshake says who connects (`greeting_of` of `specs/text/HelloMeaning.antt`). The writers append exactly the
+//! text that `specs/text/Text.antt` defines, and the reader of the gateway's own instructions gives back what
+//! they wrote (`instr_of` of `specs/text/ServerMeaning.antt`). An instruction without a meaning is None. Decimal
+//! numbers are read as `specs/text/Numerals.antt` says.
 #![tactic(auto)]
 
 mod client;

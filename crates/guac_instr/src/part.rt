@@ -3,7 +3,7 @@
 ghost use Rattle.std.specs.Prelude.{◌≡◌, ◌++◌, ◌∷◌, map, false, OnOk, OnErr};
 ghost use Rattle.std.specs.Str.{chars};
 ghost use Rattle.gate_model.specs.Sequences.{BeginsWith};
-ghost use Rattle.gate_model.specs.Text.{text_of_elements};
+ghost use Rattle.gate_model.specs.text.Text.{text_of_elements};
 ghost use Rattle.guac_instr.specs.Parts.{points_of};
 ghost use Rattle.guac_framing.specs.Appended.{separated};
 

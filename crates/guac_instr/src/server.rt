@@ -1,8 +1,8 @@
 //! The instructions of the gateway, read back.
 
 ghost use Rattle.std.specs.Prelude.{◌≡◌, option_map, slice_get};
-ghost use Rattle.gate_model.specs.Numerals.{layer_of, number_of_bits, value_at};
-ghost use Rattle.gate_model.specs.ServerMeaning.{cfill_instr, copy_instr, error_instr, extent_of, instr_of, opaque_of, over_of, rect_instr, size_instr};
+ghost use Rattle.gate_model.specs.text.Numerals.{layer_of, number_of_bits, value_at};
+ghost use Rattle.gate_model.specs.text.ServerMeaning.{cfill_instr, copy_instr, error_instr, extent_of, instr_of, opaque_of, over_of, rect_instr, size_instr};
 ghost use Rattle.gate_model.specs.declared.instr.Instr.TheVariants.{Sync};
 
 use crate::constants::{OPAQUE, OVER};

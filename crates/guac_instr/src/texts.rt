@@ -3,7 +3,7 @@
 ghost use Rattle.std.specs.Prelude.{◌≡◌, ◌++◌, OnOk, OnErr};
 ghost use Rattle.std.specs.Str.{chars};
 ghost use Rattle.gate_model.specs.Sequences.{BeginsWith};
-ghost use Rattle.gate_model.specs.Text.{refusal_text, text, texts};
+ghost use Rattle.gate_model.specs.text.Text.{refusal_text, text, texts};
 ghost use Rattle.gate_model.specs.declared.instr.Instr.{Instr};
 
 use crate::constants::{OPAQUE, OVER};

@@ -3,8 +3,8 @@
 ghost use Rattle.std.specs.Prelude.{◌≡◌, ◌≤◌, option_copied, slice_get, true, length, IfSome};
 ghost use Rattle.std.specs.Char.{is_ascii_digit};
 ghost use Rattle.std.specs.List.{list_all};
-ghost use Rattle.gate_model.specs.Numerals.{coordinate_of, is_number, layer_of, number_in, number_of_bits, number_within, value_at};
-ghost use Rattle.gate_model.specs.Spelling.{number_of};
+ghost use Rattle.gate_model.specs.text.Numerals.{coordinate_of, is_number, layer_of, number_in, number_of_bits, number_within, value_at};
+ghost use Rattle.gate_model.specs.text.Spelling.{number_of};
 
 use gate_model::limits::MOST_BUFFERS;
 use guac_framing::Frame;

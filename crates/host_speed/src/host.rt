@@ -2,7 +2,7 @@
 
 ghost use Rattle.std.specs.Prelude.{◌≡◌, ◌≤◌, [], IfOk, IfSome, length};
 ghost use Rattle.ecma_parser.specs.Held.{held_bytes};
-ghost use Rattle.gate_model.specs.Controls.{HasFewParameters};
+ghost use Rattle.gate_model.specs.terminal.Controls.{HasFewParameters};
 
 use ecma_parser::{Completed, Parser};
 use gate_model::{Control, NoMemory, Shown, Token};

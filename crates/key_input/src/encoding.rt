@@ -1,8 +1,8 @@
 //! The bytes that a press sends.
 
 ghost use Rattle.std.specs.Prelude.{◌≡◌, ◌≤◌, length};
-ghost use Rattle.gate_model.specs.Encoding.{after_alt, character_bytes, control_byte, encoding, key_bytes};
-ghost use Rattle.gate_model.specs.Keysyms.{code_point};
+ghost use Rattle.gate_model.specs.keys.Encoding.{after_alt, character_bytes, control_byte, encoding, key_bytes};
+ghost use Rattle.gate_model.specs.keys.Keysyms.{code_point};
 
 use crate::KeyBytes;
 use crate::keysym::character;
@@ -19,7 +19,7 @@ const ESC: u8 = 0x1b;
 /// give the control character, of which CR is followed by NUL (RFC 854), a blank gives 0 and `?` gives
 /// 127. The keys that stand for no character have the bytes of the Linux console, whatever Control is;
 /// the arrows follow the cursor mode. With Alt held, ESC comes before the bytes, if there are any.
-#[tactic(auto, unfolding(gate_model::specs::Encoding::encoding))]
+#[tactic(auto, unfolding(gate_model::specs::keys::Encoding::encoding))]
 pub fn encode(keysym: u32, mods: Mods, cursor_mode: bool) -> KeyBytes
     ensures exact { result ≡ encoding keysym mods cursor_mode }
     ensures few { length result ≤ 8 }

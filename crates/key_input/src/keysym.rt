@@ -1,7 +1,7 @@
 //! The characters that keysyms stand for.
 
 ghost use Rattle.std.specs.Prelude.{◌≡◌};
-ghost use Rattle.gate_model.specs.Keysyms.{code_point};
+ghost use Rattle.gate_model.specs.keys.Keysyms.{code_point};
 
 // The difference of a character's keysym and its code point.
 const UNICODE: u32 = 0x0100_0000;

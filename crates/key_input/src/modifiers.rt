@@ -1,7 +1,7 @@
 //! The modifier keys that a viewer holds down.
 
 ghost use Rattle.std.specs.Prelude.{◌≡◌};
-ghost use Rattle.gate_model.specs.Modifiers.{alt_held, control_held, mods_after};
+ghost use Rattle.gate_model.specs.keys.Modifiers.{alt_held, control_held, mods_after};
 
 use gate_model::Mods;
 

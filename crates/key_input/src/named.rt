@@ -1,7 +1,7 @@
 //! The keys that stand for no character.
 
 ghost use Rattle.std.specs.Prelude.{◌≡◌, ◌≤◌, length};
-ghost use Rattle.gate_model.specs.NamedKeys.{arrow_bytes, editing_bytes, function_bytes, named_bytes};
+ghost use Rattle.gate_model.specs.keys.NamedKeys.{arrow_bytes, editing_bytes, function_bytes, named_bytes};
 
 /// The bytes of a key that stands for no character, after the Linux console; none where the key isn't
 /// of the table.

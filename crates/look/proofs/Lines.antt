@@ -1,6 +1,6 @@
 -- A pixmap that grows by a pixel, and by a line.
 use Rattle.std.proofs.Common.{◌≡◌, ℕ, ◌+◌, List, ◌++◌, ap, sym, ◌∙◌, append_assoc, add-one}
-use Rattle.gate_model.specs.Layers.{Layer}
+use Rattle.gate_model.specs.picture.Layers.{Layer}
 use Rattle.canvas.specs.Standing.{dot_at}
 use Rattle.look.specs.Ppm.{line_of, lines_of, rgb_of}
 

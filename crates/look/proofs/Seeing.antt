@@ -6,7 +6,7 @@ use Rattle.std.proofs.Math.Seq.{take-suc}
 use Rattle.std.proofs.lemmas.List.Elements.{filter_map-append}
 use Rattle.gate_model.specs.declared.instr.Instr.{Instr}
 use Rattle.gate_model.specs.declared.instr.Instr.TheVariants.{Size, Rect, Cfill, Copy, Sync, Disconnect, Error}
-use Rattle.gate_model.specs.Layers.{Layers, draw, nothing, play}
+use Rattle.gate_model.specs.picture.Layers.{Layers, draw, nothing, play}
 use Rattle.gate_model.specs.declared.memory.NoMemory.{NoMemory}
 use Rattle.gate_model.proofs.Drawing.{draw-append}
 use Rattle.canvas.specs.Kept.{KeptLayer}

@@ -5,8 +5,8 @@ use Rattle.std.specs.List.{filter_map, cons_option}
 use Rattle.std.proofs.lemmas.List.{take_all, drop-drop, take-append-drop, length-take-le}
 use Rattle.std.proofs.lemmas.List.Elements.{filter_map-append}
 use Rattle.gate_model.specs.declared.instr.Instr.{Instr}
-use Rattle.gate_model.specs.ServerMeaning.{instr_of}
-use Rattle.gate_model.specs.Spelling.{SpellsElements, Spells}
+use Rattle.gate_model.specs.text.ServerMeaning.{instr_of}
+use Rattle.gate_model.specs.text.Spelling.{SpellsElements, Spells}
 use Rattle.gate_model.proofs.MeaningLaws.{instr_in_utf8}
 use Rattle.guac_framing.specs.Answers.{IsWhole}
 use Rattle.look.specs.Stream.{GoesOn, HasRead, Splits}

@@ -1,8 +1,8 @@
 -- Which face a cell of a picture shows (this project's own font).
 use Rattle.std.specs.Prelude.{◌≡◌, ℕ, ◌+◌, ◌*◌, ◌<◌, Bool, if◌then◌else◌}
 use Rattle.gate_model.specs.declared.colour.Colour.{Colour}
-use Rattle.gate_model.specs.Glyphs.{lit}
-use Rattle.gate_model.specs.Layers.{Layer}
+use Rattle.gate_model.specs.picture.Glyphs.{lit}
+use Rattle.gate_model.specs.picture.Layers.{Layer}
 use Rattle.canvas.specs.Standing.{dot_at}
 use Rattle.canvas.specs.declared.dot.Dot.TheVariants.{Painted}
 

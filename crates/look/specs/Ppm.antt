@@ -1,7 +1,7 @@
 -- A picture as a portable pixmap (PPM, its raw form `P6`, of the Netpbm formats): the size, and then three
 -- bytes a pixel.
 use Rattle.std.specs.Prelude.{ℕ, zero, suc, List, [], ◌∷◌, ◌++◌, codes, decimal}
-use Rattle.gate_model.specs.Layers.{Layer}
+use Rattle.gate_model.specs.picture.Layers.{Layer}
 use Rattle.canvas.specs.Standing.{dot_at}
 use Rattle.canvas.specs.declared.dot.Dot.{Dot}
 use Rattle.canvas.specs.declared.dot.Dot.TheVariants.{Outside, Clear, Painted}

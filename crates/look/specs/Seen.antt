@@ -1,6 +1,6 @@
 -- What a sync that is asked for makes of what was seen so far (this project's own).
 use Rattle.std.specs.Prelude.{◌≡◌, ℕ, ◌+◌, []}
-use Rattle.gate_model.specs.Layers.{Layers, draw}
+use Rattle.gate_model.specs.picture.Layers.{Layers, draw}
 use Rattle.canvas.specs.Standing.{Stands}
 use Rattle.look.specs.declared.looking.View.{View}
 

@@ -2,7 +2,7 @@
 use Rattle.std.specs.Prelude.{◌≡◌, ℕ, ◌⊎◌, List, [], ◌∷◌, ◌++◌, length, drop, true}
 use Rattle.gate_model.specs.declared.instr.Instr.{Instr}
 use Rattle.gate_model.specs.declared.instr.Instr.TheVariants.{Sync}
-use Rattle.gate_model.specs.Layers.{draw, nothing}
+use Rattle.gate_model.specs.picture.Layers.{draw, nothing}
 use Rattle.canvas.specs.Kept.{KeptLayer}
 use Rattle.canvas.specs.Standing.{Stands}
 use Rattle.guac_framing.specs.Found.{IsBadAt, IsUnfinished}

@@ -4,8 +4,8 @@ use Rattle.std.specs.Prelude.{◌≡◌, ℕ, ◌+◌, ◌≤◌, List, [], ◌�
 use Rattle.std.specs.List.{filter_map}
 use Rattle.gate_model.specs.declared.instr.Instr.{Instr}
 use Rattle.gate_model.specs.declared.instr.Instr.TheVariants.{Size, Rect, Cfill, Copy, Sync, Disconnect, Error}
-use Rattle.gate_model.specs.ServerMeaning.{instr_of}
-use Rattle.gate_model.specs.Spelling.{Spells}
+use Rattle.gate_model.specs.text.ServerMeaning.{instr_of}
+use Rattle.gate_model.specs.text.Spelling.{Spells}
 use Rattle.look.specs.declared.until.Until.{Until}
 use Rattle.look.specs.declared.until.Until.TheVariants.{Last, Frame, Stamp}
 

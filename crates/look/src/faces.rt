@@ -1,7 +1,7 @@
 //! A picture as text: the face that each cell shows.
 
 ghost use Rattle.std.specs.Prelude.{◌≡◌, ◌<◌, ◌≤◌, ℕ, Bool, IfSome, IsTrue, length};
-ghost use Rattle.gate_model.specs.Layers.{Layers, visible};
+ghost use Rattle.gate_model.specs.picture.Layers.{Layers, visible};
 ghost use Rattle.canvas.specs.Standing.{Stands, dot_at};
 ghost use Rattle.canvas.specs.declared.dot.Dot.TheVariants.{Painted};
 ghost use Rattle.look.specs.Faces.{HasPixel, ShowsFace};

@@ -1,8 +1,8 @@
 //! The look at a stream: its instructions are read and played up to the sync that is asked for.
 
 ghost use Rattle.std.specs.Prelude.{◌≡◌, ◌++◌, ◌∷◌, ◌+◌, ◌^◌, ◌<◌, ◌≤◌, true, false, ℕ, List, Some, IfOk, IfSome, OnOk};
-ghost use Rattle.gate_model.specs.Layers.{Layers, draw};
-ghost use Rattle.gate_model.specs.ServerMeaning.{instr_of};
+ghost use Rattle.gate_model.specs.picture.Layers.{Layers, draw};
+ghost use Rattle.gate_model.specs.text.ServerMeaning.{instr_of};
 ghost use Rattle.gate_model.specs.declared.instr.Instr.{Instr};
 ghost use Rattle.canvas.specs.Standing.{IsPlayable, Stands};
 ghost use Rattle.look.specs.Playable.{ArePlayable};

@@ -3,7 +3,7 @@
 //!
 //! `look_at` says which picture that is: `IsLooked` of `specs/Shown.antt`. The canvas shows what the
 //! instructions up to the sync that is asked for draw from nothing, by the drawing machine of gate_model's
-//! `specs/Layers.antt`. A cell's face and the pixmap are told of that canvas (`specs/Faces.antt`,
+//! `specs/picture/Layers.antt`. A cell's face and the pixmap are told of that canvas (`specs/Faces.antt`,
 //! `specs/Ppm.antt`).
 #![tactic(auto)]
 

@@ -1,7 +1,7 @@
 //! A picture as a portable pixmap.
 
 ghost use Rattle.std.specs.Prelude.{◌≡◌, ◌++◌, ◌≤◌, IfOk, OnOk};
-ghost use Rattle.gate_model.specs.Layers.{Layers, visible};
+ghost use Rattle.gate_model.specs.picture.Layers.{Layers, visible};
 ghost use Rattle.canvas.specs.Standing.{Stands};
 ghost use Rattle.look.specs.Ppm.{head_of, line_of, ppm_of, rgb_of};
 

@@ -9,7 +9,7 @@ use Rattle.std.specs.List.{copy_within}
 use Rattle.std.specs.Prelude.{slice_range}
 use borrow.Rule.Slice.PartMut.{put_mid}
 use Rattle.gate_model.specs.declared.cell.Cell.{Cell}
-use Rattle.gate_model.specs.Cells.{blank, moved_left, moved_right, with_part}
+use Rattle.gate_model.specs.terminal.Cells.{blank, moved_left, moved_right, with_part}
 
 -- one place
 pub one_seen : {A : Type 0} (xs : List A) (b z i : ℕ) (x : A) → i < z → take z (drop b (set xs (b + i) x)) ≡ set (take z (drop b xs)) i x

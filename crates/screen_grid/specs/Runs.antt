@@ -1,7 +1,7 @@
 -- A run of characters in a row of cells (this project's own).
 use Rattle.std.specs.Prelude.{ℕ, ◌+◌, List, length, map}
 use Rattle.gate_model.specs.declared.cell.Cell.{Cell}
-use Rattle.gate_model.specs.Cells.{CellGrid, place, with_part}
+use Rattle.gate_model.specs.terminal.Cells.{CellGrid, place, with_part}
 
 -- the cell with another character
 abbrev pub like : Cell → ℕ → Cell

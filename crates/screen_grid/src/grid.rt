@@ -1,5 +1,5 @@
 ghost use Rattle.std.specs.Prelude.{◌≡◌, ◌+◌, ◌*◌, ◌<◌, ◌≤◌, ◌↔◌, IfOk, IsTrue, length};
-ghost use Rattle.gate_model.specs.Cells.{blank_grid, cell_at, place, put, erased, inserted, deleted, scrolled_up, scrolled_down};
+ghost use Rattle.gate_model.specs.terminal.Cells.{blank_grid, cell_at, place, put, erased, inserted, deleted, scrolled_up, scrolled_down};
 ghost use Rattle.screen_grid.specs.Runs.{put_run};
 
 use crate::window::Window;
@@ -18,7 +18,7 @@ pub struct Grid {
 
 impl Model for Grid {
     ghost use Rattle.std.specs.Prelude.{◌≡◌, ◌*◌, length};
-    ghost use Rattle.gate_model.specs.Cells.{CellGrid};
+    ghost use Rattle.gate_model.specs.terminal.Cells.{CellGrid};
 
     ghost Value = { CellGrid };
 

@@ -2,7 +2,7 @@
 //! of a terminal make.
 //!
 //! Contracts see a grid as gate_model's `CellGrid`, its columns, its rows and its cells row by row, and
-//! each call leaves just the cells that its definition gives (`gate_model/specs/Cells.antt`). The grid
+//! each call leaves just the cells that its definition gives (`gate_model/specs/terminal/Cells.antt`). The grid
 //! knows of no cursor and of no control function.
 #![tactic(auto)]
 

@@ -1,5 +1,5 @@
 ghost use Rattle.std.specs.Prelude.{◌≡◌, ◌≤◌, length, map, replicate};
-ghost use Rattle.gate_model.specs.Cells.{blank, moved_left, moved_right};
+ghost use Rattle.gate_model.specs.terminal.Cells.{blank, moved_left, moved_right};
 ghost use Rattle.screen_grid.specs.Runs.{like};
 
 use gate_model::Cell;

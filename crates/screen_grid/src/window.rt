@@ -1,5 +1,5 @@
 ghost use Rattle.std.specs.Prelude.{◌≡◌, ◌+◌, ◌-◌, ◌*◌, ◌<◌, ◌≤◌, ◌^◌, IfOk, length, map, replicate, slice_set, slice_range, get_or};
-ghost use Rattle.gate_model.specs.Cells.{blank, moved_left, moved_right, with_part};
+ghost use Rattle.gate_model.specs.terminal.Cells.{blank, moved_left, moved_right, with_part};
 ghost use Rattle.screen_grid.specs.Runs.{like};
 
 use crate::runs::{BLANK, draw, erase, move_left, move_right};

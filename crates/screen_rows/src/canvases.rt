@@ -1,7 +1,7 @@
 //! Canvases on which instructions are played.
 
 ghost use Rattle.std.specs.Prelude.{IsTrue};
-ghost use Rattle.gate_model.specs.Shape.{IsLayer};
+ghost use Rattle.gate_model.specs.picture.Shape.{IsLayer};
 ghost use Rattle.canvas.specs.Standing.{IsPlayable};
 
 use anyhow::{Context, Result, bail};

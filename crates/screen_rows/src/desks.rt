@@ -2,7 +2,7 @@
 
 ghost use Rattle.std.specs.Prelude.{◌≡◌, ℕ, ◌<◌, ◌≤◌, ◌^◌, get_or, length, IfOk, OnOk};
 ghost use Rattle.gate_model.specs.declared.event.Event.{Event as Calls};
-ghost use Rattle.gate_model.specs.Calls.{MeetsCondition};
+ghost use Rattle.gate_model.specs.session.Calls.{MeetsCondition};
 
 use anyhow::{Context, Result, bail};
 use desk_core::{Answer, Desk, Event, JoinRefusal, NoMemory, Setup};

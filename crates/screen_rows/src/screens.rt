@@ -1,7 +1,7 @@
 //! What a screen shows after bytes of the host, and what it reports.
 
 ghost use Rattle.std.specs.Prelude.{IfSome};
-ghost use Rattle.gate_model.specs.Controls.{HasFewParameters};
+ghost use Rattle.gate_model.specs.terminal.Controls.{HasFewParameters};
 
 use anyhow::{Context, Result, bail};
 use ecma_parser::Parser;

@@ -3,7 +3,7 @@
 #![tactic(auto)]
 
 ghost use Rattle.std.specs.Prelude.{◌≡◌};
-ghost use Rattle.gate_model.specs.Roles.{grant_of};
+ghost use Rattle.gate_model.specs.session.Roles.{grant_of};
 
 use gate_model::{Asked, Forbidden, Role, Share};
 

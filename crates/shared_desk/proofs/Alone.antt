@@ -11,14 +11,14 @@ use Rattle.gate_model.specs.declared.event.Event.{Event}
 use Rattle.gate_model.specs.declared.event.Event.TheVariants.{Close as Closes}
 use Rattle.gate_model.specs.declared.instr.Instr.{Instr}
 use Rattle.gate_model.specs.declared.sharing.Role.{Role}
-use Rattle.gate_model.specs.Calls.{Step}
-use Rattle.gate_model.specs.Delivered.{delivered, given, last_sync, closing, handed}
-use Rattle.gate_model.specs.Entries.{is_join, taken_by}
-use Rattle.gate_model.specs.Entries as entries
-use Rattle.gate_model.specs.History.{History, bytes, joined}
-use Rattle.gate_model.specs.Output.{out, sent, taken}
+use Rattle.gate_model.specs.session.Calls.{Step}
+use Rattle.gate_model.specs.session.Delivered.{delivered, given, last_sync, closing, handed}
+use Rattle.gate_model.specs.session.Entries.{is_join, taken_by}
+use Rattle.gate_model.specs.session.Entries as entries
+use Rattle.gate_model.specs.session.History.{History, bytes, joined}
+use Rattle.gate_model.specs.session.Output.{out, sent, taken}
 use Rattle.gate_model.specs.Sequences.{BeginsWith}
-use Rattle.gate_model.specs.Steps.{Legal}
+use Rattle.gate_model.specs.session.Steps.{Legal}
 use Rattle.gate_model.proofs.Added.{next}
 use Rattle.turn_lock.specs.declared.view.View.{View}
 use Rattle.turn_lock.specs.Places.{IsAt}

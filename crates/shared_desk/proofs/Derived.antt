@@ -22,14 +22,14 @@ use Rattle.gate_model.specs.declared.taken.Taken.{Taken}
 use Rattle.gate_model.specs.declared.write_refusal.WriteRefusal.{WriteRefusal}
 use Rattle.gate_model.specs.declared.write_refusal.WriteRefusal.TheVariants.{NoViewer as write_no_viewer, Closed as write_closed, Worn as write_worn, NoMemory as write_no_memory}
 use Rattle.gate_model.specs.declared.written.Written.{Written}
-use Rattle.gate_model.specs.Calls.{Step, take_entry}
-use Rattle.gate_model.specs.Delivered.{delivered, given}
-use Rattle.gate_model.specs.Entries as entries
-use Rattle.gate_model.specs.History.{History, bytes}
-use Rattle.gate_model.specs.Output.{out, taken, untaken}
-use Rattle.gate_model.specs.Refusals.{feed_refusal, write_refusal, leave_refusal}
-use Rattle.gate_model.specs.Runs.{handed_out}
-use Rattle.gate_model.specs.Text.{texts}
+use Rattle.gate_model.specs.session.Calls.{Step, take_entry}
+use Rattle.gate_model.specs.session.Delivered.{delivered, given}
+use Rattle.gate_model.specs.session.Entries as entries
+use Rattle.gate_model.specs.session.History.{History, bytes}
+use Rattle.gate_model.specs.session.Output.{out, taken, untaken}
+use Rattle.gate_model.specs.session.Refusals.{feed_refusal, write_refusal, leave_refusal}
+use Rattle.gate_model.specs.session.Runs.{handed_out}
+use Rattle.gate_model.specs.text.Text.{texts}
 use Rattle.desk_core.specs.Calls.{feed_answer, write_answer}
 use Rattle.desk_core.proofs.Adding.{TakeTold, take_told}
 use Rattle.turn_lock.specs.declared.view.View.{View}

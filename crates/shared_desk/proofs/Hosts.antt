@@ -3,13 +3,13 @@ use Rattle.std.proofs.Common.{◌≡◌, ◌≢◌, ◌⊎◌, ℕ, ◌+◌, ◌
 use Rattle.std.specs.Prelude.{Option, Some, None, Contains, Ok, Err, Result, is_none, if◌then◌else◌}
 use Rattle.std.specs.Option.{option_map}
 use Rattle.atomic_table.specs.Seated.{TableId}
-use Rattle.gate_model.specs.Calls.{Step}
-use Rattle.gate_model.specs.Delivered.{delivered, given}
-use Rattle.gate_model.specs.History.{History, all_frames, joined, newest}
-use Rattle.gate_model.specs.Refusals.{join_refusal}
-use Rattle.gate_model.specs.Runs.{handed_out}
+use Rattle.gate_model.specs.session.Calls.{Step}
+use Rattle.gate_model.specs.session.Delivered.{delivered, given}
+use Rattle.gate_model.specs.session.History.{History, all_frames, joined, newest}
+use Rattle.gate_model.specs.session.Refusals.{join_refusal}
+use Rattle.gate_model.specs.session.Runs.{handed_out}
 use Rattle.gate_model.specs.Sequences.{IsLater}
-use Rattle.gate_model.specs.Text.{texts}
+use Rattle.gate_model.specs.text.Text.{texts}
 use Rattle.gate_model.specs.declared.answer.Answer.{Answer}
 use Rattle.gate_model.specs.declared.answer.Answer.TheVariants.{Join as joined_as}
 use Rattle.gate_model.specs.declared.entry.Entry.{Entry}

@@ -2,11 +2,11 @@
 use Rattle.std.proofs.Common.{◌≡◌, ◌⊎◌, ℕ, ◌+◌, ◌*◌, ◌≤◌, List, [], ◌∷◌, length, Bool, true, false, inl, inr, ⊎_elim, refl, ap, sym, ◌∙◌, subst, arith}
 use Rattle.std.specs.Prelude.{Option, Some, None, Contains}
 use Rattle.atomic_table.specs.Seated.{TableId}
-use Rattle.gate_model.specs.Delivered.{delivered}
-use Rattle.gate_model.specs.History.{History, joined}
-use Rattle.gate_model.specs.Rights.{role_in}
-use Rattle.gate_model.specs.Steps.{Legal}
-use Rattle.gate_model.specs.Text.{texts}
+use Rattle.gate_model.specs.session.Delivered.{delivered}
+use Rattle.gate_model.specs.session.History.{History, joined}
+use Rattle.gate_model.specs.session.Rights.{role_in}
+use Rattle.gate_model.specs.session.Steps.{Legal}
+use Rattle.gate_model.specs.text.Text.{texts}
 use Rattle.gate_model.specs.declared.entry.Entry.{Entry}
 use Rattle.gate_model.specs.declared.entry.Entry.TheVariants.{Join}
 use Rattle.gate_model.specs.declared.instr.Instr.{Instr}

@@ -2,9 +2,9 @@
 use Rattle.std.proofs.Common.{◌≡◌, ℕ, List, length, Bool, true, false, sym, subst}
 use Rattle.std.specs.Prelude.{Contains, Option, Some, None, nat_lt, if◌then◌else◌}
 use Rattle.gate_model.specs.declared.entry.Entry.{Entry}
-use Rattle.gate_model.specs.History.{History}
+use Rattle.gate_model.specs.session.History.{History}
 use Rattle.gate_model.specs.Sequences.{IsLater}
-use Rattle.gate_model.specs.Steps.{Legal}
+use Rattle.gate_model.specs.session.Steps.{Legal}
 use Rattle.turn_lock.specs.declared.view.View.{View}
 use Rattle.turn_lock.specs.Views.{knowing, giving, part_of, joined, HasPlaces}
 use Rattle.shared_desk.specs.Marks.{mark_of}

@@ -8,13 +8,13 @@ use Rattle.gate_model.specs.declared.entry.Entry.{Entry}
 use Rattle.gate_model.specs.declared.event.Event.{Event}
 use Rattle.gate_model.specs.declared.event.Event.TheVariants.{Feed, Join, Read, Write, Take, Leave, Close}
 use Rattle.gate_model.specs.declared.memory.NoMemory.{NoMemory}
-use Rattle.gate_model.specs.Calls.{Step, Adds}
-use Rattle.gate_model.specs.History.{History}
-use Rattle.gate_model.specs.Laws.{EntriesAreFew}
-use Rattle.gate_model.specs.Runs.{handed_out}
+use Rattle.gate_model.specs.session.Calls.{Step, Adds}
+use Rattle.gate_model.specs.session.History.{History}
+use Rattle.gate_model.specs.session.Laws.{EntriesAreFew}
+use Rattle.gate_model.specs.session.Runs.{handed_out}
 use Rattle.gate_model.specs.Sequences.{IsLater}
-use Rattle.gate_model.specs.Steps.{Legal}
-use Rattle.gate_model.specs.Text.{texts}
+use Rattle.gate_model.specs.session.Steps.{Legal}
+use Rattle.gate_model.specs.text.Text.{texts}
 use Rattle.desk_core.specs.Calls.{Ended}
 use Rattle.desk_core.specs.Desk.{DeskState, Stands}
 use Rattle.turn_lock.specs.declared.view.View.{View}

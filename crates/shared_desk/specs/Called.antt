@@ -7,12 +7,12 @@ use Rattle.gate_model.specs.declared.entry.Entry.{Entry}
 use Rattle.gate_model.specs.declared.event.Event.{Event}
 use Rattle.gate_model.specs.declared.memory.NoMemory.{NoMemory}
 use Rattle.gate_model.specs.declared.taken.Taken.{Taken}
-use Rattle.gate_model.specs.Calls.{Step, stop_of}
-use Rattle.gate_model.specs.History.{History}
-use Rattle.gate_model.specs.Runs.{handed_out}
+use Rattle.gate_model.specs.session.Calls.{Step, stop_of}
+use Rattle.gate_model.specs.session.History.{History}
+use Rattle.gate_model.specs.session.Runs.{handed_out}
 use Rattle.gate_model.specs.Sequences.{IsLater}
-use Rattle.gate_model.specs.Steps.{Legal}
-use Rattle.gate_model.specs.Text.{texts}
+use Rattle.gate_model.specs.session.Steps.{Legal}
+use Rattle.gate_model.specs.text.Text.{texts}
 use Rattle.turn_lock.specs.Places.{ArePlaces}
 use Rattle.turn_lock.specs.Views.{Owns, HasPlaces}
 use Rattle.turn_lock.specs.declared.view.View.{View}

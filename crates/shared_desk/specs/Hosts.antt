@@ -1,9 +1,9 @@
 -- What contracts say of a host's pass, and of the passes that it gives out (this project's own).
 use Rattle.std.specs.Prelude.{◌≡◌, ◌⊎◌, ℕ, ◌+◌, ◌*◌, ◌≤◌, Bool, true, false, List, [], ◌∷◌, ◌++◌, length, Contains, if◌then◌else◌, Option, Some, None, Result, Ok, Err}
 use Rattle.atomic_table.specs.Seated.{TableId}
-use Rattle.gate_model.specs.Delivered.{delivered}
-use Rattle.gate_model.specs.History.{History, joined}
-use Rattle.gate_model.specs.Text.{texts}
+use Rattle.gate_model.specs.session.Delivered.{delivered}
+use Rattle.gate_model.specs.session.History.{History, joined}
+use Rattle.gate_model.specs.text.Text.{texts}
 use Rattle.gate_model.specs.declared.answer.Answer.TheVariants.{Join as joined_as}
 use Rattle.gate_model.specs.declared.entry.Entry.{Entry}
 use Rattle.gate_model.specs.declared.entry.Entry.TheVariants.{Join}

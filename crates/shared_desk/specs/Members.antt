@@ -2,8 +2,8 @@
 use Rattle.std.specs.Prelude.{◌≡◌, ℕ, ◌≤◌, Some, None, length}
 use Rattle.atomic_table.specs.Seated.{TableId}
 use Rattle.gate_model.specs.declared.entry.Entry.{Entry}
-use Rattle.gate_model.specs.History.{joined}
-use Rattle.gate_model.specs.Steps.{Legal}
+use Rattle.gate_model.specs.session.History.{joined}
+use Rattle.gate_model.specs.session.Steps.{Legal}
 use Rattle.turn_lock.specs.Views.{HasPlaces}
 use Rattle.turn_lock.specs.declared.view.View.{View}
 use Rattle.shared_desk.specs.Marks.{mark_of, reader_mark, writer_mark}

@@ -2,7 +2,7 @@
 use Rattle.std.specs.Prelude.{ℕ, List, [], ◌∷◌, length, Bool, ◌==◌, if◌then◌else◌}
 use Rattle.std.specs.List.{list_any}
 use Rattle.gate_model.specs.declared.entry.Entry.{Entry}
-use Rattle.gate_model.specs.History.{History}
+use Rattle.gate_model.specs.session.History.{History}
 use Rattle.turn_lock.specs.declared.view.View.{View}
 
 abbrev pub is_place : List ℕ → ℕ → Bool

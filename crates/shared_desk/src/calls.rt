@@ -23,7 +23,7 @@ use std::sync::Wait;
 use turn_lock::{Adds, Turn};
 
 impl Member {
-    ghost use Rattle.gate_model.specs.Calls.{IsPiece, IsWrite};
+    ghost use Rattle.gate_model.specs.session.Calls.{IsPiece, IsWrite};
     ghost use Rattle.gate_model.specs.declared.answer.Answer.TheVariants.{Leave as left, Close as closed};
     ghost use Rattle.gate_model.specs.declared.event.Event.TheVariants.{Feed, Join, Read, Write, Take, Leave, Close};
     ghost use Rattle.desk_core.specs.Calls.{feed_answer, join_answer, read_answer, write_answer};

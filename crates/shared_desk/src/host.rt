@@ -39,7 +39,7 @@ impl Model for HostPass {
 }
 
 impl HostPass {
-    ghost use Rattle.gate_model.specs.History.{joined as viewers};
+    ghost use Rattle.gate_model.specs.session.History.{joined as viewers};
     ghost use Rattle.gate_model.specs.Sequences.{IsLater};
     ghost use Rattle.gate_model.specs.declared.answer.Answer.TheVariants.{Close as closed};
     ghost use Rattle.gate_model.specs.declared.event.Event.TheVariants.{Close};

@@ -27,8 +27,8 @@ impl Model for LinkPass {
 }
 
 impl LinkPass {
-    ghost use Rattle.gate_model.specs.Calls.{IsPiece};
-    ghost use Rattle.gate_model.specs.History.{bytes as heard};
+    ghost use Rattle.gate_model.specs.session.Calls.{IsPiece};
+    ghost use Rattle.gate_model.specs.session.History.{bytes as heard};
     ghost use Rattle.gate_model.specs.declared.answer.Answer.TheVariants.{Close as closed};
     ghost use Rattle.gate_model.specs.declared.event.Event.TheVariants.{Feed, Close};
     ghost use Rattle.desk_core.specs.Calls.{feed_answer};

@@ -32,7 +32,7 @@ impl Member {
     ghost use Rattle.std.specs.Arc.{arc_value};
     ghost use Rattle.turn_lock.specs.Passes.{name_of};
     ghost use Rattle.turn_lock.specs.Views.{knowing, giving, part_of, joined, MayGive};
-    ghost use Rattle.gate_model.specs.History.{joined as viewers};
+    ghost use Rattle.gate_model.specs.session.History.{joined as viewers};
     ghost use Rattle.gate_model.specs.Limits.{most_joined};
     ghost use Rattle.gate_model.specs.Sequences.{IsLater};
     ghost use Rattle.gate_model.specs.declared.entry.Entry.{Entry};

@@ -27,8 +27,8 @@ impl Model for ReaderPass {
 }
 
 impl ReaderPass {
-    ghost use Rattle.gate_model.specs.Delivered.{delivered};
-    ghost use Rattle.gate_model.specs.Text.{texts};
+    ghost use Rattle.gate_model.specs.session.Delivered.{delivered};
+    ghost use Rattle.gate_model.specs.text.Text.{texts};
     ghost use Rattle.gate_model.specs.declared.answer.Answer.TheVariants.{Leave as left};
     ghost use Rattle.gate_model.specs.declared.event.Event.TheVariants.{Read, Leave};
     ghost use Rattle.desk_core.specs.Calls.{read_answer};

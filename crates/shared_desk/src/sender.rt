@@ -26,7 +26,7 @@ impl Model for SenderPass {
 }
 
 impl SenderPass {
-    ghost use Rattle.gate_model.specs.Output.{out, taken};
+    ghost use Rattle.gate_model.specs.session.Output.{out, taken};
     ghost use Rattle.gate_model.specs.Sequences.{BeginsWith};
     ghost use Rattle.gate_model.specs.declared.answer.Answer.TheVariants.{Close as closed};
     ghost use Rattle.gate_model.specs.declared.event.Event.TheVariants.{Take, Close};

@@ -1,7 +1,7 @@
 //! The beginning and the end of sharing.
 
 ghost use Rattle.std.specs.Prelude.{◌≡◌, ◌≤◌, ◌==◌, List, length, is_ok, IfOk, IfErr};
-ghost use Rattle.gate_model.specs.History.{History};
+ghost use Rattle.gate_model.specs.session.History.{History};
 ghost use Rattle.gate_model.specs.Sequences.{IsLater};
 ghost use Rattle.gate_model.specs.declared.entry.Entry.{Entry};
 ghost use Rattle.desk_core.specs.Desk.{Stands};

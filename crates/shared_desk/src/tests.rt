@@ -1,7 +1,7 @@
 //! Sessions that are shared and end, and threads at one desk.
 
 ghost use Rattle.std.specs.Prelude.{◌≡◌, IfOk};
-ghost use Rattle.gate_model.specs.Steps.{IsSetup};
+ghost use Rattle.gate_model.specs.session.Steps.{IsSetup};
 
 use crate::calls::end_turn;
 use crate::{AnyPass, HostPass, LinkPass, ReaderPass, SenderPass, WriterPass, end_session, share};

@@ -28,7 +28,7 @@ impl Model for WriterPass {
 }
 
 impl WriterPass {
-    ghost use Rattle.gate_model.specs.Calls.{IsWrite};
+    ghost use Rattle.gate_model.specs.session.Calls.{IsWrite};
     ghost use Rattle.gate_model.specs.declared.answer.Answer.TheVariants.{Leave as left};
     ghost use Rattle.gate_model.specs.declared.entry.Entry.TheVariants.{Write as Wrote, Leave as Left};
     ghost use Rattle.gate_model.specs.declared.event.Event.TheVariants.{Write, Leave};

@@ -1,6 +1,6 @@
 -- What a clause reads of `Options`.
 use Rattle.telnet_options.specs.declared.options.Options.{Options}
-use Rattle.gate_model.specs.OptionAnswers.{Switches}
+use Rattle.gate_model.specs.telnet.OptionAnswers.{Switches}
 
 -- which options are on
 abbrev pub switches : Options → Switches

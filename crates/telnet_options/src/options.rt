@@ -1,6 +1,6 @@
 ghost use Rattle.std.specs.Prelude.{◌≡◌, ◌++◌, OnOk, OnErr, true, false};
 ghost use Rattle.gate_model.specs.Sequences.{BeginsWith};
-ghost use Rattle.gate_model.specs.OptionAnswers.{all_off, if_off, if_on, reply, do_answer, dont_answer, will_answer, wont_answer, option_answer, own_set, peer_set, switches_after};
+ghost use Rattle.gate_model.specs.telnet.OptionAnswers.{all_off, if_off, if_on, reply, do_answer, dont_answer, will_answer, wont_answer, option_answer, own_set, peer_set, switches_after};
 
 use crate::codes::{ECHO, SEND, SUPPRESS_GO_AHEAD, TERMINAL_TYPE, WINDOW_SIZE};
 use crate::replies::{put_reply, put_size, put_terminal};

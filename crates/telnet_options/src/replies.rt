@@ -2,8 +2,8 @@
 
 ghost use Rattle.std.specs.Prelude.{◌≡◌, ◌++◌, OnOk};
 ghost use Rattle.gate_model.specs.Sequences.{BeginsWith};
-ghost use Rattle.gate_model.specs.OptionAnswers.{reply, size_text, terminal_text};
-ghost use Rattle.gate_model.specs.TelnetTokens.{sent_byte};
+ghost use Rattle.gate_model.specs.telnet.OptionAnswers.{reply, size_text, terminal_text};
+ghost use Rattle.gate_model.specs.telnet.TelnetTokens.{sent_byte};
 
 use crate::codes::{IS, TERMINAL_TYPE, WINDOW_SIZE};
 use gate_model::NoMemory;

@@ -5,8 +5,8 @@ use Rattle.std.proofs.lemmas.Bool.Decides.{nat_tests}
 use Rattle.std.proofs.lemmas.List.Elements.{All-head, All-tail}
 use Rattle.gate_model.specs.declared.token.Token.{Token}
 use Rattle.gate_model.specs.declared.token.Token.TheVariants.{Byte, Single}
-use Rattle.gate_model.specs.Reading.{read, after}
-use Rattle.gate_model.specs.TelnetTokens.{FoundToken, iac, sub_token, head_sub, head_command, head_token, tokens, unfinished_token}
+use Rattle.gate_model.specs.text.Reading.{read, after}
+use Rattle.gate_model.specs.telnet.TelnetTokens.{FoundToken, iac, sub_token, head_sub, head_command, head_token, tokens, unfinished_token}
 use Rattle.gate_model.proofs.Cutting.{read-whole, read-unfinished, resumes}
 use Rattle.gate_model.proofs.TokenLaws.{head_token-is, tokens-cut}
 use Rattle.telnet_wire.specs.declared.kept.Kept.{Kept}

@@ -2,7 +2,7 @@
 use Rattle.std.specs.Prelude.{ℕ, List}
 use Rattle.telnet_wire.specs.declared.reader.Reader.{Reader}
 use Rattle.telnet_wire.specs.State.{Stands}
-use Rattle.gate_model.specs.TelnetTokens.{unfinished_token}
+use Rattle.gate_model.specs.telnet.TelnetTokens.{unfinished_token}
 
 -- it stands for the unfinished end
 abbrev pub HaveRead : Reader → List ℕ → Type 0

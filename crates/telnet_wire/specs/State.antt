@@ -6,8 +6,8 @@ use Rattle.telnet_wire.specs.declared.state.State.{State}
 use Rattle.telnet_wire.specs.declared.state.State.TheVariants.{Data, Command, AfterWill, AfterWont, AfterDo, AfterDont, Within, WithinCommand}
 use Rattle.telnet_wire.specs.Kept.{Holds}
 use Rattle.gate_model.specs.declared.token.Token.{Token}
-use Rattle.gate_model.specs.Reading.{read}
-use Rattle.gate_model.specs.TelnetTokens.{FoundToken, iac, sub_token, head_sub, head_token}
+use Rattle.gate_model.specs.text.Reading.{read}
+use Rattle.gate_model.specs.telnet.TelnetTokens.{FoundToken, iac, sub_token, head_sub, head_token}
 
 -- after IAC SB, these bytes, undoubled, and IAC
 abbrev pub sub_command : List ℕ → List ℕ → FoundToken

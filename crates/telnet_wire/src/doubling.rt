@@ -1,6 +1,6 @@
 ghost use Rattle.std.specs.Prelude.{◌≡◌, ◌++◌, OnOk, OnErr};
 ghost use Rattle.gate_model.specs.Sequences.{BeginsWith};
-ghost use Rattle.gate_model.specs.TelnetTokens.{doubled};
+ghost use Rattle.gate_model.specs.telnet.TelnetTokens.{doubled};
 
 use gate_model::NoMemory;
 use gate_model::telnet_codes::IAC;

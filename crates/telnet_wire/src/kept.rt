@@ -1,6 +1,6 @@
 ghost use Rattle.std.specs.Prelude.{◌≡◌, ◌++◌, ◌∷◌, [], ℕ, List, IfOk};
 ghost use Rattle.std.specs.List.{cons_option};
-ghost use Rattle.gate_model.specs.TelnetTokens.{sub_token};
+ghost use Rattle.gate_model.specs.telnet.TelnetTokens.{sub_token};
 
 use gate_model::limits::MOST_IN_SUB;
 use gate_model::{Bytes, NoMemory, Token};

@@ -1,6 +1,6 @@
 ghost use Rattle.std.specs.Prelude.{◌≡◌, ◌++◌, ◌∷◌, [], ℕ, List, IfOk, OnErr, ◌≤◌, ◌≢◌, All, length, take};
 ghost use Rattle.std.specs.List.{cons_option};
-ghost use Rattle.gate_model.specs.TelnetTokens.{head_sub};
+ghost use Rattle.gate_model.specs.telnet.TelnetTokens.{head_sub};
 
 use crate::kept::Kept;
 use crate::part::Part;

@@ -1,5 +1,5 @@
 ghost use Rattle.std.specs.Prelude.{◌≡◌, ◌++◌, [], ℕ, List, IfOk, OnOk, OnErr, ◌≤◌, length, take};
-ghost use Rattle.gate_model.specs.TelnetTokens.{tokens};
+ghost use Rattle.gate_model.specs.telnet.TelnetTokens.{tokens};
 ghost use Rattle.telnet_wire.specs.Past.{HaveRead};
 
 use crate::part::Part;

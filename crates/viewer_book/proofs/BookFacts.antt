@@ -4,7 +4,7 @@ use Rattle.std.proofs.Common.{arith}
 use Rattle.gate_model.specs.declared.mods.Mods.{Mods}
 use Rattle.gate_model.specs.declared.sharing.Role.TheVariants.{Control, View, Keep}
 use Rattle.viewer_book.specs.declared.viewer.Viewer.{Viewer}
-use Rattle.gate_model.specs.Rights.{none_held}
+use Rattle.gate_model.specs.session.Rights.{none_held}
 use Rattle.gate_model.specs.Limits.{most_live, most_joined}
 use Rattle.viewer_book.specs.Book.{BookState, AreRising, IsBook, has_number, viewer_at, is_live, live_count, nobody, newcomer, added, changed, removed, holding, moved_to, ended_at}
 

@@ -4,7 +4,7 @@ use Rattle.std.specs.List.{find}
 use Rattle.gate_model.specs.declared.mods.Mods.{Mods}
 use Rattle.gate_model.specs.declared.sharing.Role.{Role}
 use Rattle.gate_model.specs.Limits.{most_live, most_joined}
-use Rattle.gate_model.specs.Rights.{none_held}
+use Rattle.gate_model.specs.session.Rights.{none_held}
 use Rattle.viewer_book.specs.declared.viewer.Viewer.{Viewer}
 
 -- how many viewers have joined, and those that are live, in the order of their numbers

@@ -4,9 +4,9 @@ use Rattle.std.proofs.lemmas.Grind.{common_steps}
 use Rattle.std.proofs.lemmas.List.{drop-drop, replicate-append-replicate}
 use Rattle.std.proofs.Math.Seq.{drop-append-add, take-append_seam}
 use Rattle.gate_model.specs.declared.cell.Cell.{Cell}
-use Rattle.gate_model.specs.Cells.{CellGrid, blank, blank_grid, erased, moved_left, place, rows_of, scrolled_up, with_part}
-use Rattle.gate_model.specs.CellLaws.{IsFull}
-use Rattle.gate_model.specs.Editing.{blanked}
+use Rattle.gate_model.specs.terminal.Cells.{CellGrid, blank, blank_grid, erased, moved_left, place, rows_of, scrolled_up, with_part}
+use Rattle.gate_model.specs.terminal.CellLaws.{IsFull}
+use Rattle.gate_model.specs.terminal.Editing.{blanked}
 use Rattle.vt_screen.proofs.Ranges.{length-range, row_room}
 
 -- ---- lists of cells

@@ -6,9 +6,9 @@ use Rattle.std.proofs.lemmas.List.{map_more, map-append}
 use Rattle.std.proofs.Math.Seq.{take-add}
 use Rattle.gate_model.specs.declared.cell.Cell.{Cell}
 use Rattle.gate_model.specs.declared.key.Key.{Key}
-use Rattle.gate_model.specs.Cells.{CellGrid, blank, cell_at, place, rest_of_row}
-use Rattle.gate_model.specs.CellLaws.{IsFull}
-use Rattle.gate_model.specs.Screens.{key_of}
+use Rattle.gate_model.specs.terminal.Cells.{CellGrid, blank, cell_at, place, rest_of_row}
+use Rattle.gate_model.specs.terminal.CellLaws.{IsFull}
+use Rattle.gate_model.specs.terminal.Screens.{key_of}
 use Rattle.vt_screen.proofs.Ranges.{length-range, row_room}
 
 at_range : (from to i : ℕ) (cells : List Cell) → i < to - from → get_or (slice_range cells from to) i blank ≡ get_or cells (from + i) blank

@@ -1,7 +1,7 @@
 -- A character that is printed again and again.
 use Rattle.std.proofs.Common.{◌≡◌, ℕ, zero, suc, ◌-◌, ◌<◌, ap, arith}
-use Rattle.gate_model.specs.Printing.{printed, printed_often}
-use Rattle.gate_model.specs.Terminal.{Terminal}
+use Rattle.gate_model.specs.terminal.Printing.{printed, printed_often}
+use Rattle.gate_model.specs.terminal.Terminal.{Terminal}
 
 -- one more turn
 pub again : (n c : ℕ) (t : Terminal) → 0 < n → printed_often (n - 1) c (printed c t) ≡ printed_often n c t

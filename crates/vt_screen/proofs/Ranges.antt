@@ -3,7 +3,7 @@ use Rattle.std.proofs.Common.{◌≡◌, ℕ, ◌+◌, ◌-◌, ◌*◌, ◌<◌
 use Rattle.std.specs.Prelude.{slice_range}
 use Rattle.std.proofs.lemmas.Grind.{common_steps}
 use Rattle.gate_model.specs.declared.cell.Cell.{Cell}
-use Rattle.gate_model.specs.Cells.{CellGrid}
+use Rattle.gate_model.specs.terminal.Cells.{CellGrid}
 
 pub length-range : (from to : ℕ) (cells : List Cell) → to ≤ length cells → length (slice_range cells from to) ≡ to - from
 length-range from to cells le = grind (arith, common_steps)

@@ -6,13 +6,13 @@ use Rattle.std.proofs.Math.Seq.{take-add}
 use Rattle.gate_model.specs.declared.cell.Cell.{Cell}
 use Rattle.gate_model.specs.declared.control.Control.{Control}
 use Rattle.gate_model.specs.declared.control.Control.TheVariants.{Print}
-use Rattle.gate_model.specs.Cells.{CellGrid, place, put, with_part}
-use Rattle.gate_model.specs.CellLaws.{IsFull}
-use Rattle.gate_model.specs.Effects.{effect}
-use Rattle.gate_model.specs.Pens.{drawn_with}
-use Rattle.gate_model.specs.Printing.{opened_for, placed, wrapped}
-use Rattle.gate_model.specs.Screens.{after_controls}
-use Rattle.gate_model.specs.Terminal.{Terminal}
+use Rattle.gate_model.specs.terminal.Cells.{CellGrid, place, put, with_part}
+use Rattle.gate_model.specs.terminal.CellLaws.{IsFull}
+use Rattle.gate_model.specs.terminal.Effects.{effect}
+use Rattle.gate_model.specs.terminal.Pens.{drawn_with}
+use Rattle.gate_model.specs.terminal.Printing.{opened_for, placed, wrapped}
+use Rattle.gate_model.specs.terminal.Screens.{after_controls}
+use Rattle.gate_model.specs.terminal.Terminal.{Terminal}
 use Rattle.screen_grid.specs.Runs.{like, put_run}
 use Rattle.vt_screen.proofs.Ranges.{row_room}
 

@@ -2,9 +2,9 @@
 use Rattle.std.proofs.Common.{◌≡◌, ℕ, ◌-◌, ◌*◌, ap, sym, ◌∙◌, length, None, arith}
 use Rattle.std.proofs.lemmas.List.{length-replicate}
 use Rattle.std.proofs.lemmas.List.FromFn.{length-map-range_with_len}
-use Rattle.gate_model.specs.Cells.{CellGrid, blank, blank_grid}
-use Rattle.gate_model.specs.Steps.{IsScreenSize}
-use Rattle.gate_model.specs.Terminal.{first_stops, is_first_stop}
+use Rattle.gate_model.specs.terminal.Cells.{CellGrid, blank, blank_grid}
+use Rattle.gate_model.specs.session.Steps.{IsScreenSize}
+use Rattle.gate_model.specs.terminal.Terminal.{first_stops, is_first_stop}
 use Rattle.vt_screen.specs.Soundness.{IsSound}
 use Rattle.vt_screen.specs.declared.screen.Screen.TheInside.{Inside}
 

@@ -1,6 +1,6 @@
 -- Moves from tab stop to tab stop.
 use Rattle.std.proofs.Common.{◌≡◌, ℕ, zero, suc, ◌-◌, ◌<◌, List, length, Bool, refl, ap, ◌∙◌, arith}
-use Rattle.gate_model.specs.TabStops.{stop_above, stop_below, stops_above, stops_below}
+use Rattle.gate_model.specs.terminal.TabStops.{stop_above, stop_below, stops_above, stops_below}
 
 -- a move, and those that are left after it
 pub above_more : (stops : List Bool) (n x : ℕ) → 0 < n → stops_above stops (n - 1) (stop_above stops x) ≡ stops_above stops n x

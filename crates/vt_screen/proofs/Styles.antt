@@ -1,9 +1,9 @@
 -- The pen after the numbers from a place on.
 use Rattle.std.proofs.Common.{◌≡◌, ℕ, zero, suc, ◌+◌, ◌-◌, ◌<◌, List, ◌∷◌, length, drop, get_or, Bool, true, false, refl, ap, ◌∙◌, add-one, drop-cons, arith}
 use Rattle.std.specs.Prelude.{if◌then◌else◌}
-use Rattle.gate_model.specs.Arguments.{choice}
-use Rattle.gate_model.specs.Pens.{colour_size, is_colour, styled_after, styled_by}
-use Rattle.gate_model.specs.Terminal.{Pen}
+use Rattle.gate_model.specs.terminal.Arguments.{choice}
+use Rattle.gate_model.specs.terminal.Pens.{colour_size, is_colour, styled_after, styled_by}
+use Rattle.gate_model.specs.terminal.Terminal.{Pen}
 
 at_place : (skipped : ℕ) (pen : Pen) (ps : List ℕ) (i : ℕ) → i < length ps → styled_after skipped pen (drop i ps) ≡ styled_after skipped pen (get_or ps i 0 ∷ drop (i + 1) ps)
 at_place skipped pen ps i lt =

@@ -1,8 +1,8 @@
 -- The state of a screen's fields, and what holds of it at any time.
 use Rattle.std.specs.Prelude.{◌≡◌, ◌<◌, ◌≤◌, length, IfSome}
-use Rattle.gate_model.specs.CellLaws.{IsFull}
-use Rattle.gate_model.specs.Steps.{IsScreenSize}
-use Rattle.gate_model.specs.Terminal.{IsPlaceOf, Terminal}
+use Rattle.gate_model.specs.terminal.CellLaws.{IsFull}
+use Rattle.gate_model.specs.session.Steps.{IsScreenSize}
+use Rattle.gate_model.specs.terminal.Terminal.{IsPlaceOf, Terminal}
 use Rattle.vt_screen.specs.declared.screen.Screen.TheInside.{Inside}
 
 -- the state

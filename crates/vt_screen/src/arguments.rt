@@ -1,7 +1,7 @@
 //! What a control function reads from its parameters (ECMA-48, section 5.4.2).
 
 ghost use Rattle.std.specs.Prelude.{◌≡◌, ◌<◌, ◌≤◌};
-ghost use Rattle.gate_model.specs.Arguments.{amount, choice, first_amount, first_choice, listed, parameter};
+ghost use Rattle.gate_model.specs.terminal.Arguments.{amount, choice, first_amount, first_choice, listed, parameter};
 
 use gate_model::Params;
 

@@ -2,7 +2,7 @@
 //! that have no effect in their case.
 
 ghost use Rattle.std.specs.Prelude.{◌≡◌, ◌≤◌};
-ghost use Rattle.gate_model.specs.Effects.{always_clears, clears_wrap, sequence_clears};
+ghost use Rattle.gate_model.specs.terminal.Effects.{always_clears, clears_wrap, sequence_clears};
 
 use crate::Screen;
 use crate::arguments::{first_choice, listed};

@@ -1,7 +1,7 @@
 //! The movements of the cursor.
 
 ghost use Rattle.std.specs.Prelude.{◌≡◌};
-ghost use Rattle.gate_model.specs.Cursor.{moved_back, moved_down, moved_on, moved_up, restored_cursor, returned, saved_cursor, tabbed_back, tabbed_on, to_column, to_place, to_row};
+ghost use Rattle.gate_model.specs.terminal.Cursor.{moved_back, moved_down, moved_on, moved_up, restored_cursor, returned, saved_cursor, tabbed_back, tabbed_on, to_column, to_place, to_row};
 
 use crate::Screen;
 use crate::arguments::{amount, parameter};

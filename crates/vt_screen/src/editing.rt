@@ -1,7 +1,7 @@
 //! Erasing, inserting and deleting of cells. Whole rows are erased by scrolling them by all of them.
 
 ghost use Rattle.std.specs.Prelude.{◌≡◌, ◌+◌};
-ghost use Rattle.gate_model.specs.Editing.{blanked, characters_deleted, characters_erased, characters_inserted, cursor_place, display_erased, line_erased, place_count};
+ghost use Rattle.gate_model.specs.terminal.Editing.{blanked, characters_deleted, characters_erased, characters_inserted, cursor_place, display_erased, line_erased, place_count};
 
 use crate::Screen;
 

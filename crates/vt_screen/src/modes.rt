@@ -1,6 +1,6 @@
 ghost use Rattle.std.specs.Prelude.{◌≡◌};
-ghost use Rattle.gate_model.specs.Modes.{is_mode, mode_set, modes_set, names_mode};
-ghost use Rattle.gate_model.specs.Terminal.{first_modes};
+ghost use Rattle.gate_model.specs.terminal.Modes.{is_mode, mode_set, modes_set, names_mode};
+ghost use Rattle.gate_model.specs.terminal.Terminal.{first_modes};
 
 use std::marker::Model;
 
@@ -14,7 +14,7 @@ pub(crate) struct Modes {
 }
 
 impl Model for Modes {
-    ghost use Rattle.gate_model.specs.Terminal as terminal;
+    ghost use Rattle.gate_model.specs.terminal.Terminal as terminal;
 
     ghost Value = { terminal.Modes };
 

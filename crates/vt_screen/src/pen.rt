@@ -1,6 +1,6 @@
 ghost use Rattle.std.specs.Prelude.{◌≡◌};
-ghost use Rattle.gate_model.specs.Pens.{colour_size, drawn_with, is_colour, pen_ink, pen_paper, styled, styled_by};
-ghost use Rattle.gate_model.specs.Terminal.{plain};
+ghost use Rattle.gate_model.specs.terminal.Pens.{colour_size, drawn_with, is_colour, pen_ink, pen_paper, styled, styled_by};
+ghost use Rattle.gate_model.specs.terminal.Terminal.{plain};
 
 use crate::arguments::choice;
 use gate_model::Cell;
@@ -23,7 +23,7 @@ pub(crate) struct Pen {
 
 impl Model for Pen {
     ghost use Rattle.std.specs.Prelude.{◌<◌, IfSome};
-    ghost use Rattle.gate_model.specs.Terminal as terminal;
+    ghost use Rattle.gate_model.specs.terminal.Terminal as terminal;
 
     ghost Value = { terminal.Pen };
 

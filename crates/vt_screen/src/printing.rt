@@ -1,10 +1,10 @@
 //! Characters that are printed.
 
 ghost use Rattle.std.specs.Prelude.{◌≡◌, ◌<◌, ◌≤◌, ◌+◌, false, length, map, take};
-ghost use Rattle.gate_model.specs.CellLaws.{IsFull};
-ghost use Rattle.gate_model.specs.Pens.{drawn_with};
-ghost use Rattle.gate_model.specs.Printing.{opened_for, placed, printed, repeated, wrapped};
-ghost use Rattle.gate_model.specs.Screens.{after_controls};
+ghost use Rattle.gate_model.specs.terminal.CellLaws.{IsFull};
+ghost use Rattle.gate_model.specs.terminal.Pens.{drawn_with};
+ghost use Rattle.gate_model.specs.terminal.Printing.{opened_for, placed, printed, repeated, wrapped};
+ghost use Rattle.gate_model.specs.terminal.Screens.{after_controls};
 ghost use Rattle.screen_grid.specs.Runs.{put_run};
 
 use crate::Screen;

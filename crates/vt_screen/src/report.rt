@@ -1,7 +1,7 @@
 //! What a screen reports to the Telnet host.
 
 ghost use Rattle.std.specs.Prelude.{◌≡◌};
-ghost use Rattle.gate_model.specs.Reports.{device_report, position_report, report, sequence_report};
+ghost use Rattle.gate_model.specs.terminal.Reports.{device_report, position_report, report, sequence_report};
 
 use crate::arguments::first_choice;
 use crate::{Reply, Screen};

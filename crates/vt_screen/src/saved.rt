@@ -1,5 +1,5 @@
 ghost use Rattle.std.specs.Prelude.{◌≡◌};
-ghost use Rattle.gate_model.specs.Terminal.{plain};
+ghost use Rattle.gate_model.specs.terminal.Terminal.{plain};
 
 use crate::pen::Pen;
 use std::marker::Model;
@@ -13,7 +13,7 @@ pub(crate) struct Saved {
 }
 
 impl Model for Saved {
-    ghost use Rattle.gate_model.specs.Terminal as terminal;
+    ghost use Rattle.gate_model.specs.terminal.Terminal as terminal;
 
     ghost Value = { terminal.Saved };
 

@@ -1,7 +1,7 @@
 ghost use Rattle.std.specs.Prelude.{◌≡◌, ◌-◌, ◌^◌, min, IfOk};
-ghost use Rattle.gate_model.specs.Effects.{reset};
-ghost use Rattle.gate_model.specs.Steps.{IsScreenSize};
-ghost use Rattle.gate_model.specs.Terminal.{opening_screen};
+ghost use Rattle.gate_model.specs.terminal.Effects.{reset};
+ghost use Rattle.gate_model.specs.session.Steps.{IsScreenSize};
+ghost use Rattle.gate_model.specs.terminal.Terminal.{opening_screen};
 
 use crate::modes::Modes;
 use crate::pen::Pen;
@@ -34,7 +34,7 @@ pub struct Screen {
 }
 
 impl Model for Screen {
-    ghost use Rattle.gate_model.specs.Terminal.{Terminal};
+    ghost use Rattle.gate_model.specs.terminal.Terminal.{Terminal};
 
     ghost Value = { Terminal };
 

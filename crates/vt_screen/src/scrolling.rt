@@ -1,7 +1,7 @@
 //! Scrolling within the margins, and the margins.
 
 ghost use Rattle.std.specs.Prelude.{◌≡◌};
-ghost use Rattle.gate_model.specs.Scrolling.{are_margins, is_whole, is_within, line_feed, lines_deleted, lines_inserted, named_bottom, reverse_line_feed, scrolled_down, scrolled_up, with_margins};
+ghost use Rattle.gate_model.specs.terminal.Scrolling.{are_margins, is_whole, is_within, line_feed, lines_deleted, lines_inserted, named_bottom, reverse_line_feed, scrolled_down, scrolled_up, with_margins};
 
 use crate::Screen;
 use crate::arguments::{DEFAULT, first_amount, parameter};

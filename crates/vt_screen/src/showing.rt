@@ -1,8 +1,8 @@
 //! What a screen shows.
 
 ghost use Rattle.std.specs.Prelude.{◌≡◌, ◌+◌, ◌*◌, ◌<◌, ◌++◌, IfOk, map, length};
-ghost use Rattle.gate_model.specs.Cells.{rest_of_row};
-ghost use Rattle.gate_model.specs.Screens.{exchanged, face_of, key_of, shown};
+ghost use Rattle.gate_model.specs.terminal.Cells.{rest_of_row};
+ghost use Rattle.gate_model.specs.terminal.Screens.{exchanged, face_of, key_of, shown};
 
 use crate::Screen;
 use gate_model::{Cell, Key, NoMemory, Shown};

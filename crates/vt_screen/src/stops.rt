@@ -1,6 +1,6 @@
 ghost use Rattle.std.specs.Prelude.{◌≡◌, ◌<◌, ◌≤◌, length, slice_set, true, IfOk};
-ghost use Rattle.gate_model.specs.TabStops.{stop_above, stop_below, stops_above, stops_below, stops_cleared};
-ghost use Rattle.gate_model.specs.Terminal.{first_stops, is_first_stop};
+ghost use Rattle.gate_model.specs.terminal.TabStops.{stop_above, stop_below, stops_above, stops_below, stops_cleared};
+ghost use Rattle.gate_model.specs.terminal.Terminal.{first_stops, is_first_stop};
 
 use gate_model::NoMemory;
 use std::alloc::Global;

@@ -2,9 +2,9 @@
 //! effect.
 
 ghost use Rattle.std.specs.Prelude.{◌≡◌, ◌≤◌};
-ghost use Rattle.gate_model.specs.Controls.{HasFewParameters};
-ghost use Rattle.gate_model.specs.Effects.{code_effect, cursor_effect, editing_effect, effect, escape_effect, private_effect, reset, sequence_effect};
-ghost use Rattle.gate_model.specs.Reports.{report};
+ghost use Rattle.gate_model.specs.terminal.Controls.{HasFewParameters};
+ghost use Rattle.gate_model.specs.terminal.Effects.{code_effect, cursor_effect, editing_effect, effect, escape_effect, private_effect, reset, sequence_effect};
+ghost use Rattle.gate_model.specs.terminal.Reports.{report};
 
 use crate::arguments::{first_amount, first_choice, listed};
 use crate::modes::Modes;

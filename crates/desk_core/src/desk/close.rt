@@ -1,7 +1,7 @@
 //! The end of a session.
 
 ghost use Rattle.std.specs.Prelude.{◌≡◌, [], Ok, OnErr};
-ghost use Rattle.gate_model.specs.History.{History};
+ghost use Rattle.gate_model.specs.session.History.{History};
 ghost use Rattle.gate_model.specs.declared.answer.Answer.TheVariants.{Close as closed};
 ghost use Rattle.gate_model.specs.declared.event.Event.TheVariants.{Close};
 

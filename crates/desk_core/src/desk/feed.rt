@@ -1,8 +1,8 @@
 //! Bytes of the Telnet host.
 
 ghost use Rattle.std.specs.Prelude.{◌≡◌, ◌+◌, ◌≤◌, ◌^◌, [], IfOk, OnErr, OnOk};
-ghost use Rattle.gate_model.specs.History.{History};
-ghost use Rattle.gate_model.specs.Refusals.{feed_refusal};
+ghost use Rattle.gate_model.specs.session.History.{History};
+ghost use Rattle.gate_model.specs.session.Refusals.{feed_refusal};
 ghost use Rattle.gate_model.specs.declared.event.Event.TheVariants.{Feed};
 
 use crate::desk::Desk;
@@ -12,7 +12,7 @@ use gate_model::{FeedRefusal, NoMemory};
 use std::alloc::Global;
 
 impl Desk {
-    ghost use Rattle.gate_model.specs.Calls.{IsPiece};
+    ghost use Rattle.gate_model.specs.session.Calls.{IsPiece};
     ghost use Rattle.desk_core.specs.Desk.{Stands};
     ghost use Rattle.desk_core.specs.Calls.{Ended, feed_answer};
     ghost use Rattle.desk_core.specs.Parts.{Follows};

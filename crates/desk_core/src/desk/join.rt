@@ -1,7 +1,7 @@
 //! Viewers that join.
 
 ghost use Rattle.std.specs.Prelude.{◌≡◌, ◌+◌, ◌<◌, ◌≤◌, ◌++◌, ◌^◌, length, OnErr, OnOk};
-ghost use Rattle.gate_model.specs.History.{History};
+ghost use Rattle.gate_model.specs.session.History.{History};
 ghost use Rattle.gate_model.specs.Limits.{most_joined, most_live};
 ghost use Rattle.gate_model.specs.declared.event.Event.TheVariants.{Join};
 ghost use Rattle.viewer_book.specs.Book.{live_count};

@@ -1,7 +1,7 @@
 //! Viewers that leave.
 
 ghost use Rattle.std.specs.Prelude.{◌≡◌, [], Ok, OnErr};
-ghost use Rattle.gate_model.specs.History.{History};
+ghost use Rattle.gate_model.specs.session.History.{History};
 ghost use Rattle.gate_model.specs.declared.answer.Answer.TheVariants.{Leave as left};
 ghost use Rattle.gate_model.specs.declared.event.Event.TheVariants.{Leave};
 

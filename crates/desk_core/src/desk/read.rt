@@ -1,8 +1,8 @@
 //! What viewers are given.
 
 ghost use Rattle.std.specs.Prelude.{◌≡◌, ◌+◌, ◌-◌, ◌^◌, min};
-ghost use Rattle.gate_model.specs.History.{History};
-ghost use Rattle.gate_model.specs.Refusals.{read_stop};
+ghost use Rattle.gate_model.specs.session.History.{History};
+ghost use Rattle.gate_model.specs.session.Refusals.{read_stop};
 ghost use Rattle.gate_model.specs.declared.event.Event.TheVariants.{Read};
 
 use crate::desk::Desk;

@@ -1,10 +1,10 @@
 //! Calls made one after the other.
 
 ghost use Rattle.std.specs.Prelude.{◌≡◌, ℕ, ◌<◌, [], get_or, length};
-ghost use Rattle.gate_model.specs.History.{History};
+ghost use Rattle.gate_model.specs.session.History.{History};
 ghost use Rattle.gate_model.specs.declared.event.Event.{Event};
 ghost use Rattle.gate_model.specs.declared.event.Event.TheVariants.{Take};
-ghost use Rattle.gate_model.specs.Calls.{MeetsCondition};
+ghost use Rattle.gate_model.specs.session.Calls.{MeetsCondition};
 ghost use Rattle.desk_core.specs.Calls.{feed_answer, join_answer, read_answer, write_answer};
 
 use crate::desk::Desk;

@@ -13,7 +13,7 @@ use gate_model::{NoMemory, Setup};
 use std::alloc::Global;
 
 impl Desk {
-    ghost use Rattle.gate_model.specs.Steps.{IsSetup};
+    ghost use Rattle.gate_model.specs.session.Steps.{IsSetup};
     ghost use Rattle.desk_core.specs.Calls.{Opened};
 
     /// Opens a session of 1 to 512 columns, 1 to 256 rows, a terminal type of 1 to 40 characters U+0021

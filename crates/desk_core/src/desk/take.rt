@@ -1,7 +1,7 @@
 //! What is taken for the Telnet host.
 
 ghost use Rattle.std.specs.Prelude.{◌≡◌, ◌≤◌, [], drop, length, take, Ok};
-ghost use Rattle.gate_model.specs.History.{History};
+ghost use Rattle.gate_model.specs.session.History.{History};
 ghost use Rattle.gate_model.specs.declared.answer.Answer.TheVariants.{Take as taken};
 ghost use Rattle.gate_model.specs.declared.event.Event.TheVariants.{Take};
 

@@ -1,10 +1,10 @@
 //! What viewers ask for.
 
 ghost use Rattle.std.specs.Prelude.{◌≡◌, ◌+◌, ◌≤◌, ◌^◌, [], count_by, false, if◌then◌else◌, length, IfOk, IsTrue, OnErr, OnOk};
-ghost use Rattle.gate_model.specs.Calls.{is_key_act};
-ghost use Rattle.gate_model.specs.History.{History, is_closed};
-ghost use Rattle.gate_model.specs.Refusals.{write_refusal};
-ghost use Rattle.gate_model.specs.Rights.{may};
+ghost use Rattle.gate_model.specs.session.Calls.{is_key_act};
+ghost use Rattle.gate_model.specs.session.History.{History, is_closed};
+ghost use Rattle.gate_model.specs.session.Refusals.{write_refusal};
+ghost use Rattle.gate_model.specs.session.Rights.{may};
 ghost use Rattle.gate_model.specs.declared.event.Event.TheVariants.{Write};
 ghost use Rattle.viewer_book.specs.Book.{is_live};
 
@@ -14,7 +14,7 @@ use gate_model::{Act, NoMemory, WriteRefusal, Written};
 use std::alloc::Global;
 
 impl Desk {
-    ghost use Rattle.gate_model.specs.Calls.{IsWrite};
+    ghost use Rattle.gate_model.specs.session.Calls.{IsWrite};
     ghost use Rattle.desk_core.specs.Desk.{Stands};
     ghost use Rattle.desk_core.specs.Calls.{Ended, write_answer};
     ghost use Rattle.desk_core.specs.Parts.{Types};

@@ -1,6 +1,6 @@
 //! Laws of the edits of a grid of cells.
 
-ghost use Rattle.gate_model.specs.CellLaws.{DeletedByCell, ErasedByCell, InsertedByCell, NothingAtZero, PutByCell, ScrolledDownByCell, ScrolledUpByCell};
+ghost use Rattle.gate_model.specs.terminal.CellLaws.{DeletedByCell, ErasedByCell, InsertedByCell, NothingAtZero, PutByCell, ScrolledDownByCell, ScrolledUpByCell};
 
 /// What each edit of a grid leaves in each column of each row (ECMA-48's ECH, ICH, DCH, SU and SD; the
 /// blank cells are this project's own).

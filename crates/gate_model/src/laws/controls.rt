@@ -1,6 +1,6 @@
 //! Laws of characters and control functions.
 
-ghost use Rattle.gate_model.specs.ControlLaws.{CharactersAreLossy, CharactersOfAnyCutting, ControlsOfAnyCutting, GivenControlsStay, UnfinishedBeginsCharacter};
+ghost use Rattle.gate_model.specs.terminal.ControlLaws.{CharactersAreLossy, CharactersOfAnyCutting, ControlsOfAnyCutting, GivenControlsStay, UnfinishedBeginsCharacter};
 
 /// The control functions of a stream are the same however it is cut into pieces.
 pub fn controls_of_any_cutting()

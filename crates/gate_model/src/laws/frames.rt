@@ -1,7 +1,7 @@
 //! Laws of glyph buffers, of what a frame may cost, and of the frames that are kept.
 
-ghost use Rattle.gate_model.specs.FrameLaws.{ChangesOfFewLines, HeldAreNotNew, LayersAreDrawn, NewKeysAreAdded, NothingIsLayers, SameKeysAreEqual, SamenessGoesOn};
-ghost use Rattle.gate_model.specs.Kept.{CoversByStamp, KeptAreAll, KeptAreFew, KeptAreLast, KeptGoOn};
+ghost use Rattle.gate_model.specs.session.FrameLaws.{ChangesOfFewLines, HeldAreNotNew, LayersAreDrawn, NewKeysAreAdded, NothingIsLayers, SameKeysAreEqual, SamenessGoesOn};
+ghost use Rattle.gate_model.specs.session.Kept.{CoversByStamp, KeptAreAll, KeptAreFew, KeptAreLast, KeptGoOn};
 
 /// Layers of a screen and its buffers show the picture of the screen, and no layers at all are those of
 /// a screen without places (this project's own).

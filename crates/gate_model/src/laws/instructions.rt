@@ -1,6 +1,6 @@
 //! Laws of instructions.
 
-ghost use Rattle.gate_model.specs.InstrLaws.{ActInUtf8, GreetingInUtf8, InstrInUtf8, TextSpells, WrittenIsReadBack};
+ghost use Rattle.gate_model.specs.picture.InstrLaws.{ActInUtf8, GreetingInUtf8, InstrInUtf8, TextSpells, WrittenIsReadBack};
 
 /// What the gateway writes is read back: the text of an instruction spells its elements, and they mean that
 /// instruction (the Guacamole manual, "The Guacamole protocol"; the ranges are this project's own).

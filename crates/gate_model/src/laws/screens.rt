@@ -1,6 +1,6 @@
 //! A law of screens.
 
-ghost use Rattle.gate_model.specs.ScreenLaws.{ScrollsAreCounted, ScrollsAreNotReported};
+ghost use Rattle.gate_model.specs.terminal.ScreenLaws.{ScrollsAreCounted, ScrollsAreNotReported};
 
 /// How many lines of the whole screen were scrolled before is only counted: no control function looks at
 /// the number, and no report tells it (this project's own).

@@ -1,7 +1,7 @@
 //! Laws of Telnet tokens.
 
-ghost use Rattle.gate_model.specs.Replies.{BytesAsTokens, RepliesGoOn};
-ghost use Rattle.gate_model.specs.TelnetLaws.{AnswersGoOn, DoubledIsData, SubnegotiationIsRead, TokensOfAnyCutting};
+ghost use Rattle.gate_model.specs.terminal.Replies.{BytesAsTokens, RepliesGoOn};
+ghost use Rattle.gate_model.specs.telnet.TelnetLaws.{AnswersGoOn, DoubledIsData, SubnegotiationIsRead, TokensOfAnyCutting};
 
 /// The tokens of a stream are the same however it is cut into pieces.
 pub fn tokens_of_any_cutting()

@@ -1,5 +1,5 @@
 use Rattle.std.proofs.Common.{◌≡◌, ℕ, ◌+◌, ◌-◌, ◌<◌, if◌then◌else◌}
-use Rattle.gate_model.specs.Layers.{over}
+use Rattle.gate_model.specs.picture.Layers.{over}
 use Rattle.canvas.specs.Kept.{is_within, pixel_in}
 use Rattle.canvas.proofs.pixels.overlay.Given as goal
 

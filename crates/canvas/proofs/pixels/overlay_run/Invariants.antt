@@ -1,5 +1,5 @@
 use Rattle.std.proofs.Common.{◌≡◌, ℕ, get_or, None, nat_lt, if◌then◌else◌}
-use Rattle.gate_model.specs.Layers.{over}
+use Rattle.gate_model.specs.picture.Layers.{over}
 use Rattle.canvas.proofs.pixels.overlay_run.Given as goal
 
 abbrev pub invariant-loop-k : goal.invariant-loop-k

@@ -1,7 +1,7 @@
 use Rattle.std.proofs.Common.{length, ap, sym, ◌∙◌, arith}
 use Rattle.std.proofs.lemmas.List.{take_all}
 use Rattle.std.specs.List.{list_all}
-use Rattle.gate_model.specs.Buffers.{is_held}
+use Rattle.gate_model.specs.picture.Buffers.{is_held}
 use Rattle.gate_model.proofs.Layering.{held-not_new}
 use Rattle.desk_core.proofs.drawing.holds_all.Goals as goal
 

@@ -1,6 +1,6 @@
 use Rattle.std.proofs.Common.{◌≡◌, take, true}
 use Rattle.std.specs.List.{list_all}
-use Rattle.gate_model.specs.Buffers.{is_held}
+use Rattle.gate_model.specs.picture.Buffers.{is_held}
 use Rattle.desk_core.proofs.drawing.holds_all.Given as goal
 
 -- each key before the place has a buffer, the last one among them

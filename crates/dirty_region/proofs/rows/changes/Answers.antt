@@ -1,5 +1,5 @@
 use Rattle.std.proofs.Common.{◌<◌, ap, sym, subst, ◌∙◌}
-use Rattle.gate_model.specs.Cost.{old_row}
+use Rattle.gate_model.specs.session.Cost.{old_row}
 use Rattle.dirty_region.proofs.Differing.{next_row}
 use Rattle.dirty_region.proofs.rows.changes.Goals as goal
 

@@ -1,5 +1,5 @@
 use Rattle.std.proofs.Common.{◌≡◌, ◌*◌}
-use Rattle.gate_model.specs.Cost.{is_changed}
+use Rattle.gate_model.specs.session.Cost.{is_changed}
 use Rattle.dirty_region.specs.Places.{place_of}
 use Rattle.dirty_region.proofs.Differing.{passed}
 use Rattle.dirty_region.proofs.rows.changes.Given as goal

@@ -1,5 +1,5 @@
 use Rattle.std.proofs.Common.{arith, ◌∙◌}
-use Rattle.gate_model.specs.Cost.{is_changed}
+use Rattle.gate_model.specs.session.Cost.{is_changed}
 use Rattle.frame_draw.proofs.Ends.{IsFrame, all_left, frame_of, old_fits, old_places, scroll_list}
 use Rattle.frame_draw.proofs.drawer.frame.Goals as goal
 

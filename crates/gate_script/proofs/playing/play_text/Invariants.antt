@@ -1,9 +1,9 @@
 use Rattle.std.proofs.Common.{◌≡◌, ◌-◌, ◌≤◌, List, length, drop}
 use Rattle.gate_model.specs.declared.instr.Instr.{Instr}
-use Rattle.gate_model.specs.Layers.{Layers}
-use Rattle.gate_model.specs.Text.{texts}
+use Rattle.gate_model.specs.picture.Layers.{Layers}
+use Rattle.gate_model.specs.text.Text.{texts}
 use Rattle.canvas.specs.Standing.{Stands}
-use Rattle.gate_model.specs.Shape.{AreReadable}
+use Rattle.gate_model.specs.picture.Shape.{AreReadable}
 use Rattle.gate_script.proofs.PlayingLaws.{Left}
 use Rattle.gate_script.proofs.playing.play_text.Given as goal
 

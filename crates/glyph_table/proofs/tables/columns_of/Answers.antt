@@ -1,5 +1,5 @@
 use Rattle.std.proofs.Common.{refl, arith}
-use Rattle.gate_model.specs.Font.{font, box}
+use Rattle.gate_model.specs.picture.Font.{font, box}
 use Rattle.glyph_table.proofs.GlyphRects.{columns_row}
 use Rattle.glyph_table.proofs.tables.columns_of.Goals as goal
 

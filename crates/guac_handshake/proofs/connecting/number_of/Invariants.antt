@@ -1,5 +1,5 @@
 use Rattle.std.proofs.Common.{◌≡◌, ◌<◌, ◌^◌, take}
-use Rattle.gate_model.specs.Spelling.{number_of}
+use Rattle.gate_model.specs.text.Spelling.{number_of}
 use Rattle.guac_handshake.proofs.connecting.number_of.Given as goal
 
 abbrev pub invariant-loop-digit : goal.invariant-loop-digit

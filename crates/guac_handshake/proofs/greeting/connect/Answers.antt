@@ -1,6 +1,6 @@
 use Rattle.std.proofs.Common.{Ok, Err, ap, sym, ◌∙◌, arith, rules}
 use Rattle.std.proofs.lemmas.Result.{err_from_is_err_and}
-use Rattle.gate_model.specs.HelloMeaning.{greeting_of}
+use Rattle.gate_model.specs.text.HelloMeaning.{greeting_of}
 use Rattle.guac_handshake.specs.declared.stop.Stop.{Stop}
 use Rattle.guac_handshake.specs.declared.stop.Stop.TheVariants.{Refused}
 use Rattle.guac_handshake.specs.Greetings.{OutOfForm}

@@ -1,6 +1,6 @@
 use Rattle.std.proofs.Common.{◌≡◌, ◌++◌, map, take, flat_map}
 use Rattle.std.specs.Str.{chars}
-use Rattle.gate_model.specs.Text.{element, next_element}
+use Rattle.gate_model.specs.text.Text.{element, next_element}
 use Rattle.guac_instr.specs.Parts.{points_of}
 use Rattle.guac_instr.proofs.part.put_parts.Given as goal
 

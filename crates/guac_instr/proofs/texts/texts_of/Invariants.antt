@@ -1,5 +1,5 @@
 use Rattle.std.proofs.Common.{◌≡◌, ◌++◌, take}
-use Rattle.gate_model.specs.Text.{texts}
+use Rattle.gate_model.specs.text.Text.{texts}
 use Rattle.guac_instr.proofs.texts.texts_of.Given as goal
 
 abbrev pub invariant-loop-instr : goal.invariant-loop-instr

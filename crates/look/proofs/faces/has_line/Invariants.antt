@@ -1,5 +1,5 @@
 use Rattle.std.proofs.Common.{ℕ, ◌<◌}
-use Rattle.gate_model.specs.Layers.{Layers, visible}
+use Rattle.gate_model.specs.picture.Layers.{Layers, visible}
 use Rattle.canvas.specs.Standing.{Stands}
 use Rattle.look.specs.Faces.{HasPixel}
 use Rattle.look.proofs.faces.has_line.Given as goal

@@ -1,5 +1,5 @@
 use Rattle.std.proofs.Common.{take}
-use Rattle.gate_model.specs.Layers.{Layers, draw}
+use Rattle.gate_model.specs.picture.Layers.{Layers, draw}
 use Rattle.canvas.specs.Standing.{Stands}
 use Rattle.look.proofs.looking.play_all.Given as goal
 

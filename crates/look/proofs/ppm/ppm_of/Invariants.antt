@@ -1,5 +1,5 @@
 use Rattle.std.proofs.Common.{◌≡◌, ◌++◌}
-use Rattle.gate_model.specs.Layers.{Layers, visible}
+use Rattle.gate_model.specs.picture.Layers.{Layers, visible}
 use Rattle.canvas.specs.Standing.{Stands}
 use Rattle.look.specs.Ppm.{head_of, lines_of}
 use Rattle.look.proofs.ppm.ppm_of.Given as goal

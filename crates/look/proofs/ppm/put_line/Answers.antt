@@ -1,5 +1,5 @@
 use Rattle.std.proofs.Common.{ap, ◌∙◌}
-use Rattle.gate_model.specs.Layers.{visible}
+use Rattle.gate_model.specs.picture.Layers.{visible}
 use Rattle.look.specs.Ppm.{rgb_of}
 use Rattle.look.proofs.Lines.{line_more}
 use Rattle.look.proofs.ppm.put_line.Goals as goal

@@ -1,5 +1,5 @@
 use Rattle.std.proofs.Common.{◌≡◌, ◌++◌}
-use Rattle.gate_model.specs.Layers.{Layers, visible}
+use Rattle.gate_model.specs.picture.Layers.{Layers, visible}
 use Rattle.canvas.specs.Standing.{Stands}
 use Rattle.look.specs.Ppm.{line_of}
 use Rattle.look.proofs.ppm.put_line.Given as goal

@@ -1,6 +1,6 @@
 use Rattle.std.proofs.Common.{ℕ, ◌<◌, get_or, length}
 use Rattle.gate_model.specs.declared.event.Event.{Event as Calls}
-use Rattle.gate_model.specs.Calls.{MeetsCondition}
+use Rattle.gate_model.specs.session.Calls.{MeetsCondition}
 use Rattle.screen_rows.proofs.desks.events_of.Given as goal
 
 -- each call so far meets its condition

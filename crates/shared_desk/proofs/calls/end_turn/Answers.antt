@@ -1,5 +1,5 @@
 use Rattle.std.proofs.Common.{◌≡◌, true, false}
-use Rattle.gate_model.specs.Laws.{EntriesAreFew}
+use Rattle.gate_model.specs.session.Laws.{EntriesAreFew}
 use Rattle.shared_desk.proofs.Turns.{counted_entry, counted_value}
 use Rattle.shared_desk.proofs.calls.end_turn.Goals as goal
 

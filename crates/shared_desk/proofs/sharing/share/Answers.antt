@@ -1,5 +1,5 @@
 use Rattle.std.proofs.Common.{◌≡◌, refl, ap, sym, ◌∙◌}
-use Rattle.gate_model.specs.History.{joined}
+use Rattle.gate_model.specs.session.History.{joined}
 use Rattle.gate_model.specs.declared.entry.Entry.{Entry}
 use Rattle.turn_lock.specs.declared.view.View.{View}
 use Rattle.shared_desk.specs.Hosts.{HasBegun}

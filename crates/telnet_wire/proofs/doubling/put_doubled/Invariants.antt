@@ -1,5 +1,5 @@
 use Rattle.std.proofs.Common.{◌≡◌, ◌++◌, take}
-use Rattle.gate_model.specs.TelnetTokens.{doubled}
+use Rattle.gate_model.specs.telnet.TelnetTokens.{doubled}
 use Rattle.telnet_wire.proofs.doubling.put_doubled.Given as goal
 
 abbrev pub invariant-loop-byte : goal.invariant-loop-byte

@@ -2,7 +2,7 @@ use Rattle.std.proofs.Common.{◌≡◌, [], ◌++◌, ◌∙◌, refl, sym, sub
 use Rattle.std.specs.Prelude.{Some, Err}
 use Rattle.gate_model.specs.declared.answer.Answer.TheVariants.{Close as was_closed}
 use Rattle.gate_model.specs.declared.event.Event.TheVariants.{Close}
-use Rattle.gate_model.specs.Refusals.{close_cause}
+use Rattle.gate_model.specs.session.Refusals.{close_cause}
 use Rattle.gate_model.proofs.Stepping.{close_stop}
 use Rattle.desk_core.proofs.Answering.{stays}
 use Rattle.desk_core.specs.Desk.{DeskState, Stands}

@@ -5,8 +5,8 @@ use Rattle.gate_model.specs.declared.event.Event.TheVariants.{Feed}
 use Rattle.gate_model.specs.declared.feed_refusal.FeedRefusal.{FeedRefusal}
 use Rattle.gate_model.specs.declared.feed_refusal.FeedRefusal.TheVariants.{NoMemory as feed_no_memory}
 use Rattle.desk_core.specs.Calls.{Ended, feed_answer}
-use Rattle.gate_model.specs.History.{at, bytes, next_stamp}
-use Rattle.gate_model.specs.Refusals.{feed_refusal}
+use Rattle.gate_model.specs.session.History.{at, bytes, next_stamp}
+use Rattle.gate_model.specs.session.Refusals.{feed_refusal}
 use Rattle.desk_core.specs.Desk.{DeskState, Stands}
 use Rattle.desk_core.specs.Drawing.{Draws}
 use Rattle.desk_core.specs.Parts.{drawn_by}

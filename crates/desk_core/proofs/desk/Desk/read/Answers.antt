@@ -1,7 +1,7 @@
 use Rattle.std.proofs.Common.{ℕ, ◌-◌, ◌^◌, List, ◌++◌, ap, sym, ◌∙◌, subst, arith}
 use Rattle.std.specs.Prelude.{min}
-use Rattle.gate_model.specs.Delivered.{shown_to}
-use Rattle.gate_model.specs.Text.{texts}
+use Rattle.gate_model.specs.session.Delivered.{shown_to}
+use Rattle.gate_model.specs.text.Text.{texts}
 use Rattle.desk_core.specs.declared.progress.Progress.{Progress}
 use Rattle.desk_core.specs.Desk.{DeskState, Stands}
 use Rattle.desk_core.specs.Farewell.{farewell_of}

@@ -1,10 +1,10 @@
 use Rattle.std.proofs.Common.{◌≡◌, ℕ, List, [], ◌∷◌, ◌∙◌, ap, sym, subst}
 use Rattle.gate_model.specs.declared.instr.Instr.{Instr}
-use Rattle.gate_model.specs.KeyGrid.{KeyGrid}
-use Rattle.gate_model.specs.Text.{texts}
-use Rattle.gate_model.specs.Terminal.{Terminal, opening_screen}
-use Rattle.gate_model.specs.Screens.{AreColoured, shown}
-use Rattle.gate_model.specs.Shape.{Shape}
+use Rattle.gate_model.specs.picture.KeyGrid.{KeyGrid}
+use Rattle.gate_model.specs.text.Text.{texts}
+use Rattle.gate_model.specs.terminal.Terminal.{Terminal, opening_screen}
+use Rattle.gate_model.specs.terminal.Screens.{AreColoured, shown}
+use Rattle.gate_model.specs.picture.Shape.{Shape}
 use Rattle.gate_model.proofs.ScreenLaws.{coloured-screen}
 use Rattle.desk_core.specs.Frames.{FramesState}
 use Rattle.desk_core.proofs.Hearing.{silent_screen}

@@ -1,6 +1,6 @@
 use Rattle.std.proofs.Common.{◌≡◌, [], ◌++◌, ◌∙◌, ℕ, List, ap, sym, subst, arith}
 use Rattle.std.specs.Prelude.{None, if◌then◌else◌}
-use Rattle.gate_model.specs.Refusals.{write_refusal}
+use Rattle.gate_model.specs.session.Refusals.{write_refusal}
 use Rattle.desk_core.specs.Desk.{DeskState, Stands}
 use Rattle.desk_core.specs.State.{state}
 use Rattle.desk_core.proofs.Results.{is_none}

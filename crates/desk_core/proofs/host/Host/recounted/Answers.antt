@@ -1,5 +1,5 @@
 use Rattle.std.proofs.Common.{refl, ap, ◌∙◌}
-use Rattle.gate_model.specs.Terminal.{Terminal}
+use Rattle.gate_model.specs.terminal.Terminal.{Terminal}
 use Rattle.desk_core.proofs.Hearing.{recounted}
 use Rattle.desk_core.proofs.host.Host.recounted.Goals as goal
 

@@ -1,5 +1,5 @@
 use Rattle.std.proofs.Common.{ℕ, List, ◌++◌, ◌∙◌, ap, sym, append-nil}
-use Rattle.gate_model.specs.Replies.{reply_to}
+use Rattle.gate_model.specs.terminal.Replies.{reply_to}
 use Rattle.desk_core.proofs.Results.{on_ok_then}
 use Rattle.desk_core.proofs.Hearing.{taken_data, replied_data}
 use Rattle.desk_core.proofs.host.Host.take_part.Goals as goal

@@ -1,6 +1,6 @@
 use Rattle.std.proofs.Common.{◌∷◌}
 use Rattle.gate_model.specs.declared.entry.Entry.TheVariants.{Join}
-use Rattle.gate_model.specs.History.{all_frames}
+use Rattle.gate_model.specs.session.History.{all_frames}
 use Rattle.desk_core.proofs.log.Log.join.Given as goal
 
 abbrev pub ghosts-named : goal.ghosts-named

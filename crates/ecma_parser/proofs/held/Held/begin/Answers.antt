@@ -1,5 +1,5 @@
 use Rattle.std.proofs.Common.{◌∷◌, [], sym, ap, ◌∙◌, arith, inl, inr}
-use Rattle.gate_model.specs.Characters.{is_unfinished}
+use Rattle.gate_model.specs.terminal.Characters.{is_unfinished}
 use Rattle.ecma_parser.proofs.HeldLaws.{read-ascii, read-stray, read-held, unfinished-lead, first-taken}
 use Rattle.ecma_parser.proofs.held.Held.begin.Goals as goal
 use Rattle.ecma_parser.proofs.held.Held.begin.Goals.{in_default-via-then-byte-lt194, in_default-via-else-byte-lt194+else-byte-lt245}

@@ -1,5 +1,5 @@
 use Rattle.std.proofs.Common.{◌∷◌, [], refl, sym}
-use Rattle.gate_model.specs.Controls.{csi_after}
+use Rattle.gate_model.specs.terminal.Controls.{csi_after}
 use Rattle.ecma_parser.specs.State.{control_by, csi_void_end}
 use Rattle.ecma_parser.specs.Sequence.{csi_of}
 use Rattle.ecma_parser.proofs.SequenceLaws.{control-is}

@@ -1,5 +1,5 @@
 use Rattle.std.proofs.Common.{◌∷◌, [], false, refl, sym}
-use Rattle.gate_model.specs.Controls.{head_escape, csi_after, head_osc, head_string, escape_after}
+use Rattle.gate_model.specs.terminal.Controls.{head_escape, csi_after, head_osc, head_string, escape_after}
 use Rattle.gate_model.specs.declared.control.Control.TheVariants.{Esc}
 use Rattle.ecma_parser.specs.State.{control_by}
 use Rattle.ecma_parser.proofs.StateLaws.{gives-waiting, gives-ended, gives-left, escape-follows, escape-csi, escape-osc, escape-string, escape-intermediate, escape-final, escape-other}

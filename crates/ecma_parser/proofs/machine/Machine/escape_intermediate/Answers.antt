@@ -1,5 +1,5 @@
 use Rattle.std.proofs.Common.{◌∷◌, [], refl, sym}
-use Rattle.gate_model.specs.Controls.{escape_after}
+use Rattle.gate_model.specs.terminal.Controls.{escape_after}
 use Rattle.ecma_parser.specs.State.{control_by}
 use Rattle.ecma_parser.proofs.StateLaws.{gives-waiting, gives-ended, gives-left, escape_after-more, escape_after-final, escape_after-other}
 use Rattle.ecma_parser.proofs.machine.Machine.escape_intermediate.Goals as goal

@@ -1,5 +1,5 @@
 use Rattle.std.proofs.Common.{[], refl, ◌∙◌, arith}
-use Rattle.gate_model.specs.Controls.{head_osc, head_palette}
+use Rattle.gate_model.specs.terminal.Controls.{head_osc, head_palette}
 use Rattle.ecma_parser.proofs.StateLaws.{gives-waiting, gives-ended}
 use Rattle.ecma_parser.proofs.StringLaws.{osc-reset, osc-palette, osc-string}
 use Rattle.ecma_parser.proofs.machine.Machine.osc_entry.Goals as goal

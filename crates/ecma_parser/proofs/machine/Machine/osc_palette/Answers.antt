@@ -1,6 +1,6 @@
 use Rattle.std.proofs.Common.{◌-◌, [], refl, arith}
 use Rattle.ecma_parser.specs.State.{palette_escape}
-use Rattle.gate_model.specs.Controls.{head_palette}
+use Rattle.gate_model.specs.terminal.Controls.{head_palette}
 use Rattle.ecma_parser.proofs.StateLaws.{gives-waiting, gives-ended}
 use Rattle.ecma_parser.proofs.StringLaws.{palette-nil, palette-last, palette-more, palette-escape}
 use Rattle.ecma_parser.proofs.machine.Machine.osc_palette.Goals as goal

@@ -1,6 +1,6 @@
 use Rattle.std.proofs.Common.{◌-◌, ◌∷◌, [], refl, arith}
 use Rattle.ecma_parser.specs.State.{control_by, palette_escape}
-use Rattle.gate_model.specs.Controls.{head_palette}
+use Rattle.gate_model.specs.terminal.Controls.{head_palette}
 use Rattle.ecma_parser.proofs.StateLaws.{gives-waiting, gives-ended, gives-left}
 use Rattle.ecma_parser.proofs.StringLaws.{palette-nil, palette_escape-last, palette_escape-more, palette_escape-other}
 use Rattle.ecma_parser.proofs.machine.Machine.osc_palette_escape.Goals as goal

@@ -1,4 +1,4 @@
-use Rattle.gate_model.specs.Controls.{csi_after}
+use Rattle.gate_model.specs.terminal.Controls.{csi_after}
 use Rattle.ecma_parser.proofs.StateLaws.{param-text, follows}
 use Rattle.ecma_parser.proofs.machine.Machine.read.Goals as goal
 

@@ -1,5 +1,5 @@
 use Rattle.std.proofs.Common.{true, false, [], refl, sym, ap, ◌∙◌}
-use Rattle.gate_model.specs.Controls.{head_string, string_escape}
+use Rattle.gate_model.specs.terminal.Controls.{head_string, string_escape}
 use Rattle.ecma_parser.proofs.StateLaws.{gives-waiting, gives-ended}
 use Rattle.ecma_parser.proofs.StringLaws.{string-ended, string-escape, string-more}
 use Rattle.ecma_parser.proofs.machine.Machine.string.Goals as goal

@@ -1,5 +1,5 @@
 use Rattle.std.proofs.Common.{◌∷◌, [], refl}
-use Rattle.gate_model.specs.Controls.{string_escape}
+use Rattle.gate_model.specs.terminal.Controls.{string_escape}
 use Rattle.ecma_parser.specs.State.{control_by}
 use Rattle.ecma_parser.proofs.StateLaws.{gives-ended, gives-left}
 use Rattle.ecma_parser.proofs.StringLaws.{string_escape-ended, string_escape-other}

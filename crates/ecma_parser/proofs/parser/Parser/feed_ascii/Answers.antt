@@ -1,7 +1,7 @@
 use Rattle.std.proofs.Common.{◌++◌, ◌∷◌, [], List, ℕ, ap, ◌∙◌, arith}
 use Rattle.std.proofs.Math.Logic.{∥∥₁_map}
-use Rattle.gate_model.specs.Characters.{characters}
-use Rattle.gate_model.specs.Controls.{controls}
+use Rattle.gate_model.specs.terminal.Characters.{characters}
+use Rattle.gate_model.specs.terminal.Controls.{controls}
 use Rattle.ecma_parser.specs.Past.{HaveRead}
 use Rattle.ecma_parser.specs.State.{control_by}
 use Rattle.ecma_parser.proofs.ParserLaws.{step-ascii}

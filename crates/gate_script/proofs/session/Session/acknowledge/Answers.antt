@@ -5,7 +5,7 @@ use Rattle.gate_model.specs.declared.write_refusal.WriteRefusal.TheVariants.{NoV
 use Rattle.gate_script.specs.declared.refused.Refused.TheVariants.{Worn}
 use Rattle.gate_model.specs.declared.write_refusal.WriteRefusal.{WriteRefusal}
 use Rattle.gate_model.specs.declared.event.Event.TheVariants.{Write as write_acts}
-use Rattle.gate_model.specs.Statuses.{not_found, session_closed}
+use Rattle.gate_model.specs.text.Statuses.{not_found, session_closed}
 use Rattle.desk_core.specs.Calls.{Ended, write_answer}
 use Rattle.gate_script.specs.Lines.{acknowledge}
 use Rattle.gate_script.specs.Told.{refused_line}

@@ -4,7 +4,7 @@ use Rattle.std.proofs.lemmas.Result.{err_from_is_err_and}
 use Rattle.gate_model.specs.declared.event.Event.TheVariants.{Join as join_in}
 use Rattle.gate_model.specs.declared.join_refusal.JoinRefusal.TheVariants.{Closed, Forbidden, TooMany}
 use Rattle.gate_model.specs.declared.join_refusal.JoinRefusal.{JoinRefusal}
-use Rattle.gate_model.specs.Statuses.{session_closed, forbidden, too_many}
+use Rattle.gate_model.specs.text.Statuses.{session_closed, forbidden, too_many}
 use Rattle.desk_core.specs.Calls.{Ended, join_answer}
 use Rattle.gate_script.specs.declared.refused.Refused.TheVariants.{Worn}
 use Rattle.gate_script.specs.declared.stop.Stop.{Stop}

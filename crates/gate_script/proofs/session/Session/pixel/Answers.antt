@@ -1,6 +1,6 @@
 use Rattle.std.proofs.Common.{refl}
 use Rattle.gate_script.specs.Lines.{pixel}
-use Rattle.gate_model.specs.Statuses.{not_found}
+use Rattle.gate_model.specs.text.Statuses.{not_found}
 use Rattle.gate_script.specs.Told.{pixel_line, refused_line}
 use Rattle.gate_script.proofs.SessionLaws.{told_alone, pixel_told, no_pixel}
 use Rattle.gate_script.proofs.session.Session.pixel.Goals as goal

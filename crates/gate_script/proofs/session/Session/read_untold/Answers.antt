@@ -4,7 +4,7 @@ use Rattle.std.proofs.lemmas.Result.{err_from_is_err_and}
 use Rattle.gate_model.specs.declared.event.Event.TheVariants.{Read as read_as}
 use Rattle.gate_model.specs.declared.read_refusal.ReadRefusal.TheVariants.{NoViewer}
 use Rattle.gate_model.specs.declared.read_refusal.ReadRefusal.{ReadRefusal}
-use Rattle.gate_model.specs.Statuses.{not_found}
+use Rattle.gate_model.specs.text.Statuses.{not_found}
 use Rattle.desk_core.specs.Calls.{Ended, read_answer}
 use Rattle.gate_script.specs.declared.refused.Refused.TheVariants.{Worn}
 use Rattle.gate_script.specs.declared.stop.Stop.{Stop}

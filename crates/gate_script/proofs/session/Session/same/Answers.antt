@@ -2,7 +2,7 @@ use Rattle.std.proofs.Common.{Bool, refl, subst}
 use Rattle.std.specs.Prelude.{if◌then◌else◌}
 use Rattle.gate_script.specs.Plays.{Compares}
 use Rattle.gate_script.specs.Lines.{same}
-use Rattle.gate_model.specs.Statuses.{not_found}
+use Rattle.gate_model.specs.text.Statuses.{not_found}
 use Rattle.gate_script.specs.Told.{same_line, differ_line, refused_line}
 use Rattle.gate_script.proofs.SessionLaws.{told_alone, compared, not_compared}
 use Rattle.gate_script.proofs.session.Session.same.Goals as goal

@@ -2,7 +2,7 @@ use Rattle.std.proofs.Common.{refl, sym, subst}
 use Rattle.gate_model.specs.declared.feed_refusal.FeedRefusal.{FeedRefusal}
 use Rattle.gate_model.specs.declared.event.Event.TheVariants.{Feed as feed}
 use Rattle.gate_model.specs.declared.feed_refusal.FeedRefusal.TheVariants.{Closed}
-use Rattle.gate_model.specs.Statuses.{session_closed}
+use Rattle.gate_model.specs.text.Statuses.{session_closed}
 use Rattle.desk_core.specs.Calls.{Ended, feed_answer}
 use Rattle.std.specs.Prelude.{Err, []}
 use Rattle.gate_script.specs.declared.refused.Refused.TheVariants.{Worn}

@@ -2,7 +2,7 @@ use Rattle.std.proofs.Common.{◌≡◌, ◌++◌, ◌-◌, [], length, take, dr
 use Rattle.std.specs.Prelude.{Err}
 use Rattle.std.proofs.lemmas.Result.{err_from_is_err_and}
 use Rattle.std.proofs.Math.Seq.{take-append_seam}
-use Rattle.gate_model.specs.Output.{out, taken}
+use Rattle.gate_model.specs.session.Output.{out, taken}
 use Rattle.gate_model.specs.declared.answer.Answer.TheVariants.{Take as was_taken}
 use Rattle.gate_model.specs.declared.event.Event.TheVariants.{Take as take_most}
 use Rattle.desk_core.specs.Calls.{Answered}

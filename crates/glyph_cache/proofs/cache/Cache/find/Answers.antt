@@ -1,7 +1,7 @@
 use Rattle.std.proofs.Common.{◌≡◌, Some, false, true, true≢false, refl, sym, subst, w32, ◌∙◌}
 use Rattle.std.proofs.Math.Facts.{to_z-of_z}
 use Rattle.std.specs.Prelude.{IsNone, slice_get}
-use Rattle.gate_model.specs.Buffers.{is_held}
+use Rattle.gate_model.specs.picture.Buffers.{is_held}
 use Rattle.glyph_cache.specs.Cache.{CacheState, IsCache}
 use Rattle.glyph_cache.proofs.Tied.{absent, there, valid}
 use Rattle.glyph_cache.proofs.cache.Cache.find.Goals as goal

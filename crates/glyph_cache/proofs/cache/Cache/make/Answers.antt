@@ -1,6 +1,6 @@
 use Rattle.std.proofs.Common.{◌≡◌, ◌∷◌, sym, ap, subst, ◌∙◌}
 use Rattle.std.specs.Prelude.{false, length}
-use Rattle.gate_model.specs.Buffers.{is_held}
+use Rattle.gate_model.specs.picture.Buffers.{is_held}
 use Rattle.glyph_cache.specs.Cache.{CacheState}
 use Rattle.glyph_cache.specs.Tied.{keys_in}
 use Rattle.glyph_cache.proofs.Tied.{made_as, valid}

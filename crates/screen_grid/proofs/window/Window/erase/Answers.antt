@@ -1,7 +1,7 @@
 use Rattle.std.proofs.Common.{◌+◌, ◌-◌, length, replicate, ◌∙◌, ap, rules}
 use Rattle.std.proofs.lemmas.List.{length-replicate, with_items_is, places}
 use borrow.Rule.Slice.PartMut.{put_mid}
-use Rattle.gate_model.specs.Cells.{blank}
+use Rattle.gate_model.specs.terminal.Cells.{blank}
 use Rattle.screen_grid.proofs.Windows.{mid_seen, range_seen, range_size}
 use Rattle.screen_grid.proofs.window.Window.erase.Goals as goal
 

@@ -2,7 +2,7 @@ use Rattle.std.proofs.Common.{◌+◌, ◌-◌, ◌∙◌, ap, rules}
 use Rattle.std.proofs.lemmas.List.{with_items_is, places}
 use Rattle.std.specs.Prelude.{slice_range}
 use borrow.Rule.Slice.PartMut.{put_mid}
-use Rattle.gate_model.specs.Cells.{moved_right}
+use Rattle.gate_model.specs.terminal.Cells.{moved_right}
 use Rattle.screen_grid.proofs.Windows.{mid_seen, range_seen, range_size, right_size}
 use Rattle.screen_grid.proofs.window.Window.move_right.Goals as goal
 

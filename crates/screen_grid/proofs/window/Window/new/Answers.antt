@@ -1,6 +1,6 @@
 use Rattle.std.proofs.Common.{◌*◌, ◌∙◌, ap, take, arith}
 use Rattle.std.proofs.lemmas.List.{take-replicate}
-use Rattle.gate_model.specs.Cells.{blank}
+use Rattle.gate_model.specs.terminal.Cells.{blank}
 use Rattle.screen_grid.proofs.window.Window.new.Goals as goal
 
 pub returns : goal.returns

@@ -1,5 +1,5 @@
 use Rattle.std.proofs.Common.{ap, ◌≡◌, subst}
-use Rattle.gate_model.specs.History.{bytes}
+use Rattle.gate_model.specs.session.History.{bytes}
 use Rattle.shared_desk.specs.Members.{PassState}
 use Rattle.shared_desk.proofs.Turns.{at_old, keeps_pass_mark}
 use Rattle.shared_desk.proofs.Alone.{bytes_measure, closed_keeps}

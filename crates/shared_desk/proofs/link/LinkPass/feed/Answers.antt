@@ -1,6 +1,6 @@
 use Rattle.std.proofs.Common.{ap, ◌≡◌, ◌++◌, subst}
 use Rattle.std.specs.Prelude.{is_ok, if◌then◌else◌}
-use Rattle.gate_model.specs.History.{bytes}
+use Rattle.gate_model.specs.session.History.{bytes}
 use Rattle.shared_desk.specs.Members.{PassState}
 use Rattle.shared_desk.proofs.Turns.{at_old, keeps_pass_mark}
 use Rattle.shared_desk.proofs.Derived.{hears}

@@ -1,5 +1,5 @@
 use Rattle.std.proofs.Common.{◌≤◌, subst}
-use Rattle.gate_model.specs.History.{joined}
+use Rattle.gate_model.specs.session.History.{joined}
 use Rattle.gate_model.specs.Limits.{most_joined}
 use Rattle.gate_model.proofs.Bounds.{bounds_of}
 use Rattle.shared_desk.specs.Members.{PassState}

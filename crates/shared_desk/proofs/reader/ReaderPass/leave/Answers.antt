@@ -1,6 +1,6 @@
 use Rattle.std.proofs.Common.{◌≡◌, subst}
 use Rattle.std.specs.Prelude.{Ok}
-use Rattle.gate_model.specs.Delivered.{delivered}
+use Rattle.gate_model.specs.session.Delivered.{delivered}
 use Rattle.gate_model.specs.declared.answer.Answer.TheVariants.{Leave as left}
 use Rattle.gate_model.specs.declared.event.Event.TheVariants.{Leave}
 use Rattle.shared_desk.specs.Called.{Called}

@@ -1,5 +1,5 @@
 use Rattle.std.proofs.Common.{ap, ◌≡◌, subst}
-use Rattle.gate_model.specs.Output.{out, taken}
+use Rattle.gate_model.specs.session.Output.{out, taken}
 use Rattle.gate_model.specs.Sequences.{BeginsWith}
 use Rattle.shared_desk.specs.Members.{PassState}
 use Rattle.shared_desk.proofs.Turns.{at_old, keeps_pass_mark}

@@ -1,5 +1,5 @@
 use Rattle.std.proofs.Common.{◌++◌, ◌∷◌, [], refl}
-use Rattle.gate_model.specs.TelnetTokens.{head_sub}
+use Rattle.gate_model.specs.telnet.TelnetTokens.{head_sub}
 use Rattle.telnet_wire.specs.State.{sub_command}
 use Rattle.telnet_wire.proofs.StateLaws.{gives-waiting, sub-iac, sub-more}
 use Rattle.telnet_wire.proofs.reader.Reader.within.Goals as goal

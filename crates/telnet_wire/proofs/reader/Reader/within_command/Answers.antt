@@ -1,6 +1,6 @@
 use Rattle.std.proofs.Common.{◌++◌, ◌∷◌, [], refl, sym, subst, arith}
 use Rattle.std.specs.List.{cons_option}
-use Rattle.gate_model.specs.TelnetTokens.{iac, head_sub, sub_token}
+use Rattle.gate_model.specs.telnet.TelnetTokens.{iac, head_sub, sub_token}
 use Rattle.telnet_wire.specs.declared.reader.Reader.{Reader}
 use Rattle.telnet_wire.specs.declared.state.State.TheVariants.{Data}
 use Rattle.telnet_wire.specs.State.{sub_command, Gives}

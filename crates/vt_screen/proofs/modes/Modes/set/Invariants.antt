@@ -1,5 +1,5 @@
 use Rattle.std.proofs.Common.{◌≡◌, drop}
-use Rattle.gate_model.specs.Modes.{modes_set}
+use Rattle.gate_model.specs.terminal.Modes.{modes_set}
 use Rattle.vt_screen.proofs.modes.Modes.set.Given as goal
 
 -- the numbers that are left make of the modes what all make of the first ones

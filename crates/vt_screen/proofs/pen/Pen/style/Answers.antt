@@ -1,6 +1,6 @@
 use Rattle.std.proofs.Common.{◌≡◌, ◌+◌, arith, drop, sym, ◌∙◌}
 use Rattle.std.proofs.lemmas.Grind.{common_steps}
-use Rattle.gate_model.specs.Pens.{colour_size}
+use Rattle.gate_model.specs.terminal.Pens.{colour_size}
 use Rattle.vt_screen.proofs.Styles.{after_skipped, after_colour, after_number}
 use Rattle.vt_screen.proofs.pen.Pen.style.Goals as goal
 use Rattle.vt_screen.proofs.pen.Pen.style.Goals.{then-skipped-gt0, else-skipped-gt0+then-is_colour, else-skipped-gt0+else-is_colour}

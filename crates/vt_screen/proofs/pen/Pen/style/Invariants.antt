@@ -1,5 +1,5 @@
 use Rattle.std.proofs.Common.{◌≡◌, drop}
-use Rattle.gate_model.specs.Pens.{styled, styled_after}
+use Rattle.gate_model.specs.terminal.Pens.{styled, styled_after}
 use Rattle.vt_screen.proofs.pen.Pen.style.Given as goal
 
 -- the numbers that are left make of the pen what all make of the first one

@@ -1,5 +1,5 @@
 use Rattle.std.proofs.Common.{◌+◌, ◌-◌, arith, ap, ◌∙◌}
-use Rattle.gate_model.specs.Cells.{CellGrid, scrolled_up}
+use Rattle.gate_model.specs.terminal.Cells.{CellGrid, scrolled_up}
 use Rattle.vt_screen.specs.Soundness.{state}
 use Rattle.vt_screen.proofs.Blanking.{erased_after}
 use Rattle.vt_screen.proofs.screen.Screen.erase_after.Goals as goal

@@ -1,5 +1,5 @@
 use Rattle.std.proofs.Common.{◌≡◌, ◌+◌, arith, ap, ◌∙◌}
-use Rattle.gate_model.specs.Cells.{CellGrid, erased}
+use Rattle.gate_model.specs.terminal.Cells.{CellGrid, erased}
 use Rattle.vt_screen.specs.Soundness.{state}
 use Rattle.vt_screen.specs.declared.screen.Screen.TheInside.{Inside}
 use Rattle.vt_screen.proofs.Blanking.{erased_before, erased_first}

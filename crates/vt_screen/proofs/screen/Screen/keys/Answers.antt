@@ -1,7 +1,7 @@
 use Rattle.std.proofs.Common.{List, ◌++◌, map, sym, ap, ◌∙◌}
 use Rattle.gate_model.specs.declared.key.Key.{Key}
-use Rattle.gate_model.specs.Cells.{rest_of_row}
-use Rattle.gate_model.specs.Screens.{key_of}
+use Rattle.gate_model.specs.terminal.Cells.{rest_of_row}
+use Rattle.gate_model.specs.terminal.Screens.{key_of}
 use Rattle.vt_screen.proofs.KeyRows.{rows_more}
 use Rattle.vt_screen.proofs.screen.Screen.keys.Goals as goal
 

@@ -1,5 +1,5 @@
 use Rattle.std.proofs.Common.{◌≡◌, ◌*◌, take, map}
-use Rattle.gate_model.specs.Screens.{key_of}
+use Rattle.gate_model.specs.terminal.Screens.{key_of}
 use Rattle.vt_screen.proofs.screen.Screen.keys.Given as goal
 
 -- the keys of the rows so far

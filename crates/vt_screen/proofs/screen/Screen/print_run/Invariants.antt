@@ -1,5 +1,5 @@
 use Rattle.std.proofs.Common.{◌≡◌, ◌≤◌, ◌-◌, length, map, take}
-use Rattle.gate_model.specs.Screens.{after_controls}
+use Rattle.gate_model.specs.terminal.Screens.{after_controls}
 use Rattle.gate_model.specs.declared.control.Control.TheVariants.{Print}
 use Rattle.vt_screen.proofs.screen.Screen.print_run.Given as goal
 

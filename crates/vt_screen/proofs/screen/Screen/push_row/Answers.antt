@@ -1,5 +1,5 @@
 use Rattle.std.proofs.Common.{ap, arith}
-use Rattle.gate_model.specs.Terminal.{Terminal}
+use Rattle.gate_model.specs.terminal.Terminal.{Terminal}
 use Rattle.vt_screen.proofs.KeyRows.{row_pushed}
 use Rattle.vt_screen.proofs.screen.Screen.push_row.Goals as goal
 

@@ -1,7 +1,7 @@
 use Rattle.std.proofs.Common.{◌≡◌, ℕ, ◌+◌, ◌-◌, arith, sym, ap, ◌∙◌}
 use Rattle.std.specs.Prelude.{Option, min}
-use Rattle.gate_model.specs.Printing.{printed, printed_often, repeated, repeated_as}
-use Rattle.gate_model.specs.Terminal.{Terminal}
+use Rattle.gate_model.specs.terminal.Printing.{printed, printed_often, repeated, repeated_as}
+use Rattle.gate_model.specs.terminal.Terminal.{Terminal}
 use Rattle.vt_screen.specs.Soundness.{state}
 use Rattle.vt_screen.proofs.PrintedAgain.{again, no_more}
 use Rattle.vt_screen.proofs.screen.Screen.repeat.Goals as goal

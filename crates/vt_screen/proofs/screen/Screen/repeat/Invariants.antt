@@ -1,5 +1,5 @@
 use Rattle.std.proofs.Common.{◌≡◌, ◌-◌}
-use Rattle.gate_model.specs.Printing.{printed_often}
+use Rattle.gate_model.specs.terminal.Printing.{printed_often}
 use Rattle.vt_screen.proofs.screen.Screen.repeat.Given as goal
 
 -- the turns that are left lead where all of them lead from the state before

@@ -1,5 +1,5 @@
 use Rattle.std.proofs.Common.{◌∙◌, ◌-◌, ℕ, refl, ap, arith}
-use Rattle.gate_model.specs.Terminal.{first_stops}
+use Rattle.gate_model.specs.terminal.Terminal.{first_stops}
 use Rattle.vt_screen.proofs.Blanking.{erased_whole}
 use Rattle.vt_screen.proofs.Sound.{opened}
 use Rattle.vt_screen.proofs.screen.Screen.reset.Goals as goal

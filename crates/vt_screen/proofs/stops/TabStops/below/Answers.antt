@@ -1,5 +1,5 @@
 use Rattle.std.proofs.Common.{arith, sym, ◌∙◌, ap, ◌-◌, ◌≡◌, ℕ}
-use Rattle.gate_model.specs.TabStops.{stops_below}
+use Rattle.gate_model.specs.terminal.TabStops.{stops_below}
 use Rattle.vt_screen.proofs.StopMoves.{below_more, below_none, below_stays}
 use Rattle.vt_screen.proofs.stops.TabStops.below.Goals as goal
 

@@ -1,0 +1,56 @@
+-- The frames that are kept for viewers who are behind (this project's own), and the laws about them, which a public
+-- function of `laws::frames` proves.
+use Rattle.std.specs.Prelude.{◌≡◌, ◌↔◌, ℕ, ◌+◌, ◌≤◌, List, [], ◌∷◌, ◌++◌, length, Bool, false, ◌&&◌, nat_le, if◌then◌else◌}
+use Rattle.gate_model.specs.declared.instr.Instr.{Instr}
+use Rattle.gate_model.specs.Limits.{most_kept_frames, most_kept_text}
+use Rattle.gate_model.specs.text.Text.{texts}
+use Rattle.gate_model.specs.session.History.{History, frames, frames_after}
+use Rattle.gate_model.specs.session.Steps.{Legal}
+
+-- the bytes of the text of frames, each with its stamp
+abbrev pub text_size : List (ℕ × List Instr) → ℕ
+text_size [] = 0
+text_size (f ∷ fs) = length (texts f.1) + text_size fs
+
+-- so many frames, with so much text, may be kept
+abbrev pub may_be_kept : List (ℕ × List Instr) → Bool
+may_be_kept fs = nat_le (length fs) most_kept_frames && nat_le (text_size fs) most_kept_text
+
+-- the longest end of the frames that may
+abbrev pub kept_of : List (ℕ × List Instr) → List (ℕ × List Instr)
+kept_of [] = []
+kept_of (f ∷ fs) = if may_be_kept (f ∷ fs) then f ∷ fs else kept_of fs
+
+abbrev pub kept : History → List (ℕ × List Instr)
+kept h = kept_of (frames h)
+
+-- every frame above the stamp t is kept
+abbrev pub Covers : History → ℕ → Type 0
+Covers h t = frames_after t (frames h) ≡ frames_after t (kept h)
+
+-- the stamp of the last frame of a list; of an empty list it is the stamp before it
+abbrev pub last_stamp_from : ℕ → List (ℕ × List Instr) → ℕ
+last_stamp_from t [] = t
+last_stamp_from t (f ∷ fs) = last_stamp_from f.0 fs
+
+-- ---- laws
+
+-- the kept frames are the last ones
+abbrev pub KeptAreLast : Type 0
+KeptAreLast = (fs : List (ℕ × List Instr)) → (gone : List (ℕ × List Instr)) × (fs ≡ gone ++ kept_of fs)
+
+-- .. within both limits
+abbrev pub KeptAreFew : Type 0
+KeptAreFew = (fs : List (ℕ × List Instr)) → (length (kept_of fs) ≤ most_kept_frames) × (text_size (kept_of fs) ≤ most_kept_text)
+
+-- .. and with the one before them they aren't
+abbrev pub KeptAreAll : Type 0
+KeptAreAll = (fs gone : List (ℕ × List Instr)) (f : ℕ × List Instr) → fs ≡ gone ++ f ∷ kept_of fs → may_be_kept (f ∷ kept_of fs) ≡ false
+
+-- of frames and more of them those are kept that are kept of the kept ones and those more
+abbrev pub KeptGoOn : Type 0
+KeptGoOn = (fs more : List (ℕ × List Instr)) → kept_of (fs ++ more) ≡ kept_of (kept_of fs ++ more)
+
+-- the frames above a stamp are kept exactly where no frame that is gone has a higher one
+abbrev pub CoversByStamp : Type 0
+CoversByStamp = (h : History) → Legal h → (gone : List (ℕ × List Instr)) → frames h ≡ gone ++ kept h → (t : ℕ) → (last_stamp_from 0 gone ≤ t) ↔ Covers h t

@@ -1,0 +1,4 @@
+-- Telnet: tokens and the answers to options.
+pub mod TelnetTokens
+pub mod OptionAnswers
+pub mod TelnetLaws

@@ -1,0 +1,21 @@
+-- The terminal: characters, control functions, the screen and what they do to it, and what it reports.
+pub mod Characters
+pub mod Parameters
+pub mod Controls
+pub mod Cells
+pub mod Terminal
+pub mod Arguments
+pub mod Pens
+pub mod TabStops
+pub mod Cursor
+pub mod Scrolling
+pub mod Editing
+pub mod Printing
+pub mod Modes
+pub mod Effects
+pub mod Reports
+pub mod Screens
+pub mod Replies
+pub mod CellLaws
+pub mod ControlLaws
+pub mod ScreenLaws

@@ -1,0 +1,71 @@
+-- The screen that a session's bytes leave, and what it shows.
+use Rattle.std.specs.Prelude.{ℕ, List, [], ◌∷◌, map, flat_map, ◌&&◌, nat_le, if◌then◌else◌, slice_set, ◌<◌, All}
+use Rattle.gate_model.specs.declared.cell.Cell.{Cell}
+use Rattle.gate_model.specs.declared.key.Key.{Key}
+use Rattle.gate_model.specs.declared.control.Control.{Control}
+use Rattle.gate_model.specs.declared.token.Token.{Token}
+use Rattle.gate_model.specs.declared.token.Token.TheVariants.{Byte, Do, Dont, Will, Wont, Sub, Single}
+use Rattle.gate_model.specs.terminal.Cells.{place}
+use Rattle.gate_model.specs.terminal.Characters.{characters}
+use Rattle.gate_model.specs.terminal.Controls.{controls}
+use Rattle.gate_model.specs.terminal.Effects.{effect}
+use Rattle.gate_model.specs.picture.KeyGrid.{KeyGrid}
+use Rattle.gate_model.specs.picture.Pictures.{key_at}
+use Rattle.gate_model.specs.telnet.TelnetTokens.{tokens}
+use Rattle.gate_model.specs.terminal.Terminal.{Terminal, opening_screen}
+
+-- the data bytes among Telnet tokens
+abbrev pub data_byte : Token → List ℕ
+data_byte (Byte b) = b ∷ []
+data_byte (Do option) = []
+data_byte (Dont option) = []
+data_byte (Will option) = []
+data_byte (Wont option) = []
+data_byte (Sub bytes) = []
+data_byte (Single b) = []
+
+abbrev pub data_of : List Token → List ℕ
+data_of ts = flat_map data_byte ts
+
+-- the control functions that Telnet tokens complete
+abbrev pub functions : List Token → List Control
+functions ts = controls (characters (data_of ts))
+
+-- the screen after more control functions
+abbrev pub after_controls : Terminal → List Control → Terminal
+after_controls t [] = t
+after_controls t (c ∷ cs) = after_controls (effect c t) cs
+
+-- the screen that bytes of a Telnet host leave from the start
+abbrev pub screen : ℕ → ℕ → List ℕ → Terminal
+screen columns rows bytes = after_controls (opening_screen columns rows) (functions (tokens bytes))
+
+-- the face of a character: itself from U+0020 to U+007E, U+FFFD otherwise
+abbrev pub face_of : ℕ → ℕ
+face_of c = if nat_le 32 c && nat_le c 126 then c else 65533
+
+abbrev pub key_of : Cell → Key
+key_of c = record { face = face_of c.ch; under = c.under; ink = c.ink; paper = c.paper }
+
+-- ink and paper are indexes of the palette
+abbrev pub IsColoured : Key → Type 0
+IsColoured k = (k.ink < 16) × (k.paper < 16)
+
+abbrev pub AreColoured : List Key → Type 0
+AreColoured keys = All IsColoured keys
+
+-- ink and paper exchanged, as under the cursor
+abbrev pub exchanged : Key → Key
+exchanged k = record k { ink = k.paper; paper = k.ink }
+
+-- the keys with the one at the place exchanged
+abbrev pub exchanged_at : ℕ → List Key → List Key
+exchanged_at place keys = slice_set keys place (exchanged (key_at keys place))
+
+-- the key of each place, exchanged under a visible cursor
+abbrev pub shown : Terminal → KeyGrid
+shown t = let keys = map key_of t.grid.cells in record {
+  cols = t.grid.cols;
+  rows = t.grid.rows;
+  keys = if t.modes.visible then exchanged_at (place t.x t.y t.grid) keys else keys;
+}
