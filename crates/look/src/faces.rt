@@ -7,8 +7,8 @@ ghost use Rattle.canvas.specs.declared.dot.Dot.TheVariants.{Painted};
 ghost use Rattle.look.specs.Faces.{HasPixel, ShowsFace};
 
 use canvas::{Canvas, Dot};
-use glyph_table::lit;
 use gate_model::{Colour, NoMemory};
+use glyph_table::lit;
 use std::alloc::Global;
 
 /// The face of every glyph that isn't in the font: its glyph is a box.

@@ -142,7 +142,7 @@ found_viewer viewer v w did r t =
     let more = t.later.0 in
     let is : t.before ≡ more ++ v.seen = t.later.1 in
     ap (λ (h : History). delivered h viewer) is
-      ∙ same_given viewer more v.seen (subst (λ (h : History). Legal h) is t.legal_before) r.knows.begun r.knows.joined (none_of (reader_mark viewer) v w did r.mark.mark t)
+    ∙ same_given viewer more v.seen (subst (λ (h : History). Legal h) is t.legal_before) r.knows.begun r.knows.joined (none_of (reader_mark viewer) v w did r.mark.mark t)
 
 -- ---- a turn takes nobody's Join away
 

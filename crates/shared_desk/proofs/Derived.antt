@@ -101,13 +101,13 @@ pub delivers : (v w : View Entry) (viewer : ℕ) (answer : Result Answer NoMemor
 delivers v w viewer (Ok a) before after i t = (
   handed_out t.before (read viewer) a t.added,
   ap (λ (h : History). delivered h viewer) (seen_is v w _ t)
-    ∙ (delivers_added t.before viewer a t.added t.did_it.0 ∙ ap (λ (is : List Instr). is ++ handed_out t.before (read viewer) a t.added) (found_viewer viewer v w _ i t)),
+      ∙ (delivers_added t.before viewer a t.added t.did_it.0 ∙ ap (λ (is : List Instr). is ++ handed_out t.before (read viewer) a t.added) (found_viewer viewer v w _ i t)),
   t.did_it.1,
 )
 delivers v w viewer (Err x) before after i t = (
   [],
   ap (λ (h : History). delivered h viewer) (seen_is v w _ t)
-    ∙ (ap (λ (es : List Entry). delivered (es ++ t.before) viewer) t.did_it.1 ∙ (found_viewer viewer v w _ i t ∙ sym (append-nil (delivered v.seen viewer)))),
+      ∙ (ap (λ (es : List Entry). delivered (es ++ t.before) viewer) t.did_it.1 ∙ (found_viewer viewer v w _ i t ∙ sym (append-nil (delivered v.seen viewer)))),
   t.did_it.2 ∙ sym (append-nil before),
 )
 

@@ -94,8 +94,10 @@ keeps_linked m mid n s out k one two = record {
   where
     joins : joined n.view.seen ≡ joined m.view.seen
     joins = ap (λ (v : View Entry). joined v.seen) two ∙ ap (λ (v : View Entry). joined v.seen) one
+
     low : (x : ℕ) → Contains (2 ∷ 1 ∷ k.host.given) x → x ≤ 2 * joined m.view.seen + 2
     low x c = ⊎_elim (λ e. omega (arith, e)) (λ d. ⊎_elim (λ e. omega (arith, e)) (λ f. k.host.bound x f) (contains_cases 1 x k.host.given d)) (contains_cases 2 x (1 ∷ k.host.given) c)
+
     few : out + 2 + 0 ≤ 2 * joined n.view.seen + 2
     few = let b : out + 2 ≤ 2 * joined m.view.seen + 2 = k.host.few in omega (arith, b, joins)
 
@@ -133,6 +135,7 @@ keeps_placed m mid n spare out viewer x y k b last first room session one two xi
   where
     joins : joined n.view.seen ≡ joined m.view.seen
     joins = ap (λ (v : View Entry). joined v.seen) two ∙ ap (λ (v : View Entry). joined v.seen) one
+
     low : (z : ℕ) → Contains (y ∷ x ∷ k.host.given) z → z ≤ 2 * joined m.view.seen + 2
     low z c = ⊎_elim (λ e. omega (arith, e, yis, last)) (λ d. ⊎_elim (λ e. omega (arith, e, xis, last)) (λ f. k.host.bound z f) (contains_cases x z k.host.given d)) (contains_cases y z (x ∷ k.host.given) c)
 
@@ -177,7 +180,7 @@ join_leaves v w asked j b0 b1 t =
       before = t.before;
       seen = seen;
       gained = t.did_it.1 ∙ (ap (λ (es : List Entry). b0 ++ texts (handed_out t.before (Join asked) (joined_as (Ok j)) es)) a.adds
-        ∙ ap (λ (is : List Instr). b0 ++ texts is) (ap (λ (is : List Instr). is ++ given t.before (delivered t.before j.viewer) j.viewer e) (sym none) ∙ ap (λ (h : History). delivered h j.viewer) (sym seen)));
+          ∙ ap (λ (is : List Instr). b0 ++ texts is) (ap (λ (is : List Instr). is ++ given t.before (delivered t.before j.viewer) j.viewer e) (sym none) ∙ ap (λ (h : History). delivered h j.viewer) (sym seen)));
     }
 
 -- a host that has seen the Join last gives a place that is fresh

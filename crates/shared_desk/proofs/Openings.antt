@@ -82,10 +82,10 @@ owner_joined h role l o = subst (λ (g : History). joined g ≡ 1) (sym o.2) (ap
 pub begun_with : (h : History) (old new : HostState) (role : Role) (place : Place) → Legal h → HasOwner h (Some role) → old.view ≡ beginning mark_of h → old.linked ≡ false → old.out ≡ 0 → IsPlaceOf old 1 role place
     → new.session ≡ old.session → new.linked ≡ old.linked → new.out ≡ old.out + 2 → new.view ≡ with_place 1 old.view → HasBegun h new (Some place)
 begun_with h old new role place l o view linked out p session same more given = (
-    owner_joined h role l o,
-    given ∙ ap (with_place 1) view,
-    same ∙ linked,
-    more ∙ ap (λ (n : ℕ). n + 2) out,
-    p.sessions.0 ∙ sym session,
-    fresh_of old 1 role place o.1 (o.0 ∷ []) (texts (delivered h 1)) p (ap (λ (v : View Entry). v.seen) view ∙ o.2) (ap (λ (v : View Entry). texts (delivered v.seen 1)) (sym view)),
-  )
+  owner_joined h role l o,
+  given ∙ ap (with_place 1) view,
+  same ∙ linked,
+  more ∙ ap (λ (n : ℕ). n + 2) out,
+  p.sessions.0 ∙ sym session,
+  fresh_of old 1 role place o.1 (o.0 ∷ []) (texts (delivered h 1)) p (ap (λ (v : View Entry). v.seen) view ∙ o.2) (ap (λ (v : View Entry). texts (delivered v.seen 1)) (sym view)),
+)

@@ -170,7 +170,7 @@ pub turned : (v0 v w u : View Entry) (g : History) (event : Event) (answer : Res
     → Leaves event answer before after g held.desk → Ends u w event answer before after g held (nat_lt n m) → Turned v0 w (Answers event answer before after)
 turned v0 v w u g event answer held before after old n m is i s c k o =
     subst (λ (z : View Entry). Turned z w (Answers event answer before after)) is
-      (turned_by v w u g event answer held before after (nat_lt n m) i o (λ f. subst (λ (es : List Entry). Answers event answer before after g es) (stayed event answer before after g old held.desk n m s c k (ltb-false n m f)) k.answers) (nat_lt n m) refl)
+    (turned_by v w u g event answer held before after (nat_lt n m) i o (λ f. subst (λ (es : List Entry). Answers event answer before after g es) (stayed event answer before after g old held.desk n m s c k (ltb-false n m f)) k.answers) (nat_lt n m) refl)
 
 -- ---- what follows of every turn
 

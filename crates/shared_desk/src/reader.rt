@@ -43,11 +43,7 @@ impl ReaderPass {
     }
 
     /// `Desk::read`, in a turn. It appends the text of what the viewer was given by it.
-    pub fn read<R: Wait>(
-        &mut self,
-        rt: &R,
-        into: &mut Vec<u8>,
-    ) -> Result<ReadAnswer, ReadRefusal>
+    pub fn read<R: Wait>(&mut self, rt: &R, into: &mut Vec<u8>) -> Result<ReadAnswer, ReadRefusal>
         ensures session { self.new.session ≡ self.old.session }
         ensures viewer { self.new.viewer ≡ self.old.viewer }
         ensures gives { Gives self.old.view (Read self.old.viewer) (read_answer result) self.new.view into.old.items into.new.items }

@@ -17,7 +17,7 @@ pub returns-in_err-joined-clause-step : goal.returns-in_err-joined-clause-step
 returns-in_err-joined-clause-step g c =
     let is : c.from_residual-in_err-joined.result ≡ Err c.in_err-joined.field-0.0 = search rules in
     subst (λ (r : Result Place JoinRefusal). JoinEnds c.args.self.now.view c.args.asked r c.join.new.self.view c.args.into.now.items c.join.new.into.items) (sym is)
-      (join_refused _ _ _ c.args.asked c.in_err-joined.field-0.0 _ _ (ap (λ (s : HostState). s.view) c.self.view_is) c.in_err-joined.ensures.called)
+    (join_refused _ _ _ c.args.asked c.in_err-joined.field-0.0 _ _ (ap (λ (s : HostState). s.view) c.self.view_is) c.in_err-joined.ensures.called)
 
 pub place-requires-clause-given : goal.place-requires-clause-given
 place-requires-clause-given g c = below_joined c.self.inside.member c.join.new.self c.self.inside.spare c.self.inside.out c.args.asked c.in_ok-joined.joined _ _ c.self.invariant c.in_ok-joined.ensures.called

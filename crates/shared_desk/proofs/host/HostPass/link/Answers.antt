@@ -19,4 +19,4 @@ pub invariant_of-self-2 : goal.invariant_of-self-2
 invariant_of-self-2 c =
     let was : c.self.inside.spare ≡ Some c.in_ok-first.field-0 = search rules in
     subst (λ (s : Option TableId). KeepsHost c.part-sender.new.self s (c.self.inside.out + 2)) (sym c.take.ensures.after)
-      (keeps_linked c.self.inside.member c.part-link.new.self c.part-sender.new.self c.in_ok-first.field-0 c.self.inside.out (subst (λ (s : Option TableId). KeepsHost c.self.inside.member s c.self.inside.out) was c.self.invariant) c.part-link.ensures.giver c.part-sender.ensures.giver)
+    (keeps_linked c.self.inside.member c.part-link.new.self c.part-sender.new.self c.in_ok-first.field-0 c.self.inside.out (subst (λ (s : Option TableId). KeepsHost c.self.inside.member s c.self.inside.out) was c.self.invariant) c.part-link.ensures.giver c.part-sender.ensures.giver)

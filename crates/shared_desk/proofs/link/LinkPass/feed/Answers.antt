@@ -15,4 +15,4 @@ returns-clause-called g c = at_old _ _ _ _ (ap (λ (s : PassState). s.view) c.se
 pub returns-clause-heard : goal.returns-clause-heard
 returns-clause-heard g c =
     subst (λ (s : PassState). bytes c.feed.new.self.view.seen ≡ (if is_ok c.feed.result then bytes s.view.seen ++ c.args.bytes.now else bytes s.view.seen)) c.self.view_is
-      (hears _ _ c.args.bytes.now c.args.now c.feed.result c.self.invariant.mark c.feed.ensures.called)
+    (hears _ _ c.args.bytes.now c.args.now c.feed.result c.self.invariant.mark c.feed.ensures.called)
