@@ -1,6 +1,6 @@
 -- The loop over the places of a screen.
 use Rattle.std.proofs.Common.{◌≡◌, ℕ, zero, suc, ◌+◌, ◌*◌, ◌/◌, ◌%◌, ◌<◌, ◌≤◌, ℤ, List, [], ◌∷◌, ◌++◌, length, Bool, true, false, refl, sym, ap, subst, ◌∙◌, arith}
-use Rattle.std.specs.Prelude.{Option, Some, None, IfSome, slice_index_or}
+use Rattle.std.specs.Prelude.{Option, slice_index_or}
 use Rattle.gate_model.specs.declared.instr.Instr.{Instr}
 use Rattle.gate_model.specs.declared.key.Key.{Key}
 use Rattle.gate_model.specs.picture.KeyGrid.{KeyGrid}
@@ -12,20 +12,21 @@ use Rattle.frame_draw.specs.declared.wanted.Wanted.{Wanted}
 use Rattle.frame_draw.specs.Strokes.{cell_copy}
 use Rattle.frame_draw.specs.Cells.{Places}
 use Rattle.frame_draw.specs.Along.{Along, Fits, Holds, IsBufferOf, IsLeft, is_next}
+use Rattle.frame_draw.specs.Recent.{AreBuffers}
 use Rattle.frame_draw.proofs.NewKeys.{none_new}
 use Rattle.frame_draw.proofs.Left.{left_copied, left_passed, next_is}
 use Rattle.frame_draw.proofs.Going.{along_copied, along_held, along_none, along_passed, buffer_of}
 
-pub record IsGoing (now : KeyGrid) (wanted : Wanted) (first : List Instr) (before : Buffers) (place at : ℕ) (last : Option Held) (list : List Instr) (keys : Buffers) : Type 0 where
-  pub last_held : IfSome last (λ h. IsBufferOf keys h.key h.layer)
+pub record IsGoing (now : KeyGrid) (wanted : Wanted) (first : List Instr) (before : Buffers) (place at : ℕ) (recent : List (Option Held)) (list : List Instr) (keys : Buffers) : Type 0 where
+  pub recent_held : AreBuffers keys recent
   pub early : at ≤ place
   pub along : (rest : Places) (copies : ℕ → Bool) → Fits now rest copies → IsLeft now.cols (length now.keys) copies wanted 0 0
       → IsLeft now.cols (length now.keys) copies wanted at place × Along now first before rest copies place place list keys
   pub kept : new_keys before now.keys ≡ [] → keys ≡ before
 
-pub going_none : (now : KeyGrid) (wanted : Wanted) (list : List Instr) (keys : Buffers) → IsGoing now wanted list keys 0 0 None list keys
-going_none now wanted list keys = record {
-  last_held = tt;
+pub going_none : (now : KeyGrid) (wanted : Wanted) (list : List Instr) (keys : Buffers) (recent : List (Option Held)) → AreBuffers keys recent → IsGoing now wanted list keys 0 0 recent list keys
+going_none now wanted list keys recent r = record {
+  recent_held = r;
   early = omega arith;
   along = λ rest copies fits left. (left, along_none now list keys rest copies);
   kept = λ none. refl;
@@ -47,17 +48,17 @@ pub record IsHeld (now : KeyGrid) (place : ℕ) (key : Key) (held : Held) (list 
   pub holds : Holds list keys key held.layer longer more
   pub kept : is_held keys key ≡ true → more ≡ keys
 
-module _ (now : KeyGrid) (wanted : Wanted) (first : List Instr) (before : Buffers) (place at : ℕ) (last : Option Held) (list : List Instr) (keys : Buffers)
-    (key : Key) (held : Held) (longer : List Instr) (more : Buffers) (h : IsHeld now place key held list keys longer more) (g : IsGoing now wanted first before place at last list keys) where
+module _ (now : KeyGrid) (wanted : Wanted) (first : List Instr) (before : Buffers) (place at : ℕ) (recent : List (Option Held)) (list : List Instr) (keys : Buffers)
+    (key : Key) (held : Held) (longer : List Instr) (more : Buffers) (h : IsHeld now place key held list keys longer more) (g : IsGoing now wanted first before place at recent list keys) where
   held_place : Holds list keys (key_at now.keys place) held.layer longer more
   held_place = subst (λ (k : Key). Holds list keys k held.layer longer more) h.read h.holds
 
   buffer_here : IsBufferOf more held.key held.layer
   buffer_here = subst (λ (k : Key). IsBufferOf more k held.layer) (sym h.named) (buffer_of list longer keys more key held.layer h.holds)
 
-  pub going_passed : is_next wanted at place now.cols ≡ false → IsGoing now wanted first before (place + 1) at (Some held) longer more
-  going_passed off = record {
-    last_held = buffer_here;
+  pub going_passed : (later : List (Option Held)) → AreBuffers more later → is_next wanted at place now.cols ≡ false → IsGoing now wanted first before (place + 1) at later longer more
+  going_passed later r off = record {
+    recent_held = r;
     early = omega (arith, g.early);
     along = λ rest copies fits left.
         let a = g.along rest copies fits left in
@@ -68,11 +69,11 @@ module _ (now : KeyGrid) (wanted : Wanted) (first : List Instr) (before : Buffer
     kept = still_kept now before keys more place key h.in_place h.read g.kept h.kept;
   }
 
-  pub going_copied : (longest : List Instr) → IsScreenSize now.cols now.rows → length now.keys ≡ now.rows * now.cols
+  pub going_copied : (later : List (Option Held)) → AreBuffers more later → (longest : List Instr) → IsScreenSize now.cols now.rows → length now.keys ≡ now.rows * now.cols
       → longest ≡ longer ++ cell_copy held.layer (place % now.cols) (place / now.cols) ∷ [] → is_next wanted at place now.cols ≡ true
-      → IsGoing now wanted first before (place + 1) (at + 1) (Some held) longest more
-  going_copied longest size full added on = record {
-    last_held = buffer_here;
+      → IsGoing now wanted first before (place + 1) (at + 1) later longest more
+  going_copied later r longest size full added on = record {
+    recent_held = r;
     early = omega (arith, g.early);
     along = λ rest copies fits left.
         let a = g.along rest copies fits left in
@@ -95,10 +96,10 @@ pub read_is : (slice keys : List Key) (place : ℕ) (d : Key) → slice ≡ keys
 read_is slice keys place d e lt = any_default slice place d blank_key lt ∙ ap (λ (ks : List Key). key_at ks place) e
 
 -- .. and the loop's end
-pub going_ends : (now : KeyGrid) (wanted : Wanted) (first : List Instr) (before : Buffers) (place at : ℕ) (last : Option Held) (list : List Instr) (keys : Buffers)
-    → place ≡ length now.keys → IsGoing now wanted first before place at last list keys
+pub going_ends : (now : KeyGrid) (wanted : Wanted) (first : List Instr) (before : Buffers) (place at : ℕ) (recent : List (Option Held)) (list : List Instr) (keys : Buffers)
+    → place ≡ length now.keys → IsGoing now wanted first before place at recent list keys
     → (rest : Places) (copies : ℕ → Bool) → Fits now rest copies → IsLeft now.cols (length now.keys) copies wanted 0 0 → Along now first before rest copies (length now.keys) (length now.keys) list keys
-going_ends now wanted first before place at last list keys e g rest copies fits left =
+going_ends now wanted first before place at recent list keys e g rest copies fits left =
     subst (λ (n : ℕ). Along now first before rest copies n n list keys) e (g.along rest copies fits left).1
 
 -- the layer and the columns as they were read

@@ -2,3 +2,4 @@
 pub mod Strokes
 pub mod Cells
 pub mod Along
+pub mod Recent

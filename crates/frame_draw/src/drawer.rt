@@ -1,21 +1,22 @@
 //! Frames that draw what changed: each key on the screen has a glyph buffer, into which it is painted
 //! once, and each cell that changed is copied from there (this project's own).
 
-ghost use Rattle.std.specs.Prelude.{◌≡◌, ◌+◌, ◌*◌, ◌≤◌, ℕ, [], ◌++◌, length, true, IfOk, IfSome, OnOk, OnErr, Bool};
+ghost use Rattle.std.specs.Prelude.{◌≡◌, ◌+◌, ◌*◌, ◌≤◌, ◌<◌, ℕ, [], ◌++◌, length, true, IfOk, OnOk, OnErr, Bool};
 ghost use Rattle.gate_model.specs.picture.Buffers.{AreLayers, Renews, is_held, new_keys};
 ghost use Rattle.gate_model.specs.session.Cost.{changes, cost};
 ghost use Rattle.gate_model.specs.picture.Layers.{draw, nothing};
 ghost use Rattle.gate_model.specs.terminal.Screens.{AreColoured, IsColoured};
 ghost use Rattle.gate_model.specs.picture.Shape.{OpensScreen, Shape};
 ghost use Rattle.gate_model.specs.session.Steps.{IsScreenSize};
-ghost use Rattle.frame_draw.specs.Along.{Along, Fits, Holds, IsBufferOf, IsLeft};
+ghost use Rattle.frame_draw.specs.Along.{Along, Fits, Holds, IsLeft};
+ghost use Rattle.frame_draw.specs.Recent.{AreBuffers, remembered};
 ghost use Rattle.frame_draw.specs.Cells.{Places};
 
 use crate::strokes::{copy_to, paint, scroll};
 use crate::wanted::{Wanted, is_next};
 use dirty_region::changes;
 use gate_model::{Instr, Instrs, Key, NoMemory, Shown};
-use glyph_cache::Cache;
+use glyph_cache::{Cache, SlotKind};
 use std::alloc::Global;
 
 /// The first frame of a session: it sizes the visible layer, 8 pixels a column and 16 a row, and draws
@@ -78,6 +79,9 @@ pub fn frame(
     Ok(Instrs::of(drawn))
 }
 
+// How many keys are remembered with their buffers: one for each face of the font, and more.
+const RECENT: usize = 128;
+
 // A key and the layer of its buffer.
 #[derive(Clone, Copy)]
 struct Held {
@@ -102,11 +106,10 @@ fn draw_places(
 {
     let keys = now.as_slice();
     let cols = now.cols() as usize;
-    let mut last = None;
+    let mut recent = [None; RECENT];
     let mut at = 0;
     for place in 0..keys.len() {
-        let held = hold(list, cache, last, keys[place])?;
-        last = Some(held);
+        let held = hold(list, cache, &mut recent, keys[place])?;
         if is_next(wanted, at, place, cols) {
             list.push(copy_to(held.layer, place, cols))?;
             at += 1;
@@ -115,28 +118,45 @@ fn draw_places(
     Ok(())
 }
 
-// The buffer of the key, painted where it is new; that of the place before, where that has the same key.
+// The buffer of the key, painted where it is new. One of the keys with this face is remembered, so that
+// the cache is seldom asked.
 fn hold(
     list: &mut Vec<Instr>,
     cache: &mut Cache,
-    last: Option<Held>,
+    recent: &mut [Option<Held>; RECENT],
     key: Key,
 ) -> Result<Held, NoMemory>
     requires coloured { IsColoured key }
-    requires last { IfSome last (λ h. IsBufferOf cache.old.keys h.key h.layer) }
+    requires recent { AreBuffers cache.old.keys recent.old }
     ensures key { IfOk result (λ h. h.key ≡ key) }
     ensures held { IfOk result (λ h. Holds list.old.items cache.old.keys key h.layer list.new.items cache.new.keys) }
+    ensures recent { OnOk result (AreBuffers cache.new.keys recent.new) }
     ensures kept { is_held cache.old.keys key ≡ true → cache.new.keys ≡ cache.old.keys }
 {
-    if let Some(held) = last {
+    let at = key.face as usize % RECENT;
+    if let Some(held) = recent[at] {
         if held.key == key {
             return Ok(held);
         }
     }
     let slot = cache.buffer(key)?;
     paint(list, slot, key)?;
-    Ok(Held {
+    let held = Held {
         key,
         layer: slot.layer,
-    })
+    };
+    remember(recent, at, held, slot.kind);
+    Ok(held)
+}
+
+// A key that took the buffer of another makes all others forgotten.
+fn remember(recent: &mut [Option<Held>; RECENT], at: usize, held: Held, kind: SlotKind)
+    requires { at < 128 }
+    ensures { recent.new ≡ remembered kind recent.old at held }
+{
+    match kind {
+        SlotKind::Held | SlotKind::Made => {}
+        SlotKind::Reused => *recent = [None; RECENT],
+    }
+    recent[at] = Some(held);
 }
