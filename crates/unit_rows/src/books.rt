@@ -13,16 +13,25 @@ use viewer_book::Book;
 /// The live viewers after the calls, which stand apart by `; `.
 pub fn told(alloc: Global, input: &str) -> Result<String> {
     let mut book = Book::new(alloc).ok().context("no memory")?;
-    for call in input.split("; ") {
+    told_after(&mut book, alloc, input)
+}
+
+fn told_after(book: &mut Book, alloc: Global, calls: &str) -> Result<String> {
+    for call in calls.split("; ") {
         let (name, rest) = first_word(call);
         let numbers = numbers(alloc, rest)?;
-        make(&mut book, name, &numbers)?;
+        make(book, name, &numbers)?;
     }
+    viewers_of(book, alloc)
+}
+
+// The live viewers.
+fn viewers_of(book: &Book, alloc: Global) -> Result<String> {
     let mut text = String::new(alloc);
     write!(text, "{} of {}", book.live(), book.joined())?;
     for viewer in 1..=book.joined().min(8) {
         if book.is_live(viewer) {
-            push_viewer(&mut text, &book, viewer)?;
+            push_viewer(&mut text, book, viewer)?;
         }
     }
     Ok(text)
@@ -34,21 +43,34 @@ fn make(book: &mut Book, name: &str, numbers: &[u32]) -> Result<()> {
         ("view", [stamp]) => add(book, Role::View, *stamp),
         ("keep", [stamp]) => add(book, Role::Keep, *stamp),
         ("views", [count]) => add_views(book, *count),
-        ("leave", [viewer]) if book.is_live(*viewer) => {
-            book.remove(*viewer);
-            Ok(())
-        }
+        ("leave", [viewer]) => leave(book, *viewer),
         ("deliver", [viewer, stamp]) => deliver(book, *viewer, u64::from(*stamp)),
         ("end", [viewer, stamp]) => end(book, *viewer, u64::from(*stamp)),
-        ("alt", [viewer]) if book.is_live(*viewer) => {
-            let mods = Mods {
-                alt_right: true,
-                ..book.mods(*viewer)
-            };
-            book.set_mods(*viewer, mods);
-            Ok(())
-        }
+        ("alt", [viewer]) => hold_alt(book, *viewer),
         _ => bail!("no call"),
+    }
+}
+
+fn leave(book: &mut Book, viewer: u32) -> Result<()> {
+    if book.is_live(viewer) {
+        book.remove(viewer);
+        Ok(())
+    } else {
+        bail!("no viewer");
+    }
+}
+
+// The right Alt is held from now on.
+fn hold_alt(book: &mut Book, viewer: u32) -> Result<()> {
+    if book.is_live(viewer) {
+        let mods = Mods {
+            alt_right: true,
+            ..book.mods(viewer)
+        };
+        book.set_mods(viewer, mods);
+        Ok(())
+    } else {
+        bail!("no viewer");
     }
 }
 
@@ -58,11 +80,18 @@ fn add(book: &mut Book, role: Role, stamp: u32) -> Result<()> {
         bail!("no room");
     }
     let next = book.joined().saturating_add(1);
-    let number = book.add(role, u64::from(stamp)).ok().context("no memory")?;
-    if number != next {
+    match book.add(role, u64::from(stamp)) {
+        Ok(number) => expect(number, next),
+        Err(_) => bail!("no memory"),
+    }
+}
+
+fn expect(number: u32, next: u32) -> Result<()> {
+    if number == next {
+        Ok(())
+    } else {
         bail!("viewer {number}");
     }
-    Ok(())
 }
 
 fn add_views(book: &mut Book, count: u32) -> Result<()> {
@@ -73,19 +102,21 @@ fn add_views(book: &mut Book, count: u32) -> Result<()> {
 }
 
 fn deliver(book: &mut Book, viewer: u32, stamp: u64) -> Result<()> {
-    if !book.is_live(viewer) || stamp <= book.position(viewer) {
+    if book.is_live(viewer) && book.position(viewer) < stamp {
+        book.deliver(viewer, stamp);
+        Ok(())
+    } else {
         bail!("not above its position");
     }
-    book.deliver(viewer, stamp);
-    Ok(())
 }
 
 fn end(book: &mut Book, viewer: u32, stamp: u64) -> Result<()> {
-    if !book.is_live(viewer) || stamp < book.position(viewer) {
+    if book.is_live(viewer) && book.position(viewer) <= stamp {
+        book.end(viewer, stamp);
+        Ok(())
+    } else {
         bail!("below its position");
     }
-    book.end(viewer, stamp);
-    Ok(())
 }
 
 fn push_viewer(text: &mut String, book: &Book, viewer: u32) -> Result<()>

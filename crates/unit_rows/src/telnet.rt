@@ -27,12 +27,18 @@ fn tokens_of(alloc: Global, stream: &[u8], most: usize) -> Result<String>
     let mut wire = Wire::new();
     let mut text = String::new(alloc);
     for piece in stream.chunks(most) {
-        let tokens = wire.feed(alloc, piece).ok().context("no memory")?;
-        for token in tokens.as_slice() {
-            push_token(&mut text, token)?;
-        }
+        push_tokens(&mut text, &mut wire, alloc, piece)?;
     }
     Ok(text)
+}
+
+// Adds the tokens that a piece completes.
+fn push_tokens(text: &mut String, wire: &mut Wire, alloc: Global, piece: &[u8]) -> Result<()> {
+    let tokens = wire.feed(alloc, piece).ok().context("no memory")?;
+    for token in tokens.as_slice() {
+        push_token(text, token)?;
+    }
+    Ok(())
 }
 
 fn push_token(text: &mut String, token: &Token) -> Result<()> {
@@ -46,14 +52,16 @@ fn push_token(text: &mut String, token: &Token) -> Result<()> {
         Token::Will(option) => write!(text, "will {option}")?,
         Token::Wont(option) => write!(text, "wont {option}")?,
         Token::Single(command) => write!(text, "single {command}")?,
-        Token::Sub(bytes) => {
-            let bytes = bytes.as_slice();
-            write!(text, "sub {}", bytes.len())?;
-            if (1..=16).contains(&bytes.len()) {
-                text.push(' ')?;
-                push_hexadecimal(text, bytes)?;
-            }
-        }
+        Token::Sub(bytes) => push_sub(text, bytes.as_slice())?,
+    }
+    Ok(())
+}
+
+fn push_sub(text: &mut String, bytes: &[u8]) -> Result<()> {
+    write!(text, "sub {}", bytes.len())?;
+    if (1..=16).contains(&bytes.len()) {
+        text.push(' ')?;
+        push_hexadecimal(text, bytes)?;
     }
     Ok(())
 }
@@ -72,14 +80,15 @@ pub fn escaped(alloc: Global, input: &str) -> Result<String> {
 /// The answers to the options of a stream, on a screen of this size.
 pub fn answered(alloc: Global, input: &str) -> Result<String> {
     let (cols, rows, stream) = size(input)?;
-    let mut wire = Wire::new();
-    let tokens = wire
-        .feed(alloc, &bytes_of(alloc, stream)?)
-        .ok()
-        .context("no memory")?;
+    let stream = bytes_of(alloc, stream)?;
+    let tokens = Wire::new().feed(alloc, &stream).ok().context("no memory")?;
+    answers_to(alloc, tokens.as_slice(), cols, rows)
+}
+
+fn answers_to(alloc: Global, tokens: &[Token], cols: u16, rows: u16) -> Result<String> {
     let mut options = Options::new();
     let mut into = Vec::new(alloc);
-    for token in tokens.as_slice() {
+    for token in tokens {
         options
             .take(token, cols, rows, "linux", &mut into)
             .ok()

@@ -1,6 +1,7 @@
 //! Instructions as text: framing, what they mean, and how they are written.
 
 use anyhow::{Context, Result, bail};
+use gate_model::Instr;
 use guac_framing::{BadAt, Frame, Next, next_instruction, put_element, put_end, put_number};
 use guac_instr::{read_client, read_hello, read_server, text_of, texts_of};
 use row_words::{bytes_of, first_word, push_escaped};
@@ -78,17 +79,29 @@ pub fn instruction(alloc: Global, input: &str) -> Result<String> {
     let Some(instr) = read_server(&whole(&bytes)?) else {
         return Ok("nothing".to_string(alloc)?);
     };
-    let mut one = Vec::new(alloc);
-    text_of(&instr, &mut one).ok().context("no memory")?;
-    let mut two = Vec::new(alloc);
-    texts_of(&[instr, instr], &mut two)
-        .ok()
-        .context("no memory")?;
+    text_and_twice(alloc, instr)
+}
+
+fn text_and_twice(alloc: Global, instr: Instr) -> Result<String> {
+    let one = one_text(alloc, &instr)?;
+    let two = list_text(alloc, &[instr, instr])?;
     if two.strip_prefix(one.as_slice()) != Some(one.as_slice()) {
         bail!("two of them have another text");
     }
     let mut text = format!(in alloc; "{instr:?} ")?;
     push_escaped(&mut text, &one)?;
+    Ok(text)
+}
+
+fn one_text(alloc: Global, instr: &Instr) -> Result<Vec<u8>> {
+    let mut text = Vec::new(alloc);
+    text_of(instr, &mut text).ok().context("no memory")?;
+    Ok(text)
+}
+
+fn list_text(alloc: Global, list: &[Instr]) -> Result<Vec<u8>> {
+    let mut text = Vec::new(alloc);
+    texts_of(list, &mut text).ok().context("no memory")?;
     Ok(text)
 }
 
