@@ -1,0 +1,5 @@
+mod Rising
+mod Ends
+mod Stands
+mod Texts
+mod Places
