@@ -20,7 +20,7 @@ pub kept_rise : (s : HistoryState) (all : List (ℕ × List ℕ)) → HasKept s 
 kept_rise s all h = rising-from (last_stamp 0 h.before) 0 s.kept (omega arith) (rising-back 0 h.before s.kept (subst (AreRising 0) h.cut h.rising))
 
 -- after a push, and after the oldest frames are taken away
-pub stands_on : (s : HistoryState) (all : List (ℕ × List ℕ)) (t : ℕ) (text : List ℕ) → newest s < t → HasKept s all → HasKept (trimmed s.gone (s.kept ++ (t, text) ∷ [])) (all ++ (t, text) ∷ [])
+stands_on : (s : HistoryState) (all : List (ℕ × List ℕ)) (t : ℕ) (text : List ℕ) → newest s < t → HasKept s all → HasKept (trimmed s.gone (s.kept ++ (t, text) ∷ [])) (all ++ (t, text) ∷ [])
 stands_on s all t text lt h =
     let more : List (ℕ × List ℕ) = (t, text) ∷ [] in
     let x = is_trimmed s.gone (s.kept ++ more) in
@@ -63,7 +63,9 @@ covers_exactly s all t h = (λ yes. covered s all t h (at_most yes), cases (nat_
 abbrev pub state : List (ℕ × List ℕ) → ℕ → HistoryState
 state kept gone = record { kept = kept; gone = gone }
 
--- where they are within the limits, none is taken away any more
-pub all_stay : (s : HistoryState) (frames closed : List (ℕ × List ℕ)) (gone : ℕ) → trimmed gone frames ≡ s → length frames ≤ most_kept_frames → text_bytes frames ≤ most_kept_text → closed ≡ frames → state closed gone ≡ s
-all_stay s frames closed gone same few small is =
-    ap (λ (xs : List (ℕ × List ℕ)). state xs gone) is ∙ (sym (trimmed-stays gone frames (stays frames few small)) ∙ same)
+-- what is left of the frames at the end of a push, within both limits, stands for one frame more
+pub pushed : (s : HistoryState) (t : ℕ) (text : List ℕ) (frames closed : List (ℕ × List ℕ)) (gone : ℕ) → trimmed gone frames ≡ trimmed s.gone (s.kept ++ (t, text) ∷ []) → length frames ≤ most_kept_frames → text_bytes frames ≤ most_kept_text → closed ≡ frames → newest s < t → (all : List (ℕ × List ℕ)) → HasKept s all → HasKept (state closed gone) (all ++ (t, text) ∷ [])
+pushed s t text frames closed gone same few small is lt all h =
+    let ends : state closed gone ≡ trimmed s.gone (s.kept ++ (t, text) ∷ []) =
+    ap (λ (xs : List (ℕ × List ℕ)). state xs gone) is ∙ (sym (trimmed-stays gone frames (stays frames few small)) ∙ same) in
+    subst (λ (x : HistoryState). HasKept x (all ++ (t, text) ∷ [])) (sym ends) (stands_on s all t text lt h)

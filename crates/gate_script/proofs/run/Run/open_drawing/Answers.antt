@@ -60,3 +60,9 @@ returns-clause-step g c = record {
   moment = c.requires.now;
   stays = c.in_ok-join.ensures.step (start c.args.size Nobody most_entries ∷ []) 0 (g.A.Sink.written c.args.answers.now) (g.F.Sink.written c.args.frames.now) (c.in_ok-tell_start.ensures.step [] c.args.size Nobody most_entries 0 (g.A.Sink.written c.args.answers.now) (g.F.Sink.written c.args.frames.now) (nothing_done (g.A.Sink.written c.args.answers.now) (g.F.Sink.written c.args.frames.now)) c.in_ok-session.ensures.opened c.in_ok-session.ensures.unseen);
 }
+
+pub returns-in_err-tell_start-clause-cause : goal.returns-in_err-tell_start-clause-cause
+returns-in_err-tell_start-clause-cause g c =
+    let p = err_from_is_err_and c.from_residual-in_err-tell_start.result c.from_residual-in_err-tell_start.ensures.1 in
+    let e : c.from_residual-in_err-tell_start.result ≡ Err c.in_err-tell_start.field-0.0 = p.1 ∙ ap (λ (s : Stop). Err s) p.2 in
+    subst (λ (x : Result (Unit {0}) Stop). IfErr x (λ stop. HasCause stop ⊥ (Rose (g.A.Sink.faults c.args.answers.now) (g.A.Sink.faults c.tell_start.new.answers) ⊎ Rose (g.F.Sink.faults c.args.frames.now) (g.F.Sink.faults c.tell_start.new.frames)))) (sym e) c.in_err-tell_start.ensures.cause
