@@ -16,11 +16,15 @@ use std::alloc::Global;
 pub fn answers(alloc: Global, input: &str) -> Result<String> {
     let (mode, rest) = first_word(input);
     let (entries, calls) = first_word(rest);
-    let events = events_of(alloc, calls)?;
     let mode = share_of(mode)?;
     let entries = entries.parse::<u64>()?;
     let mut desk = opened(alloc, mode, entries)?;
-    answers_of(&mut desk, alloc, &events)
+    answers_to(&mut desk, alloc, calls)
+}
+
+fn answers_to(desk: &mut Desk, alloc: Global, calls: &str) -> Result<String> {
+    let events = events_of(alloc, calls)?;
+    answers_of(desk, alloc, &events)
 }
 
 fn answers_of(desk: &mut Desk, alloc: Global, events: &[Event]) -> Result<String>

@@ -1,11 +1,12 @@
-use Rattle.std.proofs.Common.{◌≡◌, [], ◌∷◌, refl, ap, sym, ◌∙◌, subst}
-use Rattle.std.specs.Prelude.{Result, Err, Some}
+use Rattle.std.proofs.Common.{◌≡◌, ◌⊎◌, [], ◌∷◌, refl, ap, sym, ◌∙◌, subst}
+use Rattle.std.specs.Prelude.{Result, Err, IfErr, Some}
 use Rattle.std.proofs.lemmas.Result.{err_from_is_err_and}
+use Rattle.gate_outside.specs.Edge.{Rose}
 use Rattle.gate_script.specs.declared.run.Run.{Run}
 use Rattle.gate_script.specs.declared.stop.Stop.{Stop}
 use Rattle.gate_script.specs.declared.stop.Stop.TheVariants.{NoMemory}
 use Rattle.gate_script.specs.Lines.{start}
-use Rattle.gate_script.specs.Running.{StoppedIn, LineEnds, DoesLines}
+use Rattle.gate_script.specs.Running.{HasCause, StoppedIn, LineEnds, DoesLines}
 use Rattle.gate_script.proofs.SessionLaws.{play, no_memory}
 use Rattle.gate_script.proofs.RunLaws.{stopped_at_bad, told_before}
 use Rattle.std.specs.Option.{is_some}
