@@ -59,7 +59,10 @@ fn run(rt: &(impl AllocGlobal + Env + Print)) -> Result<()> {
     let seed = words.next().context("no seed")?.parse::<u64>()?;
     let feeds = words.next().context("no number")?.parse::<u64>()?;
     let tally = run_screens(rt, seed, feeds)?;
-    println!(rt; "{} feeds: {} alike; {} with at most 1,024 keys, {} of them within the bound", tally.feeds, tally.alike, tally.bounded, tally.within)?;
+    println!(rt;
+        "{} feeds: {} alike; {} with at most 1,024 keys, {} of them within the bound",
+        tally.feeds, tally.alike, tally.bounded, tally.within
+    )?;
     Ok(())
 }
 
