@@ -107,16 +107,15 @@ fn overlay_run(pixels: &mut [Option<Colour>], run: &[Option<Colour>])
     }
 }
 
-// Whether no pixel of the run is clear.
+// Whether no pixel of the run is clear. All are looked at: a loop with no way out is compiled to wide steps.
 fn is_opaque(run: &[Option<Colour>]) -> bool
     ensures { IsTrue result → (k : ℕ) → k < length run.now → IsTrue (is_some (get_or run.now k None)) }
 {
+    let mut clear = false;
     for pixel in run {
-        if pixel.is_none() {
-            return false;
-        }
+        clear |= pixel.is_none();
     }
-    true
+    !clear
 }
 
 // The rectangle `area` of the pixels, row by row, in place of what `part` has. It lies in the pixels.
