@@ -1,17 +1,18 @@
 -- What each call adds to a desk, from what its parts left.
-use Rattle.std.proofs.Common.{◌≡◌, ℕ, ◌+◌, ◌-◌, ◌<◌, ◌≤◌, ◌^◌, min, List, [], ◌∷◌, ◌++◌, length, take, drop, set, Bool, true, false, ◌⊎◌, inl, inr, refl, ap, sym, ◌∙◌, subst, append-nil, append_assoc, length-append, length-take, length-drop, arith}
+use Rattle.std.proofs.Common.{◌≡◌, ℕ, ◌+◌, ◌-◌, ◌≤◌, min, List, [], ◌∷◌, ◌++◌, length, take, drop, Bool, true, false, ◌⊎◌, inl, inr, refl, ap, sym, ◌∙◌, subst, append-nil, length-take, length-drop, arith}
 use Rattle.std.specs.Prelude.{None, Some, Ok, ◌==◌, if◌then◌else◌, count_by}
 use Rattle.std.proofs.Math.Seq.{take-append_seam, drop-append_seam}
 use Rattle.std.proofs.lemmas.Bool.Decides.{eqb_tells}
 use Rattle.std.proofs.lemmas.Bool.{eq-eqb}
-use Rattle.std.proofs.lemmas.List.{length-set, take_all, take_min}
+use Rattle.std.proofs.lemmas.List.{take_all, take_min}
 use Rattle.gate_model.specs.declared.act.Act.{Act}
 use Rattle.gate_model.specs.declared.answer.Answer.TheVariants.{Feed as fed, Join as joined_as, Read as was_read, Write as was_written, Take as was_taken, Leave as was_left, Close as was_closed}
 use Rattle.gate_model.specs.declared.cause.Cause.{Cause}
 use Rattle.gate_model.specs.declared.event.Event.TheVariants.{Feed as feed, Join as join, Read as read, Write as write, Take as take_most, Leave as leave, Close as close}
-use Rattle.gate_model.specs.declared.how.How.TheVariants.{Suffix}
+use Rattle.gate_model.specs.declared.how.How.{How}
+use Rattle.gate_model.specs.declared.how.How.TheVariants.{Suffix, Fresh}
 use Rattle.gate_model.specs.declared.instr.Instr.{Instr}
-use Rattle.gate_model.specs.declared.read_answer.ReadAnswer.TheVariants.{Frames}
+use Rattle.gate_model.specs.declared.read_answer.ReadAnswer.{ReadAnswer}
 use Rattle.gate_model.specs.declared.joined.Joined.{Joined}
 use Rattle.gate_model.specs.declared.written.Written.{Written}
 use Rattle.gate_model.specs.declared.sharing.Asked.{Asked}
@@ -21,150 +22,123 @@ use Rattle.gate_model.specs.declared.entry.Entry.TheVariants.{Feed, Join, Read, 
 use Rattle.gate_model.specs.terminal.Screens.{shown}
 use Rattle.gate_model.specs.picture.Shape.{Shape}
 use Rattle.gate_model.specs.text.Text.{texts}
-use Rattle.gate_model.specs.session.History.{History, at, bytes, columns, rows, newest, next_stamp, frames, frames_after, instructions, all_frames, joined, share_mode, is_closed}
-use Rattle.gate_model.specs.session.Delivered.{closing, position, handed, shown_to}
+use Rattle.gate_model.specs.session.History.{History, at, bytes, columns, rows, newest, next_stamp, joined, share_mode, is_closed}
+use Rattle.gate_model.specs.session.Delivered.{closing, position, handed}
 use Rattle.gate_model.specs.session.Output.{untaken}
 use Rattle.gate_model.specs.session.Refusals.{only_if, close_cause, feed_refusal, join_refusal, read_stop, write_refusal}
 use Rattle.gate_model.specs.session.Rights.{is_live, may}
 use Rattle.gate_model.specs.session.Roles.{grant_of}
-use Rattle.gate_model.specs.session.Calls.{AreBytes, IsPiece, IsWrite, is_key_act, take_entry, Step}
+use Rattle.gate_model.specs.session.Calls.{AreBytes, IsPiece, IsWrite, Updates, is_key_act, lacked, take_entry, updated_as, Step}
 use Rattle.gate_model.specs.session.Runs.{handed_out}
 use Rattle.gate_model.proofs.Truth.{facts_of}
 use Rattle.gate_model.proofs.Histories.{plain-join, plain-read, plain-write, plain-take, plain-leave, plain-close}
 use Rattle.viewer_book.specs.Book as book
 use Rattle.viewer_book.specs.Book.{BookState, added, changed, removed, holding}
 use Rattle.desk_core.specs.declared.host.Heard.{Heard}
-use Rattle.desk_core.specs.declared.progress.Progress.{Progress}
+use Rattle.desk_core.specs.declared.desk.update.Update.{Update}
 use Rattle.desk_core.specs.declared.typing.Typed.{Typed}
 use Rattle.desk_core.specs.Drawing.{DrawingState, Draws}
-use Rattle.desk_core.specs.Frames.{FramesState, with_frame}
+use Rattle.desk_core.specs.Frames.{AddsFrame, FramesState}
 use Rattle.desk_core.specs.Log.{LogState, with_entry}
-use Rattle.desk_core.specs.Viewers.{AllCome, HasCome, HasSeats, SeatsState, brought, with_viewer, with_read}
+use Rattle.desk_core.specs.Viewers.{HasBook, brought}
 use Rattle.desk_core.specs.Desk.{DeskState, IsWaiting, Stands}
 use Rattle.desk_core.specs.Calls.{Answered}
-use Rattle.desk_core.specs.Farewell.{farewell_of}
-use Rattle.desk_core.specs.Parts.{Follows, Types}
-use Rattle.desk_core.proofs.Coming.{texts-append, come-all, viewers-join, viewers-read, viewers-write, viewers-take, viewers-leave, viewers-close, text_past}
+use Rattle.desk_core.specs.Parts.{Brings, Follows, Pictures, Types}
 use Rattle.desk_core.proofs.Seating.{same, book-same, book-join, book-read, book-write, book-leave}
 use Rattle.desk_core.proofs.Standing.{log_of, waits-silent, waits-more, waits-take, plain_desk, fed_desk}
 use Rattle.desk_core.proofs.Following.{cols_of, rows_of}
-use Rattle.desk_core.proofs.Telling.{closing_is, join_goes, reading, lacks}
-use Rattle.gate_model.proofs.Stepping.{feed_step, join_step, read_step, write_step, take_step, leave_step, close_step}
+use Rattle.desk_core.proofs.Telling.{join_goes, reading}
+use Rattle.gate_model.proofs.Stepping.{feed_step, fresh_step, join_step, read_step, write_step, take_step, leave_step, close_step}
 
 -- a Feed
 pub added_feed : (d : DeskState) (h : History) (bs : List ℕ) (now t : ℕ) (r : Heard) (frame : List Instr) (l : LogState) (outgoing : List ℕ) (frames : FramesState) (drawing : DrawingState) → Stands d h → IsPiece bs → AreBytes bs → feed_refusal h ≡ None → t ≡ next_stamp d.frames.stamp now
     → Follows h bs r → Draws d.drawing r.host.screen t frame drawing
-    → l ≡ with_entry (log_of d) (Feed bs t frame) → outgoing ≡ d.outgoing ++ r.replies.items → frames ≡ with_frame d.frames t frame
+    → l ≡ with_entry (log_of d) (Feed bs t frame) → outgoing ≡ d.outgoing ++ r.replies.items → AddsFrame d.frames frames t frame
     → Answered h (feed bs now) (fed (Ok t)) record d { host = r.host; outgoing = outgoing; frames = frames; drawing = drawing; past = l.past; entries = l.entries } [] []
 added_feed d h bs now t r frame l outgoing frames drawing s piece octets allowed is_next follows draws logs waits shows =
     let next : t ≡ next_stamp (newest h) now = is_next ∙ ap (λ (n : ℕ). next_stamp n now) s.frames.stamp in
     let shape : Shape (columns h) (rows h) frame t = subst (λ (k : ℕ). Shape (columns h) k frame t) (rows_of h r.host (at h).shift (bytes h ++ bs) follows.host) (subst (λ (k : ℕ). Shape k (shown r.host.screen).rows frame t) (cols_of h r.host (at h).shift (bytes h ++ bs) follows.host) draws.shape) in
     let step : Step h (feed bs now) (fed (Ok t)) (Feed bs t frame ∷ []) = feed_step h bs now t frame piece octets allowed next shape in
-    let above : newest h < t = omega (arith, next) in
     record {
       added = Feed bs t frame ∷ [];
       step = step;
-      stands = fed_desk d h bs t frame l r.host r.replies.items outgoing frames drawing (feed bs now) (fed (Ok t)) s step above follows.host follows.replies draws logs waits shows;
+      stands = fed_desk d h bs t frame l r.host r.replies.items outgoing frames drawing (feed bs now) (fed (Ok t)) s step follows.host follows.replies draws logs waits shows;
       appended = refl;
     }
 
 -- a Join
-pub added_join : (d : DeskState) (h : History) (asked : Asked) (role : Role) (n t : ℕ) (l : LogState) (seats : SeatsState) (latest : Progress) (before after : List ℕ) → Stands d h → join_refusal h asked ≡ None → grant_of (share_mode h) asked ≡ Ok role
-    → n ≡ d.seats.book.joined + 1 → t ≡ d.frames.stamp → l ≡ with_entry (log_of d) (Join n role (all_frames d.past)) → seats ≡ with_viewer d.seats role d.frames.stamp latest → latest.frames ≡ d.frames.count → latest.bytes ≡ length d.frames.text → after ≡ before ++ d.frames.text
-    → Answered h (join asked) (joined_as (Ok record { viewer = n; role = role; stamp = t })) record d { seats = seats; past = l.past; entries = l.entries } before after
-added_join d h asked role n t l seats latest before after s allowed granted number stamped logs seated count bytes gains =
-    let facts = facts_of h s.legal in
+pub added_join : (d : DeskState) (h : History) (asked : Asked) (role : Role) (n t : ℕ) (first : List Instr) (l : LogState) (b : BookState) (before after : List ℕ) → Stands d h → join_refusal h asked ≡ None → grant_of (share_mode h) asked ≡ Ok role → Pictures h first
+    → n ≡ d.book.joined + 1 → t ≡ d.frames.stamp → l ≡ with_entry (log_of d) (Join n role first) → b ≡ added d.book role t → after ≡ before ++ texts first
+    → Answered h (join asked) (joined_as (Ok record { viewer = n; role = role; stamp = t })) record d { book = b; past = l.past; entries = l.entries } before after
+added_join d h asked role n t first l b before after s allowed granted pictures number stamped logs seated gains =
     let g = join_goes h asked allowed in
-    let first : List Instr = all_frames d.past in
-    let next : n ≡ joined h + 1 = omega (arith, number, s.seats.book.joined) in
-    let every : first ≡ all_frames h = ap all_frames s.past in
+    let next : n ≡ joined h + 1 = omega (arith, number, s.book.joined) in
+    let now : t ≡ newest h = stamped ∙ s.frames.stamp in
     let told : Joined = record { viewer = n; role = role; stamp = t } in
-    let step : Step h (join asked) (joined_as (Ok told)) (Join n role first ∷ []) = join_step h asked told first allowed granted next (stamped ∙ s.frames.stamp) every in
-    let all : HasCome h (all_frames h) latest = come-all h d.frames latest facts s.frames count bytes in
-    let come : AllCome (Join n role first ∷ h) (d.seats.reached ++ latest ∷ []) =
-    subst (λ (m : ℕ). AllCome (Join m role first ∷ h) (d.seats.reached ++ latest ∷ [])) (sym next)
-    (subst (λ (is : List Instr). AllCome (Join (joined h + 1) role is ∷ h) (d.seats.reached ++ latest ∷ [])) (sym every) (viewers-join h role d.seats.reached latest facts s.seats.joined all s.seats.come)) in
-    let has : HasSeats (with_viewer d.seats role d.frames.stamp latest) (Join n role first ∷ h) = record {
-      book = book-join d.seats.book h role first d.frames.stamp n s.seats.book s.legal facts next every s.frames.stamp g.live g.number;
-      joined = omega (arith, s.seats.joined, length-append d.seats.reached (latest ∷ []));
-      come = come;
-    } in
+    let step : Step h (join asked) (joined_as (Ok told)) (Join n role first ∷ []) = join_step h asked told first allowed granted next now pictures.shows in
+    let has : HasBook (added d.book role t) (Join n role first ∷ h) = book-join d.book h role first t n s.book s.legal (facts_of h s.legal) next pictures.shows now g.live g.number in
     let itself : (n == n) ≡ true = eq-eqb n n refl in
-    let gives : (if n == n then first else []) ++ [] ≡ all_frames h = rw itself (append-nil first ∙ every) in
+    let gives : (if n == n then first else []) ++ [] ≡ first = rw itself (append-nil first) in
     record {
       added = Join n role first ∷ [];
       step = step;
-      stands = plain_desk d h (Join n role first) l d.outgoing seats d.cause s record { plain = plain-join n role first; event = join asked; answer = joined_as (Ok told); step = step; stamp = refl; frame = refl; room = refl; mode = refl; term = refl } logs (waits-silent d.outgoing h (Join n role first) s.outgoing refl refl)
-          (subst (λ (k : SeatsState). HasSeats k (Join n role first ∷ h)) (sym seated) has) s.cause;
-      appended = gains ∙ ap (λ (xs : List ℕ). before ++ xs) (s.frames.text ∙ ap texts (sym gives));
+      stands = plain_desk d h (Join n role first) l d.outgoing b d.cause s record { plain = plain-join n role first; event = join asked; answer = joined_as (Ok told); step = step; stamp = refl; frame = refl; room = refl; mode = refl; term = refl; restores = pictures.restores; few = pictures.few } logs
+          (waits-silent d.outgoing h (Join n role first) s.outgoing refl refl) (subst (λ (k : BookState). HasBook k (Join n role first ∷ h)) (sym seated) has) s.cause;
+      appended = gains ∙ ap (λ (is : List Instr). before ++ texts is) (sym gives);
     }
 
--- a Read
-pub added_read : (d : DeskState) (h : History) (v count t : ℕ) (p latest : Progress) (closed : Bool) (l : LogState) (seats : SeatsState) (before after : List ℕ) → Stands d h → read_stop h v ≡ None → closed ≡ is_closed h → HasCome h (shown_to h v) p
-    → t ≡ d.frames.stamp → count ≡ min (d.frames.count - p.frames) (2 ^ 32 - 1) → latest.frames ≡ d.frames.count → latest.bytes ≡ length d.frames.text
-    → l ≡ with_entry (log_of d) (Read v Suffix) → seats ≡ with_read d.seats v t closed latest → after ≡ before ++ drop p.bytes d.frames.text ++ texts (farewell_of d.cause)
-    → Answered h (read v) (was_read (Ok (Frames count t closed))) record d { seats = seats; past = l.past; entries = l.entries } before after
-added_read d h v count t p latest closed l seats before after s allowed is come stamped counts number bytes logs seated gains =
-    let facts = facts_of h s.legal in
+-- a Read, whatever brings the viewer up to date
+reads : (h : History) (v : ℕ) (how : How) → read_stop h v ≡ None → Updates h (position h v) how → Step h (read v) (was_read (Ok (updated_as h v how))) (Read v how ∷ [])
+reads h v Suffix free covers = read_step h v (lacked h v) (newest h) (is_closed h) free covers refl refl refl
+reads h v (Fresh is) free shows = fresh_step h v (newest h) (is_closed h) is free shows.0 shows.1 refl refl
+
+pub added_read : (d : DeskState) (h : History) (v : ℕ) (u : Update) (t : ℕ) (closed : Bool) (l : LogState) (b : BookState) (before after : List ℕ) → Stands d h → read_stop h v ≡ None → Brings h v u
+    → t ≡ d.frames.stamp → closed ≡ is_closed h → l ≡ with_entry (log_of d) (Read v u.how) → b ≡ changed d.book v (brought t closed) → after ≡ before ++ texts (handed h (position h v) u.how ++ closing h)
+    → Answered h (read v) (was_read (Ok u.answer)) record d { book = b; past = l.past; entries = l.entries } before after
+added_read d h v u t closed l b before after s allowed brings stamped is logs seated gains =
     let now : t ≡ newest h = stamped ∙ s.frames.stamp in
-    let r = reading d h v s allowed in
-    let place : ℕ = v - 1 in
-    let v_is : v ≡ place + 1 = omega (arith, r.first) in
-    let all : HasCome h (all_frames h) latest = come-all h d.frames latest facts s.frames number bytes in
-    let all_come : AllCome (Read v Suffix ∷ h) (set d.seats.reached place latest) =
-    subst (λ (n : ℕ). AllCome (Read n Suffix ∷ h) (set d.seats.reached place latest)) (sym v_is) (viewers-read h place d.seats.reached latest facts (omega (arith, r.first, r.last)) all s.seats.come) in
-    let has : HasSeats (with_read d.seats v t closed latest) (Read v Suffix ∷ h) = record {
-      book = book-read d.seats.book h v t closed (brought t closed) s.seats.book facts now is r.more (λ w. record { number = refl; role = refl; position = refl; ended = refl; mods = refl });
-      joined = length-set d.seats.reached place latest ∙ s.seats.joined;
-      come = all_come;
-    } in
-    let step : Step h (read v) (was_read (Ok (Frames count t closed))) (Read v Suffix ∷ []) = read_step h v count t closed allowed (counts ∙ ap (λ (n : ℕ). min n (2 ^ 32 - 1)) (lacks d h v p s come)) now is in
+    let step : Step h (read v) (was_read (Ok u.answer)) (Read v u.how ∷ []) = subst (λ (a : ReadAnswer). Step h (read v) (was_read (Ok a)) (Read v u.how ∷ [])) (sym brings.answers) (reads h v u.how allowed brings.updates) in
+    let has : HasBook (changed d.book v (brought t closed)) (Read v u.how ∷ h) =
+    book-read d.book h v u.how t closed (brought t closed) s.book (facts_of h s.legal) brings.updates now is (reading d h v s allowed).more (λ w. record { number = refl; role = refl; position = refl; ended = refl; mods = refl }) in
     let itself : (v == v) ≡ true = eq-eqb v v refl in
-    let lacked_text : List Instr = instructions (frames_after (position h v) (frames h)) in
-    let gives : (if v == v then handed h (position h v) Suffix else []) ++ (if v == v then closing h else []) ≡ lacked_text ++ farewell_of d.cause = rw (itself, closing_is d h s) refl in
-    let rest : drop p.bytes d.frames.text ≡ texts lacked_text =
-    ap (λ (n : ℕ). drop n d.frames.text) come.bytes ∙ (ap (λ (xs : List ℕ). drop (length (texts (shown_to h v))) xs) s.frames.text ∙ text_past h v facts) in
+    let gives : (if v == v then handed h (position h v) u.how else []) ++ (if v == v then closing h else []) ≡ handed h (position h v) u.how ++ closing h = rw itself refl in
     record {
-      added = Read v Suffix ∷ [];
+      added = Read v u.how ∷ [];
       step = step;
-      stands = plain_desk d h (Read v Suffix) l d.outgoing seats d.cause s record { plain = plain-read v Suffix; event = read v; answer = was_read (Ok (Frames count t closed)); step = step; stamp = refl; frame = refl; room = refl; mode = refl; term = refl } logs (waits-silent d.outgoing h (Read v Suffix) s.outgoing refl refl)
-          (subst (λ (k : SeatsState). HasSeats k (Read v Suffix ∷ h)) (sym seated) has) s.cause;
-      appended = gains ∙ (append_assoc before (drop p.bytes d.frames.text) (texts (farewell_of d.cause)) ∙ ap (λ (xs : List ℕ). before ++ xs) (ap (λ (xs : List ℕ). xs ++ texts (farewell_of d.cause)) rest ∙ (sym (texts-append lacked_text (farewell_of d.cause)) ∙ ap texts (sym gives))));
+      stands = plain_desk d h (Read v u.how) l d.outgoing b d.cause s record { plain = plain-read v u.how; event = read v; answer = was_read (Ok u.answer); step = step; stamp = refl; frame = refl; room = refl; mode = refl; term = refl; restores = brings.restores; few = brings.few } logs
+          (waits-silent d.outgoing h (Read v u.how) s.outgoing refl refl) (subst (λ (k : BookState). HasBook k (Read v u.how ∷ h)) (sym seated) has) s.cause;
+      appended = gains ∙ ap (λ (is : List Instr). before ++ texts is) (sym gives);
     }
 
 -- a Write
-pub added_write : (d : DeskState) (h : History) (v : ℕ) (acts : List Act) (t : Typed) (may_type : Bool) (keys denied : ℕ) (l : LogState) (outgoing : List ℕ) (seats : SeatsState) → Stands d h → IsWrite acts → write_refusal h v ≡ None → may_type ≡ may h v → Types h v acts t
+pub added_write : (d : DeskState) (h : History) (v : ℕ) (acts : List Act) (t : Typed) (may_type : Bool) (keys denied : ℕ) (l : LogState) (outgoing : List ℕ) (b : BookState) → Stands d h → IsWrite acts → write_refusal h v ≡ None → may_type ≡ may h v → Types h v acts t
     → keys ≡ (if may_type then count_by is_key_act acts else 0) → denied ≡ (if may_type then 0 else count_by is_key_act acts)
-    → l ≡ with_entry (log_of d) (Write v acts) → outgoing ≡ d.outgoing ++ t.bytes.items → seats ≡ record d.seats { book = changed d.seats.book v (holding t.held) }
-    → Answered h (write v acts) (was_written (Ok record { keys = keys; denied = denied })) record d { outgoing = outgoing; seats = seats; past = l.past; entries = l.entries } [] []
-added_write d h v acts t may_type keys denied l outgoing seats s is allowed is_may types counted refused logs waits seated =
+    → l ≡ with_entry (log_of d) (Write v acts) → outgoing ≡ d.outgoing ++ t.bytes.items → b ≡ changed d.book v (holding t.held)
+    → Answered h (write v acts) (was_written (Ok record { keys = keys; denied = denied })) record d { outgoing = outgoing; book = b; past = l.past; entries = l.entries } [] []
+added_write d h v acts t may_type keys denied l outgoing b s is allowed is_may types counted refused logs waits seated =
     let told : Written = record { keys = keys; denied = denied } in
     let step : Step h (write v acts) (was_written (Ok told)) (Write v acts ∷ []) = write_step h v acts told is allowed (counted ∙ ap (λ (q : Bool). if q then count_by is_key_act acts else 0) is_may) (refused ∙ ap (λ (q : Bool). if q then 0 else count_by is_key_act acts) is_may) in
-    let has : HasSeats record d.seats { book = changed d.seats.book v (holding t.held) } (Write v acts ∷ h) = record {
-      book = book-write d.seats.book h v acts t.held s.seats.book types.held;
-      joined = s.seats.joined;
-      come = viewers-write h v acts d.seats.reached s.seats.come;
-    } in
+    let has : HasBook (changed d.book v (holding t.held)) (Write v acts ∷ h) = book-write d.book h v acts t.held s.book types.held in
     record {
       added = Write v acts ∷ [];
       step = step;
-      stands = plain_desk d h (Write v acts) l outgoing seats d.cause s record { plain = plain-write v acts; event = write v acts; answer = was_written (Ok told); step = step; stamp = refl; frame = refl; room = refl; mode = refl; term = refl } logs
-          (subst (λ (xs : List ℕ). IsWaiting xs (Write v acts ∷ h)) (sym waits) (waits-more d.outgoing t.bytes.items h (Write v acts) s.outgoing types.bytes refl)) (subst (λ (k : SeatsState). HasSeats k (Write v acts ∷ h)) (sym seated) has) s.cause;
+      stands = plain_desk d h (Write v acts) l outgoing b d.cause s record { plain = plain-write v acts; event = write v acts; answer = was_written (Ok told); step = step; stamp = refl; frame = refl; room = refl; mode = refl; term = refl; restores = tt; few = tt } logs
+          (subst (λ (xs : List ℕ). IsWaiting xs (Write v acts ∷ h)) (sym waits) (waits-more d.outgoing t.bytes.items h (Write v acts) s.outgoing types.bytes refl)) (subst (λ (k : BookState). HasBook k (Write v acts ∷ h)) (sym seated) has) s.cause;
       appended = refl;
     }
 
 -- a Leave
-pub added_leave : (d : DeskState) (h : History) (v : ℕ) (l : LogState) (seats : SeatsState) → Stands d h → book.is_live d.seats.book v ≡ true → l ≡ with_entry (log_of d) (Leave v) → seats ≡ record d.seats { book = removed d.seats.book v }
-    → Answered h (leave v) (was_left (Ok tt)) record d { seats = seats; past = l.past; entries = l.entries } [] []
-added_leave d h v l seats s there logs seated =
-    let here : is_live h v ≡ true = sym (s.seats.book.here v) ∙ there in
+pub added_leave : (d : DeskState) (h : History) (v : ℕ) (l : LogState) (b : BookState) → Stands d h → book.is_live d.book v ≡ true → l ≡ with_entry (log_of d) (Leave v) → b ≡ removed d.book v
+    → Answered h (leave v) (was_left (Ok tt)) record d { book = b; past = l.past; entries = l.entries } [] []
+added_leave d h v l b s there logs seated =
+    let here : is_live h v ≡ true = sym (s.book.here v) ∙ there in
     let step : Step h (leave v) (was_left (Ok tt)) (Leave v ∷ []) = leave_step h v (rw here refl) in
-    let has : HasSeats record d.seats { book = removed d.seats.book v } (Leave v ∷ h) = record { book = book-leave d.seats.book h v s.seats.book here; joined = s.seats.joined; come = viewers-leave h v d.seats.reached s.seats.come } in
+    let has : HasBook (removed d.book v) (Leave v ∷ h) = book-leave d.book h v s.book here in
     record {
       added = Leave v ∷ [];
       step = step;
-      stands = plain_desk d h (Leave v) l d.outgoing seats d.cause s record { plain = plain-leave v; event = leave v; answer = was_left (Ok tt); step = step; stamp = refl; frame = refl; room = refl; mode = refl; term = refl } logs (waits-silent d.outgoing h (Leave v) s.outgoing refl refl)
-          (subst (λ (k : SeatsState). HasSeats k (Leave v ∷ h)) (sym seated) has) s.cause;
+      stands = plain_desk d h (Leave v) l d.outgoing b d.cause s record { plain = plain-leave v; event = leave v; answer = was_left (Ok tt); step = step; stamp = refl; frame = refl; room = refl; mode = refl; term = refl; restores = tt; few = tt } logs (waits-silent d.outgoing h (Leave v) s.outgoing refl refl)
+          (subst (λ (k : BookState). HasBook k (Leave v ∷ h)) (sym seated) has) s.cause;
       appended = refl;
     }
 
@@ -174,8 +148,8 @@ pub added_close : (d : DeskState) (h : History) (c : Cause) (l : LogState) → S
 added_close d h c l s none logs = let step : Step h (close c) (was_closed (Ok tt)) (Close c ∷ []) = (let q : close_cause h ≡ None = sym s.cause ∙ none in close_step h c (rw q refl)) in record {
   added = Close c ∷ [];
   step = step;
-  stands = plain_desk d h (Close c) l d.outgoing d.seats (Some c) s record { plain = plain-close c; event = close c; answer = was_closed (Ok tt); step = step; stamp = refl; frame = refl; room = refl; mode = refl; term = refl } logs (waits-silent d.outgoing h (Close c) s.outgoing refl refl)
-      record { book = book-same d.seats.book h (Close c) s.seats.book refl refl (λ u. same h (Close c) u refl refl refl refl refl refl); joined = s.seats.joined; come = viewers-close h c d.seats.reached s.seats.come } refl;
+  stands = plain_desk d h (Close c) l d.outgoing d.book (Some c) s record { plain = plain-close c; event = close c; answer = was_closed (Ok tt); step = step; stamp = refl; frame = refl; room = refl; mode = refl; term = refl; restores = tt; few = tt } logs (waits-silent d.outgoing h (Close c) s.outgoing refl refl)
+      (book-same d.book h (Close c) s.book refl refl (λ u. same h (Close c) u refl refl refl refl refl refl)) refl;
   appended = refl;
 }
 
@@ -208,9 +182,9 @@ added_take d h count closed l outgoing before after s shut is some logs left han
     record {
       added = Take count ∷ [];
       step = step;
-      stands = plain_desk d h (Take count) l outgoing d.seats d.cause s record { plain = plain-take count; event = take_most (length before); answer = was_taken bytes closed; step = step; stamp = refl; frame = refl; room = refl; mode = refl; term = refl } logs
+      stands = plain_desk d h (Take count) l outgoing d.book d.cause s record { plain = plain-take count; event = take_most (length before); answer = was_taken bytes closed; step = step; stamp = refl; frame = refl; room = refl; mode = refl; term = refl; restores = tt; few = tt } logs
           (subst (λ (xs : List ℕ). IsWaiting xs (Take count ∷ h)) (sym left) (waits-take d.outgoing h count s.outgoing (omega (arith, is))))
-          record { book = book-same d.seats.book h (Take count) s.seats.book refl refl (λ u. same h (Take count) u refl refl refl refl refl refl); joined = s.seats.joined; come = viewers-take h count d.seats.reached s.seats.come } s.cause;
+          (book-same d.book h (Take count) s.book refl refl (λ u. same h (Take count) u refl refl refl refl refl refl)) s.cause;
       appended = refl;
     }
 

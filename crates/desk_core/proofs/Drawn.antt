@@ -1,5 +1,5 @@
 -- What is drawn, after each entry.
-use Rattle.std.proofs.Common.{◌≡◌, ℕ, ◌-◌, ◌≤◌, ◌^◌, min, List, [], ◌∷◌, ◌++◌, length, ap, sym, ◌∙◌, subst, append-nil}
+use Rattle.std.proofs.Common.{◌≡◌, ℕ, ◌-◌, ◌≤◌, ◌^◌, min, List, [], ◌∷◌, ◌++◌, length, ap, sym, ◌∙◌, subst, append-nil, arith}
 use Rattle.gate_model.specs.declared.entry.Entry.{Entry}
 use Rattle.gate_model.specs.declared.entry.Entry.TheVariants.{Start, Feed}
 use Rattle.gate_model.specs.declared.instr.Instr.{Instr}
@@ -56,11 +56,11 @@ module _ (d new : DrawingState) (h : History) (bs : List ℕ) (t : ℕ) (frame :
 
 -- a frame over the old screen, which counts the lines no further than 2^32 - 1
 pub drawn_over : (old new : DrawingState) (t : Terminal) (stamp shift : ℕ) (frame : List Instr) (s : KeyGrid) (keys : Buffers) → s ≡ shown t → shift ≡ min t.shift (2 ^ 32 - 1) → old.screen.rows ≤ 2 ^ 32 - 1 → new.screen ≡ s → new.keys ≡ keys
-    → Shape s.cols s.rows frame stamp → Renews old.screen old.keys frame s keys
+    → Shape s.cols s.rows frame stamp → Renews old.screen old.keys frame s keys → length old.keys ≤ length keys
     → (length (old.keys ++ new_keys old.keys s.keys) ≤ most_buffers → keys ≡ old.keys ++ new_keys old.keys s.keys)
     → (length (old.keys ++ new_keys old.keys s.keys) ≤ most_buffers → length frame ≤ cost (length (changes old.screen s shift)) (length (new_keys old.keys s.keys)))
     → Draws old t stamp frame new
-drawn_over old new t stamp shift frame s keys is capped few screen held shape renews gains costs =
+drawn_over old new t stamp shift frame s keys is capped few screen held shape renews stays gains costs =
     let same : changes old.screen s shift ≡ changes old.screen s t.shift = ap (changes old.screen s) capped ∙ changes-few_lines old.screen s t.shift (2 ^ 32 - 1) few in
     let told : length (old.keys ++ new_keys old.keys s.keys) ≤ most_buffers → length frame ≤ cost (length (changes old.screen s t.shift)) (length (new_keys old.keys s.keys)) =
     subst (λ (places : List ℕ). length (old.keys ++ new_keys old.keys s.keys) ≤ most_buffers → length frame ≤ cost (length places) (length (new_keys old.keys s.keys))) same costs in
@@ -68,6 +68,7 @@ drawn_over old new t stamp shift frame s keys is capped few screen held shape re
       screen = screen ∙ is;
       shape = subst (λ (g : KeyGrid). Shape g.cols g.rows frame stamp) is shape;
       renews = subst (λ (g : KeyGrid). Renews old.screen old.keys frame g new.keys) is (subst (λ (ks : Buffers). Renews old.screen old.keys frame s ks) (sym held) renews);
+      stays = omega (arith, stays, ap length held);
       gains = subst (λ (g : KeyGrid). length (old.keys ++ new_keys old.keys g.keys) ≤ most_buffers → new.keys ≡ old.keys ++ new_keys old.keys g.keys) is (λ small. held ∙ gains small);
       costs = subst (λ (g : KeyGrid). length (old.keys ++ new_keys old.keys g.keys) ≤ most_buffers → length frame ≤ cost (length (changes old.screen g t.shift)) (length (new_keys old.keys g.keys))) is told;
     }

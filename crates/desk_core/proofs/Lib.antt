@@ -4,11 +4,12 @@ pub mod DataRuns
 pub mod Hearing
 pub mod Keying
 pub mod Seating
-pub mod Coming
+pub mod FrameTexts
 pub mod Drawn
 pub mod Standing
 pub mod Telling
 pub mod Following
+pub mod Updating
 pub mod Answering
 pub mod Adding
 pub mod Running

@@ -14,7 +14,7 @@ use Rattle.gate_model.specs.session.History.{History}
 use Rattle.gate_model.specs.session.Runs.{Runs, handed_out}
 use Rattle.desk_core.specs.Calls.{Answered, Ended, HasRun, RunEnds}
 use Rattle.desk_core.specs.Desk.{DeskState, Stands}
-use Rattle.desk_core.proofs.Coming.{texts-append}
+use Rattle.desk_core.proofs.FrameTexts.{texts-append}
 
 -- a call that hands nothing out leaves any buffer as it is
 pub beside : (h : History) (event : Event) (r : Result Answer NoMemory) (old new : DeskState) (w : List ℕ) → Ended h event r old new [] [] → Ended h event r old new w w

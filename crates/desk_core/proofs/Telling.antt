@@ -1,5 +1,5 @@
 -- What the parts of a desk tell of its history, and what follows where no rule stops a call.
-use Rattle.std.proofs.Common.{◌≡◌, ℕ, ◌+◌, ◌-◌, ◌<◌, ◌≤◌, ◌^◌, [], ◌∷◌, length, get_or, Bool, true, false, not, ◌&&◌, ◌||◌, ◌⊎◌, inl, inr, refl, ap, sym, ◌∙◌, subst, arith}
+use Rattle.std.proofs.Common.{◌≡◌, ℕ, ◌+◌, ◌-◌, ◌<◌, ◌≤◌, ◌^◌, [], ◌∷◌, length, Bool, true, false, not, ◌&&◌, ◌||◌, ◌⊎◌, inl, inr, refl, ap, sym, ◌∙◌, arith}
 use Rattle.std.specs.Prelude.{Option, Some, None, is_some, Result, Ok, Err, ◌==◌, nat_le}
 use Rattle.std.specs.Option.{option_map}
 use Rattle.std.proofs.lemmas.Bool.{eq-eqb}
@@ -16,11 +16,10 @@ use Rattle.gate_model.specs.declared.read_refusal.ReadRefusal.{ReadRefusal}
 use Rattle.gate_model.specs.declared.read_refusal.ReadRefusal.TheVariants.{NoViewer as read_no_viewer, Worn as read_worn}
 use Rattle.gate_model.specs.declared.write_refusal.WriteRefusal.TheVariants.{NoViewer as write_no_viewer, Closed as write_closed, Worn as write_worn}
 use Rattle.gate_model.specs.Limits.{most_live, most_joined}
-use Rattle.gate_model.specs.session.History.{History, newest, frames, frames_after, capacity, joined, is_closed, is_full, share_mode}
-use Rattle.gate_model.specs.session.Delivered.{closing, farewell, last_sync, position, ended, shown_to}
+use Rattle.gate_model.specs.session.History.{History, newest, capacity, joined, is_closed, is_full, share_mode}
+use Rattle.gate_model.specs.session.Delivered.{closing, farewell, position, ended}
 use Rattle.gate_model.specs.session.Rights.{is_live, live_count, role_in, is_control, may, mods}
 use Rattle.gate_model.specs.session.Refusals.{first_of, only_if, close_cause, is_forbidden, feed_refusal, join_refusal, read_stop, write_refusal}
-use Rattle.gate_model.specs.session.Calls.{lacked}
 use Rattle.gate_model.specs.session.Laws.{EntriesAreFew}
 use Rattle.gate_model.proofs.Facts.{Facts}
 use Rattle.gate_model.proofs.Truth.{facts_of}
@@ -29,11 +28,8 @@ use Rattle.gate_model.proofs.Causes.{open_without_cause, closed_with_cause}
 use Rattle.viewer_book.specs.declared.viewer.Viewer.{Viewer}
 use Rattle.viewer_book.specs.Book as book
 use Rattle.viewer_book.specs.Book.{viewer_at}
-use Rattle.desk_core.specs.declared.progress.Progress.{Progress}
-use Rattle.desk_core.specs.Viewers.{HasCome}
 use Rattle.desk_core.specs.Desk.{DeskState, Stands}
 use Rattle.desk_core.specs.Farewell.{farewell_of}
-use Rattle.desk_core.proofs.Coming.{text_within}
 use Rattle.desk_core.proofs.Seating.{SeatOf, seat_of, told}
 
 -- ---- the parts
@@ -42,7 +38,6 @@ use Rattle.desk_core.proofs.Seating.{SeatOf, seat_of, told}
 pub record IsSmall (d : DeskState) : Type 0 where
   pub room : d.setup.entries ≤ 2 ^ 40
   pub stamp : d.frames.stamp ≤ 2 ^ 53 + 2 ^ 40
-  pub frames : d.frames.count ≤ 2 ^ 40
 
 pub small : (d : DeskState) (h : History) → Stands d h → IsSmall d
 small d h s =
@@ -50,7 +45,6 @@ small d h s =
     record {
       room = omega (arith, s.setup.entries, b.room);
       stamp = omega (arith, s.frames.stamp, b.stamps, b.few_frames, b.room);
-      frames = omega (arith, s.frames.count, b.few_frames, b.room);
     }
 
 -- the session is open
@@ -151,9 +145,9 @@ write_goes h v e = cases (is_live h v) (close_cause h) (is_full h) refl refl ref
 -- ---- a viewer that is there
 
 -- whether the viewer may type
-pub may_is : (d : DeskState) (h : History) (v : ℕ) → Stands d h → book.is_live d.seats.book v ≡ true → is_closed h ≡ false → (role : Role) (b : Bool) → role_in h v ≡ Some role → b ≡ is_control (Some role) → b ≡ may h v
+pub may_is : (d : DeskState) (h : History) (v : ℕ) → Stands d h → book.is_live d.book v ≡ true → is_closed h ≡ false → (role : Role) (b : Bool) → role_in h v ≡ Some role → b ≡ is_control (Some role) → b ≡ may h v
 may_is d h v s there stays role b r is =
-    let here : is_live h v ≡ true = sym (s.seats.book.here v) ∙ there in
+    let here : is_live h v ≡ true = sym (s.book.here v) ∙ there in
     is ∙ sym (rw (here, r, stays) (and_true (is_control (Some role))))
   where
     and_true : (x : Bool) → ((true && x) && not false) ≡ x
@@ -162,12 +156,9 @@ may_is d h v s there stays role b r is =
 
 -- a read that nothing stops
 pub record Reading (d : DeskState) (h : History) (v : ℕ) : Type 0 where
-  pub there : book.is_live d.seats.book v ≡ true
+  pub there : book.is_live d.book v ≡ true
   pub live : is_live h v ≡ true
   pub more : ended h v ≡ false
-  pub first : 1 ≤ v
-  pub last : v ≤ length d.seats.reached
-  pub come : (p : Progress) → HasCome h (shown_to h v) (get_or d.seats.reached (v - 1) p)
   pub behind : is_closed h ≡ false → (position h v == newest h) ≡ false
   pub room : is_closed h ≡ false → is_full h ≡ false
 
@@ -194,68 +185,46 @@ unstopped h v e = cases (is_live h v) (ended h v) (is_closed h) (position h v ==
 pub reading : (d : DeskState) (h : History) (v : ℕ) → Stands d h → read_stop h v ≡ None → Reading d h v
 reading d h v s free =
     let u = unstopped h v free in
-    let there : book.is_live d.seats.book v ≡ true = s.seats.book.here v ∙ u.there in
-    let seat = seat_of d.seats.book h v s.seats.book there in
-    let number : v ≡ v - 1 + 1 = omega (arith, seat.first) in
+    let there : book.is_live d.book v ≡ true = s.book.here v ∙ u.there in
     record {
       there = there;
       live = u.there;
       more = u.more;
-      first = seat.first;
-      last = omega (arith, seat.last, s.seats.joined);
-      come = λ p. subst (λ (n : ℕ). HasCome h (shown_to h n) (get_or d.seats.reached (v - 1) p)) (sym number) (s.seats.come (v - 1) p (omega (arith, seat.first, seat.last, s.seats.joined)));
       behind = u.behind;
       room = u.room;
     }
 
 -- the viewer's position is below the newest stamp, or at it in a closed session
-pub not_above : (d : DeskState) (h : History) (v : ℕ) (w : Viewer) → Stands d h → viewer_at d.seats.book v ≡ Some w → w.position ≤ d.frames.stamp
-not_above d h v w s found = omega (arith, (s.seats.book.seated v w found).position, (facts_of h s.legal).within v, s.frames.stamp)
+pub not_above : (d : DeskState) (h : History) (v : ℕ) (w : Viewer) → Stands d h → viewer_at d.book v ≡ Some w → w.position ≤ d.frames.stamp
+not_above d h v w s found = omega (arith, (s.book.seated v w found).position, (facts_of h s.legal).within v, s.frames.stamp)
 
-pub is_below : (d : DeskState) (h : History) (v : ℕ) (w : Viewer) → Stands d h → viewer_at d.seats.book v ≡ Some w → (position h v == newest h) ≡ false → w.position < d.frames.stamp
+pub is_below : (d : DeskState) (h : History) (v : ℕ) (w : Viewer) → Stands d h → viewer_at d.book v ≡ Some w → (position h v == newest h) ≡ false → w.position < d.frames.stamp
 is_below d h v w s found differs = cases (eqb_tells (position h v) (newest h))
   where
     cases : (((position h v == newest h) ≡ true) × (position h v ≡ newest h)) ⊎ (((position h v == newest h) ≡ false) × (position h v ≡ newest h → ⊥)) → w.position < d.frames.stamp
     cases (inl q) = absurd (let z : false ≡ true = sym differs ∙ q.0 in cc)
-    cases (inr q) = omega (arith, not_above d h v w s found, (s.seats.book.seated v w found).position, s.frames.stamp, q.1)
-
--- how many frames the viewer lacks
-pub lacks : (d : DeskState) (h : History) (v : ℕ) (p : Progress) → Stands d h → HasCome h (shown_to h v) p → d.frames.count - p.frames ≡ lacked h v
-lacks d h v p s come =
-    let same : lacked h v ≡ length (frames_after (last_sync (shown_to h v)) (frames h)) = ap (λ (n : ℕ). length (frames_after n (frames h))) ((facts_of h s.legal).place v) in
-    omega (arith, same, come.frames, s.frames.count)
-
--- nobody has come further than the frames go
-pub record IsWithin (d : DeskState) (p : Progress) : Type 0 where
-  pub frames : p.frames ≤ d.frames.count
-  pub bytes : p.bytes ≤ length d.frames.text
-
-pub within : (d : DeskState) (h : History) (v : ℕ) (p : Progress) → Stands d h → HasCome h (shown_to h v) p → IsWithin d p
-within d h v p s come = record {
-  frames = omega (arith, come.frames, s.frames.count);
-  bytes = omega (arith, come.bytes, ap length s.frames.text, text_within h v (facts_of h s.legal));
-}
+    cases (inr q) = omega (arith, not_above d h v w s found, (s.book.seated v w found).position, s.frames.stamp, q.1)
 
 -- ---- what the book tells of a viewer that is there
 
-module _ (d : DeskState) (h : History) (v : ℕ) (s : Stands d h) (there : book.is_live d.seats.book v ≡ true) where
+module _ (d : DeskState) (h : History) (v : ℕ) (s : Stands d h) (there : book.is_live d.book v ≡ true) where
   pub is_there : is_live h v ≡ true
-  is_there = sym (s.seats.book.here v) ∙ there
+  is_there = sym (s.book.here v) ∙ there
 
-  seat : SeatOf d.seats.book h v
-  seat = seat_of d.seats.book h v s.seats.book there
+  seat : SeatOf d.book h v
+  seat = seat_of d.book h v s.book there
 
-  pub role_is : (role : Role) → option_map (λ (w : Viewer). w.role) (viewer_at d.seats.book v) ≡ Some role → role_in h v ≡ Some role
-  role_is role is = seat.seated.role ∙ ap Some (sym (told (λ (w : Viewer). w.role) (viewer_at d.seats.book v) seat.viewer role seat.found is))
+  pub role_is : (role : Role) → option_map (λ (w : Viewer). w.role) (viewer_at d.book v) ≡ Some role → role_in h v ≡ Some role
+  role_is role is = seat.seated.role ∙ ap Some (sym (told (λ (w : Viewer). w.role) (viewer_at d.book v) seat.viewer role seat.found is))
 
-  pub ended_is : (over : Bool) → option_map (λ (w : Viewer). w.ended) (viewer_at d.seats.book v) ≡ Some over → ended h v ≡ over
-  ended_is over is = sym (told (λ (w : Viewer). w.ended) (viewer_at d.seats.book v) seat.viewer over seat.found is ∙ seat.seated.ended)
+  pub ended_is : (over : Bool) → option_map (λ (w : Viewer). w.ended) (viewer_at d.book v) ≡ Some over → ended h v ≡ over
+  ended_is over is = sym (told (λ (w : Viewer). w.ended) (viewer_at d.book v) seat.viewer over seat.found is ∙ seat.seated.ended)
 
-  pub position_is : (stamp : ℕ) → option_map (λ (w : Viewer). w.position) (viewer_at d.seats.book v) ≡ Some stamp → position h v ≡ stamp
-  position_is stamp is = sym (told (λ (w : Viewer). w.position) (viewer_at d.seats.book v) seat.viewer stamp seat.found is ∙ seat.seated.position)
+  pub position_is : (stamp : ℕ) → option_map (λ (w : Viewer). w.position) (viewer_at d.book v) ≡ Some stamp → position h v ≡ stamp
+  position_is stamp is = sym (told (λ (w : Viewer). w.position) (viewer_at d.book v) seat.viewer stamp seat.found is ∙ seat.seated.position)
 
-  pub mods_is : (held : Mods) → option_map (λ (w : Viewer). w.mods) (viewer_at d.seats.book v) ≡ Some held → held ≡ mods h v
-  mods_is held is = told (λ (w : Viewer). w.mods) (viewer_at d.seats.book v) seat.viewer held seat.found is ∙ seat.seated.mods
+  pub mods_is : (held : Mods) → option_map (λ (w : Viewer). w.mods) (viewer_at d.book v) ≡ Some held → held ≡ mods h v
+  mods_is held is = told (λ (w : Viewer). w.mods) (viewer_at d.book v) seat.viewer held seat.found is ∙ seat.seated.mods
 
   -- why a read gives it nothing
   pub read_is_over : ended h v ≡ true → read_stop h v ≡ Some (Ok Ended)

@@ -9,22 +9,25 @@ use Rattle.gate_model.specs.session.Output.{out, taken, untaken}
 use Rattle.gate_model.specs.session.Refusals.{close_cause}
 use Rattle.gate_model.specs.session.Steps.{Legal}
 use Rattle.gate_model.specs.session.Truth.{AllDrawn}
+use Rattle.gate_model.specs.session.Whole.{AllRestoring, AllGrowing}
+use Rattle.viewer_book.specs.Book.{BookState}
 use Rattle.desk_core.specs.declared.host.Host.{Host}
 use Rattle.desk_core.specs.Host.{HasHeard}
 use Rattle.desk_core.specs.Frames.{FramesState, HasFrames}
 use Rattle.desk_core.specs.Drawing.{DrawingState, HasDrawn}
-use Rattle.desk_core.specs.Viewers.{SeatsState, HasSeats}
+use Rattle.desk_core.specs.Viewers.{HasBook}
 
 -- `setup` is what the session was opened with. `host` is what the host's bytes have left, and `outgoing`
--- what waits for it. `frames` has the frames, `drawing` what the next one is drawn over, and `seats` the viewers. `past` is the history, which no
--- memory holds, and `entries` the number of its entries. `cause` is why the session was closed.
+-- what waits for it. `frames` has the frames that are kept, `drawing` what the next one is drawn over, and `book` the
+-- viewers. `past` is the history, which no memory holds, and `entries` the number of its entries. `cause` is why the
+-- session was closed.
 pub record DeskState : Type 0 where
   pub setup : Setup
   pub host : Host
   pub outgoing : List ℕ
   pub frames : FramesState
   pub drawing : DrawingState
-  pub seats : SeatsState
+  pub book : BookState
   pub past : List Entry
   pub entries : ℕ
   pub cause : Option Cause
@@ -52,13 +55,15 @@ pub record IsHost (host : Host) (h : History) : Type 0 where
 pub record Stands (d : DeskState) (h : History) : Type 0 where
   pub legal : Legal h
   pub drawn : AllDrawn h
+  pub restoring : AllRestoring h
+  pub growing : AllGrowing h
   pub frugal : AllFrugal h
   pub setup : HasSetup d.setup h
   pub host : IsHost d.host h
   pub outgoing : IsWaiting d.outgoing h
   pub frames : HasFrames d.frames h
   pub drawing : HasDrawn d.drawing h
-  pub seats : HasSeats d.seats h
+  pub book : HasBook d.book h
   pub past : d.past ≡ h
   pub entries : d.entries ≡ length h
   pub cause : d.cause ≡ close_cause h

@@ -25,12 +25,13 @@ keys_of None keys = keys
 keys_of (Some cache) keys = cache.keys
 
 -- a frame of this stamp makes of what was drawn what shows the screen: the layers are those of the new screen
--- and buffers, and while few keys were shown, the buffers gain just those that are new, and the frame costs no
--- more than what changed
+-- and buffers, of which there are no fewer, and while few keys were shown, the buffers gain just those that are new,
+-- and the frame costs no more than what changed
 pub record Draws (old : DrawingState) (t : Terminal) (stamp : ℕ) (frame : List Instr) (new : DrawingState) : Type 0 where
   pub screen : new.screen ≡ shown t
   pub shape : Shape (shown t).cols (shown t).rows frame stamp
   pub renews : Renews old.screen old.keys frame (shown t) new.keys
+  pub stays : length old.keys ≤ length new.keys
   pub gains : length (old.keys ++ new_keys old.keys (shown t).keys) ≤ most_buffers → new.keys ≡ old.keys ++ new_keys old.keys (shown t).keys
   pub costs : length (old.keys ++ new_keys old.keys (shown t).keys) ≤ most_buffers → length frame ≤ cost (length (changes old.screen (shown t) t.shift)) (length (new_keys old.keys (shown t).keys))
 

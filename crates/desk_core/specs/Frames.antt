@@ -1,25 +1,41 @@
 -- What a desk keeps of the frames (this project's own).
-use Rattle.std.specs.Prelude.{◌≡◌, ℕ, ◌+◌, ◌≤◌, List, ◌++◌, length, drop}
+use Rattle.std.specs.Prelude.{◌≡◌, ℕ, List, [], ◌∷◌, ◌++◌, flat_map}
 use Rattle.gate_model.specs.declared.instr.Instr.{Instr}
 use Rattle.gate_model.specs.text.Text.{texts}
-use Rattle.gate_model.specs.session.History.{History, frames, newest, newest_frame, all_frames}
+use Rattle.gate_model.specs.session.History.{History, frames, newest, newest_frame}
+use Rattle.display_history.specs.Keeping.{HistoryState, HasKept, last_stamp, nothing}
+use Rattle.display_history.specs.Laws.{texts_of}
 
--- the text of every frame, where the newest frame's text begins in it, the newest stamp, and the number of
--- frames
+-- the frames that are kept for viewers who are behind, the text of the newest frame, kept or not, and the newest stamp
 pub record FramesState : Type 0 where
-  pub text : List ℕ
-  pub last : ℕ
+  pub kept : HistoryState
+  pub newest : List ℕ
   pub stamp : ℕ
-  pub count : ℕ
+
+-- there was no frame yet
+abbrev pub no_frames : FramesState
+no_frames = record { kept = nothing; newest = []; stamp = 0 }
+
+-- what is kept are the last of some frames, of which the newest has the stamp
+abbrev pub EndsAt : HistoryState → ℕ → Type 0
+EndsAt kept stamp = (all : List (ℕ × List ℕ)) × HasKept kept all × (last_stamp 0 all ≡ stamp)
+
+-- the texts of frames, joined
+abbrev pub joined_texts : List (ℕ × List ℕ) → List ℕ
+joined_texts fs = flat_map (λ f. f.1) fs
+
+-- ---- what a feed makes of it
 
 -- one frame more
-abbrev pub with_frame : FramesState → ℕ → List Instr → FramesState
-with_frame f stamp frame = record { text = f.text ++ texts frame; last = length f.text; stamp = stamp; count = f.count + 1 }
+pub record AddsFrame (old new : FramesState) (t : ℕ) (frame : List Instr) : Type 0 where
+  pub kept : (all : List (ℕ × List ℕ)) → HasKept old.kept all → HasKept new.kept (all ++ (t, texts frame) ∷ [])
+  pub stamp : new.stamp ≡ t
+  pub newest : new.newest ≡ texts frame
 
--- they are the frames of the history
+-- ---- what it says of the history
+
+-- the frames of the history: those are kept that may be, and the others are gone
 pub record HasFrames (f : FramesState) (h : History) : Type 0 where
-  pub text : f.text ≡ texts (all_frames h)
-  pub last : drop f.last f.text ≡ texts (newest_frame h)
-  pub within : f.last ≤ length f.text
+  pub kept : HasKept f.kept (texts_of (frames h))
   pub stamp : f.stamp ≡ newest h
-  pub count : f.count ≡ length (frames h)
+  pub newest : f.newest ≡ texts (newest_frame h)

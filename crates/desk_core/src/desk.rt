@@ -15,6 +15,7 @@ mod read;
 mod run;
 mod start;
 mod take;
+mod update;
 mod write;
 
 use crate::drawing::Drawing;
@@ -22,12 +23,12 @@ use crate::frames::Frames;
 use crate::host::Host;
 use crate::log::Log;
 use crate::outgoing::Outgoing;
-use crate::seats::Seats;
 use gate_model::{Cause, Role, Setup};
 use std::marker::Model;
+use viewer_book::Book;
 
 /// One session: what it was opened with, what its Telnet host has sent, the bytes that wait for the host, the
-/// text of the frames, what the next one is drawn over, how far each viewer has come, and why it was closed.
+/// frames that are kept, what the next one is drawn over, its live viewers, and why it was closed.
 /// Contracts see what it keeps, a `DeskState`, and say by `Stands` for which histories it may stand
 /// (this project's own rule).
 #[derive(Drop)]
@@ -37,7 +38,7 @@ pub struct Desk {
     outgoing: Outgoing,
     frames: Frames,
     drawing: Drawing,
-    seats: Seats,
+    book: Book,
     log: Log,
     cause: Option<Cause>,
 }
@@ -73,10 +74,10 @@ impl Desk {
 
     /// What a live viewer may do: the role that its join gave it.
     pub fn role(&self, viewer: u32) -> Role
-        requires { IsTrue (is_live self.now.seats.book viewer) }
+        requires { IsTrue (is_live self.now.book viewer) }
         ensures { (h : History) → Stands self.now h → role_in h viewer ≡ Some result }
     {
-        self.seats.role(viewer)
+        self.book.role(viewer)
     }
 
     /// How many bytes wait for the Telnet host.

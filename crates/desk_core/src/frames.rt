@@ -1,62 +1,62 @@
-ghost use Rattle.std.specs.Prelude.{◌≡◌, ◌+◌, ◌-◌, ◌<◌, ◌≤◌, ◌^◌, drop, length, IfOk, OnErr, OnOk};
+ghost use Rattle.std.specs.Prelude.{◌≡◌, ◌<◌, ◌≤◌, ℕ, List, length, IfOk, IsTrue, OnErr, OnOk};
 ghost use Rattle.gate_model.specs.text.Text.{texts};
-ghost use Rattle.desk_core.specs.Frames.{with_frame};
+ghost use Rattle.display_history.specs.Keeping.{HasKept, after_stamp, covers};
+ghost use Rattle.desk_core.specs.Frames.{AddsFrame, no_frames};
 
-use crate::giving::text_from;
-use crate::progress::Progress;
+use display_history::laws::{kept_are_few, newest_is_last};
+use display_history::{History, Kept};
 use gate_model::{Instr, NoMemory};
 use guac_instr::texts_of;
 use std::alloc::Global;
 use std::marker::Model;
 
-/// The text of every frame, the newest stamp, and the number of frames. Contracts see a `FramesState`.
+/// The frames that are kept, the text of the newest one, and its stamp. Contracts see a `FramesState`.
 #[derive(Drop)]
 pub struct Frames {
-    text: Vec<u8>,
-    // Where the newest frame's text begins.
-    last: usize,
+    kept: History,
+    // Kept or not: a frame may have more text than is kept.
+    newest: Vec<u8>,
     stamp: u64,
-    count: u64,
 }
 
 impl Model for Frames {
-    ghost use Rattle.std.specs.Prelude.{◌≤◌, length};
-    ghost use Rattle.desk_core.specs.Frames.{FramesState};
+    ghost use Rattle.desk_core.specs.Frames.{FramesState, EndsAt};
 
     ghost Value = { FramesState };
 
-    ghost view = { λ f. record { text = f.text.items; last = f.last; stamp = f.stamp; count = f.count } };
+    ghost view = { λ f. record { kept = f.kept; newest = f.newest.items; stamp = f.stamp } };
 
-    ghost invariant = { λ f. f.last ≤ length f.text.items };
+    ghost invariant = { λ f. EndsAt f.kept f.stamp };
 }
 
 impl Frames {
-    /// The first frame alone.
+    /// The first frame alone, whose stamp is at least 1.
     pub fn first(alloc: Global, frame: &[Instr], stamp: u64) -> Result<Frames, NoMemory>
-        ensures { IfOk result (λ f. f ≡ record { text = texts frame.now; last = 0; stamp = stamp; count = 1 }) }
+        requires { 1 ≤ stamp }
+        ensures { IfOk result (λ f. AddsFrame no_frames f stamp frame.now) }
     {
-        let mut text = Vec::new(alloc);
-        texts_of(frame, &mut text)?;
-        let (last, count) = (0, 1);
-        Ok(Frames {
-            text,
-            last,
-            stamp,
-            count,
-        })
+        let mut frames = Frames {
+            kept: History::new(alloc),
+            newest: Vec::new(alloc),
+            stamp: 0,
+        };
+        frames.append(alloc, frame, stamp)?;
+        Ok(frames)
     }
 
-    /// One frame more.
-    pub fn append(&mut self, frame: &[Instr], stamp: u64) -> Result<(), NoMemory>
-        requires { self.old.count < 2 ^ 64 - 1 }
-        ensures appended { OnOk result (self.new ≡ with_frame self.old stamp frame.now) }
+    /// One frame more, whose stamp is above the newest.
+    pub fn append(&mut self, alloc: Global, frame: &[Instr], stamp: u64) -> Result<(), NoMemory>
+        requires { self.old.stamp < stamp }
+        ensures added { OnOk result (AddsFrame self.old self.new stamp frame.now) }
         ensures unchanged { OnErr result (self.new ≡ self.old) }
     {
-        let end = self.text.len();
-        texts_of(frame, &mut self.text)?;
-        self.last = end;
+        let mut newest = Vec::new(alloc);
+        texts_of(frame, &mut newest)?;
+        let text = Vec::from_slice(alloc, &newest)?;
+        newest_is_last();
+        self.kept.push(stamp, text)?;
+        self.newest = newest;
         self.stamp = stamp;
-        self.count += 1;
         Ok(())
     }
 
@@ -67,29 +67,27 @@ impl Frames {
         self.stamp
     }
 
-    /// How far a viewer has come that was given everything.
-    pub fn reached(&self) -> Progress
-        ensures frames { result.frames ≡ self.now.count }
-        ensures bytes { result.bytes ≡ length self.now.text }
-    {
-        Progress {
-            frames: self.count,
-            bytes: self.text.len(),
-        }
-    }
-
-    /// The text of the newest frame.
+    /// The text of the newest frame, kept or not.
     pub fn newest(&self) -> &[u8]
-        ensures { result.now ≡ drop self.now.last self.now.text }
+        ensures { result.now ≡ self.now.newest }
     {
-        text_from(&self.text, self.last)
+        &self.newest
     }
 
-    /// The text past so many bytes.
-    pub fn text_from(&self, at: usize) -> &[u8]
-        requires { at ≤ length self.now.text }
-        ensures { result.now ≡ drop at self.now.text }
+    /// Whether every frame above the stamp is kept.
+    pub fn covers(&self, stamp: u64) -> bool
+        ensures { result ≡ covers self.now.kept stamp }
     {
-        text_from(&self.text, at)
+        self.kept.covers(stamp)
+    }
+
+    /// The frames above the stamp, each of which is kept: at most 256.
+    pub fn after(&self, stamp: u64) -> &[Kept]
+        requires { IsTrue (covers self.now.kept stamp) }
+        ensures frames { (all : List (ℕ × List ℕ)) → HasKept self.now.kept all → result.now ≡ after_stamp stamp all }
+        ensures few { length result.now ≤ 256 }
+    {
+        kept_are_few();
+        self.kept.after(stamp)
     }
 }

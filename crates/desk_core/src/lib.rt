@@ -7,7 +7,9 @@
 //! (`Step` in `specs/session/Calls.antt` there) for every history for which the desk stood, and leaves a desk
 //! that stands for that history with the entry that the call added. A call that is refused leaves the
 //! desk and the buffer as they were, and one that is refused for want of memory was stopped by nothing
-//! else. No entry is stored: the history is in no memory.
+//! else. No entry is stored: the history is in no memory. What is kept doesn't grow with it, but for the
+//! bytes that wait for the Telnet host: the screen and its glyph buffers, the last frames within their
+//! limits, and the live viewers.
 #![tactic(auto)]
 
 mod desk;
@@ -18,8 +20,6 @@ mod host;
 pub mod laws;
 mod log;
 mod outgoing;
-mod progress;
-mod seats;
 mod showing;
 mod typing;
 

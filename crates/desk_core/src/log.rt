@@ -1,10 +1,9 @@
 ghost use Rattle.std.specs.Prelude.{◌≡◌, ◌∷◌, ◌<◌, ◌-◌, ◌^◌, [], List, nat_le};
-ghost use Rattle.gate_model.specs.declared.entry.Entry.TheVariants.{Feed, Join, Start, Write};
+ghost use Rattle.gate_model.specs.declared.entry.Entry.TheVariants.{Feed, Start, Write};
 ghost use Rattle.gate_model.specs.session.Calls.{AreBytes};
-ghost use Rattle.gate_model.specs.session.History.{all_frames};
 ghost use Rattle.desk_core.specs.Log.{with_entry};
 
-use gate_model::{Act, Entry, Instrs, Role, Setup};
+use gate_model::{Act, Entry, Instrs, Setup};
 use ghost_list::{GhostList, Lists};
 use std::marker::{Brand, Model};
 
@@ -49,7 +48,7 @@ impl Log {
         self.entries >= most
     }
 
-    /// This entry more, which owns no memory.
+    /// This entry more.
     pub fn add(&mut self, entry: &Entry)
         requires { self.old.entries < 2 ^ 64 - 1 }
         ensures { self.new ≡ with_entry self.old entry.now }
@@ -65,15 +64,6 @@ impl Log {
         ensures octets { AreBytes bytes.now }
     {
         self.past = named::<Brand, _>(&(&self.past, bytes, stamp, frame));
-        self.entries += 1;
-    }
-
-    /// A Join more, which gives every frame.
-    pub fn join(&mut self, viewer: u32, role: Role)
-        requires { self.old.entries < 2 ^ 64 - 1 }
-        ensures { self.new ≡ with_entry self.old (Join viewer role (all_frames self.old.past)) }
-    {
-        self.past = named::<Brand, _>(&(&self.past, viewer, role));
         self.entries += 1;
     }
 

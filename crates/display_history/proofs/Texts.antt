@@ -7,7 +7,8 @@ use Rattle.gate_model.specs.declared.instr.Instr.{Instr}
 use Rattle.gate_model.specs.Limits.{most_kept_frames, most_kept_text}
 use Rattle.gate_model.specs.text.Text.{texts}
 use Rattle.gate_model.specs.session.History.{History, frames, frames_after}
-use Rattle.gate_model.specs.session.Kept.{text_size, may_be_kept, kept_of, Covers, last_stamp_from, KeptAreLast, CoversByStamp}
+use Rattle.gate_model.specs.session.Kept.{text_size, may_be_kept, kept_of, Covers, last_stamp_from}
+use Rattle.gate_model.specs.session.KeptLaws.{KeptAreLast, CoversByStamp}
 use Rattle.gate_model.specs.session.Steps.{Legal}
 use Rattle.display_history.specs.Keeping.{text_bytes, may_stay, kept_end, after_stamp, last_stamp, HistoryState, covers, HasKept}
 use Rattle.display_history.specs.Laws.{texts_of}

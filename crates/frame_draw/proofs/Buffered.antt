@@ -12,10 +12,11 @@ use Rattle.gate_model.specs.picture.Buffers.{Buffers, layer_of}
 use Rattle.glyph_cache.specs.declared.slot.SlotKind.{SlotKind}
 use Rattle.glyph_cache.specs.declared.slot.SlotKind.TheVariants.{Held, Made, Reused}
 use Rattle.glyph_cache.specs.Cache.{Gets}
-use Rattle.frame_draw.specs.Strokes.{covering, painting}
+use Rattle.glyph_strokes.specs.Strokes.{covering}
+use Rattle.frame_draw.specs.Strokes.{painting}
 use Rattle.frame_draw.specs.Cells.{Places, AreDrawn}
 use Rattle.frame_draw.proofs.Entries.{get_added, get_before, get_set, get_other}
-use Rattle.frame_draw.proofs.Filled.{AreFor, HasGlyph, after, drawn_here, drawn_there, covered, covered_anew, covering_for}
+use Rattle.glyph_strokes.proofs.Filled.{AreFor, HasGlyph, after, drawn_here, drawn_there, covered, covered_anew, covering_for}
 
 other_buffer : (j n : ℕ) → j ≢ n → int_eq (negsuc j) (negsuc n) ≡ false
 other_buffer j n ne = cases (int_eq (negsuc j) (negsuc n)) refl
@@ -51,8 +52,8 @@ fresh_buffer m cols rows at keys more n key is all has got others a =
       | inr ne ↦ subst (λ (l : Layer). open_path l ≡ []) (sym (drawn_there m (negsuc n) is (negsuc j) all (other_buffer j n ne))) (a.no_paths (negsuc j))
     ]
 
-anew_for : (k : ℤ) (key : Key) → AreFor k (Size k 8 16 ∷ covering k key)
-anew_for k key = (refl, covering_for k key)
+anew_for : (k : ℤ) (key : Key) → AreFor k (Size k 8 16 ∷ covering k 0 0 key)
+anew_for k key = (refl, covering_for k 0 0 key)
 
 glyph_here : (m : Layers) (k : ℤ) (key : Key) (is : List Instr) → AreFor k is → HasGlyph (after (m k) is) key → HasGlyph (draw m is k) key
 glyph_here m k key is all has = subst (λ (l : Layer). HasGlyph l key) (sym (drawn_here m k is all)) has
@@ -68,20 +69,20 @@ pub buffered : (m : Layers) (cols rows : ℕ) (at : Places) (keys more : Buffers
 unfolding painting
 buffered m cols rows at keys more Held n key g a = subst (AreDrawn m cols rows at) (sym g.1) a
 buffered m cols rows at keys more Made n key g a =
-    let is : List Instr = Size (negsuc n) 8 16 ∷ covering (negsuc n) key in
+    let is : List Instr = Size (negsuc n) 8 16 ∷ covering (negsuc n) 0 0 key in
     subst (AreDrawn (draw m is) cols rows at) (sym g.3)
     (fresh_buffer m cols rows at keys (keys ++ key ∷ []) n key is (anew_for (negsuc n) key)
     (glyph_here m (negsuc n) key is (anew_for (negsuc n) key) (covered_anew (m (negsuc n)) (negsuc n) key (a.no_paths (negsuc n))))
     (ap (slice_get (keys ++ key ∷ [])) g.1 ∙ get_added keys key)
     (λ j ne. get_before keys key j (λ e. ne (e ∙ sym g.1))) a)
 buffered m cols rows at keys more Reused n key g a =
-    let is : List Instr = covering (negsuc n) key in
+    let is : List Instr = covering (negsuc n) 0 0 key in
     let there : n < length keys = omega (arith, g.1, g.2) in
     let size = buffer_size keys n there in
     let was = a.buffers n in
     subst (AreDrawn (draw m is) cols rows at) (sym g.3)
-    (fresh_buffer m cols rows at keys (slice_set keys n key) n key is (covering_for (negsuc n) key)
-    (glyph_here m (negsuc n) key is (covering_for (negsuc n) key) (covered (m (negsuc n)) (negsuc n) key (was.width ∙ size.0) (was.height ∙ size.1) (a.no_paths (negsuc n))))
+    (fresh_buffer m cols rows at keys (slice_set keys n key) n key is (covering_for (negsuc n) 0 0 key)
+    (glyph_here m (negsuc n) key is (covering_for (negsuc n) 0 0 key) (covered (m (negsuc n)) (negsuc n) key (was.width ∙ size.0) (was.height ∙ size.1) (a.no_paths (negsuc n))))
     (get_set keys n key there)
     (λ j ne. get_other keys n j key ne) a)
 

@@ -22,7 +22,8 @@ use Rattle.dirty_region.specs.Places.{place_of}
 use Rattle.frame_draw.specs.Along.{Along, Fits, count_below}
 use Rattle.frame_draw.proofs.Copied.{from_layers, other_stays, scrolled, still, to_layers}
 use Rattle.frame_draw.proofs.NewKeys.{same_is}
-use Rattle.frame_draw.proofs.Allowed.{draws_both, is_visible, scroll_draws, scroll_readable}
+use Rattle.glyph_strokes.proofs.Allowed.{draws_both}
+use Rattle.frame_draw.proofs.Allowed.{is_visible, scroll_draws, scroll_readable}
 use Rattle.frame_draw.proofs.Left.{count_all}
 use Rattle.frame_draw.proofs.Going.{mixed_all}
 

@@ -24,7 +24,8 @@ use Rattle.frame_draw.specs.Along.{Along, Fits, Holds, IsBufferOf, count_below, 
 use Rattle.frame_draw.proofs.Buffered.{buffered, has_buffer}
 use Rattle.frame_draw.proofs.Copied.{cell_copied}
 use Rattle.frame_draw.proofs.NewKeys.{held_there, held_more, if_new, new_one_more}
-use Rattle.frame_draw.proofs.Allowed.{copy_draws, copy_readable, draws_both, held_is_painted, is_buffer, painting_draws, painting_length, painting_readable}
+use Rattle.glyph_strokes.proofs.Allowed.{draws_both}
+use Rattle.frame_draw.proofs.Allowed.{copy_draws, copy_readable, held_is_painted, is_buffer, painting_draws, painting_length, painting_readable}
 use Rattle.frame_draw.proofs.Left.{count_more}
 
 -- ---- what is known of places

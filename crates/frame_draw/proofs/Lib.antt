@@ -1,11 +1,9 @@
 -- In reading order.
-mod Filled
 mod Entries
 mod Buffered
-mod Copied
+pub mod Copied
 mod NewKeys
-mod Allowed
-mod Inks
+pub mod Allowed
 mod Left
 mod Going
 mod Holding

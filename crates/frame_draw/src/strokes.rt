@@ -1,11 +1,10 @@
 ghost use Rattle.std.specs.Prelude.{◌≡◌, ◌+◌, ◌-◌, ◌*◌, ◌/◌, ◌%◌, ◌<◌, ◌≤◌, pos, [], ◌∷◌, ◌++◌, OnOk};
-ghost use Rattle.glyph_table.specs.GlyphRects.{rects};
 ghost use Rattle.gate_model.specs.terminal.Screens.{IsColoured};
-ghost use Rattle.frame_draw.specs.Strokes.{cell_copy, covering, fill, inked, painting, scrolling};
+ghost use Rattle.frame_draw.specs.Strokes.{cell_copy, painting, scrolling};
 
 use gate_model::{Instr, Key, NoMemory};
 use glyph_cache::{Slot, SlotKind};
-use glyph_table::{colour_of, rects_of};
+use glyph_strokes::cover;
 
 // What a buffer takes to show its key: nothing where it shows it already.
 #[tactic(auto, using(std::proofs::lemmas::Grind::common_steps), unfolding(crate::specs::Strokes::painting))]
@@ -21,68 +20,11 @@ pub(crate) fn paint(list: &mut Vec<Instr>, slot: Slot, key: Key) -> Result<(), N
                 width: 8,
                 height: 16,
             })?;
-            cover(list, slot.layer, key)?;
+            cover(list, slot.layer, 0, 0, key)?;
         }
-        SlotKind::Reused => cover(list, slot.layer, key)?,
+        SlotKind::Reused => cover(list, slot.layer, 0, 0, key)?,
     }
     Ok(())
-}
-
-// The key's paper over the whole buffer, and its glyph in its ink.
-#[tactic(auto, using(std::proofs::lemmas::Grind::common_steps), unfolding(crate::specs::Strokes::covering))]
-fn cover(list: &mut Vec<Instr>, layer: i32, key: Key) -> Result<(), NoMemory>
-    requires { IsColoured key }
-    ensures { OnOk result (list.new.items ≡ list.old.items ++ covering layer key) }
-{
-    list.push(Instr::Rect {
-        layer,
-        x: 0,
-        y: 0,
-        width: 8,
-        height: 16,
-    })?;
-    list.push(fill_with(layer, key.paper))?;
-    draw_glyph(list, layer, key)?;
-    Ok(())
-}
-
-// The glyph's rectangles and their fill; a glyph without lit pixels takes neither.
-#[tactic(auto, using(std::proofs::lemmas::Grind::common_steps, crate::proofs::Inks::inked_none, crate::proofs::Inks::inked_some))]
-fn draw_glyph(list: &mut Vec<Instr>, layer: i32, key: Key) -> Result<(), NoMemory>
-    requires { key.ink < 16 }
-    ensures { OnOk result (list.new.items ≡ list.old.items ++ inked layer (rects key.face key.under) key.ink) }
-{
-    let rects = rects_of(key.face, key.under);
-    let patches = rects.as_slice();
-    if patches.is_empty() {
-        return Ok(());
-    }
-    for patch in patches {
-        list.push(Instr::Rect {
-            layer,
-            x: patch.x as u32,
-            y: patch.y as u32,
-            width: patch.width as u32,
-            height: patch.height as u32,
-        })?;
-    }
-    list.push(fill_with(layer, key.ink))?;
-    Ok(())
-}
-
-// The fill of the layer's path with a colour of the palette.
-#[tactic(auto, unfolding(crate::specs::Strokes::fill))]
-fn fill_with(layer: i32, index: u8) -> Instr
-    requires { index < 16 }
-    ensures { result ≡ fill layer index }
-{
-    let colour = colour_of(index);
-    Instr::Cfill {
-        layer,
-        red: colour.red,
-        green: colour.green,
-        blue: colour.blue,
-    }
 }
 
 // The copy of a buffer to a place of the visible layer, counted row by row.

@@ -8,7 +8,6 @@ use Rattle.gate_model.specs.declared.act.Act.{Act}
 use Rattle.gate_model.specs.declared.closed.Closed.{Closed}
 use Rattle.gate_model.specs.declared.cause.Cause.{Cause}
 use Rattle.gate_model.specs.declared.how.How.{How}
-use Rattle.gate_model.specs.declared.how.How.TheVariants.{Suffix}
 use Rattle.gate_model.specs.declared.instr.Instr.{Instr}
 use Rattle.gate_model.specs.declared.sharing.Role.{Role}
 use Rattle.gate_model.specs.declared.sharing.Asked.{Asked}
@@ -30,13 +29,13 @@ use Rattle.gate_model.specs.declared.read_refusal.ReadRefusal.{ReadRefusal}
 use Rattle.gate_model.specs.declared.read_refusal.ReadRefusal.TheVariants.{NoViewer as read_no_viewer, Worn as read_worn}
 use Rattle.gate_model.specs.Limits.{most_piece, most_acts, most_live, most_joined}
 use Rattle.gate_model.specs.picture.Shape.{Shape}
-use Rattle.gate_model.specs.session.History.{History, next_stamp, size_now, newest, columns, rows, terminal_type, all_frames, joined, share_mode, is_closed, is_full}
+use Rattle.gate_model.specs.session.History.{History, next_stamp, size_now, newest, columns, rows, terminal_type, joined, share_mode, is_closed, is_full}
 use Rattle.gate_model.specs.session.Delivered.{position, ended}
 use Rattle.gate_model.specs.session.Output.{out, taken, untaken}
 use Rattle.gate_model.specs.session.Rights.{is_live, live_count}
 use Rattle.gate_model.specs.session.Roles.{grant_of}
 use Rattle.gate_model.specs.session.Refusals.{first_of, only_if, close_cause, is_crowded, is_forbidden, feed_refusal, join_refusal, read_stop, write_refusal, leave_refusal, close_refusal}
-use Rattle.gate_model.specs.session.Calls.{AreBytes, Step}
+use Rattle.gate_model.specs.session.Calls.{AreBytes, ShowsNewest, Updates, Step}
 use Rattle.gate_model.specs.session.Steps.{Legal}
 use Rattle.gate_model.proofs.Causes.{open_without_cause}
 
@@ -61,7 +60,7 @@ pub record Joins (g : History) (viewer : ℕ) (role : Role) (first : List Instr)
   pub few_joined : joined g < most_joined
   pub asked : Asked
   pub granted : grant_of (share_mode g) asked ≡ Ok role
-  pub everything : first ≡ all_frames g
+  pub shape : ShowsNewest g first
 
 -- in an open session the viewer lacks some frames, and the session isn't full; in a closed one it wasn't given the
 -- closing instruction yet
@@ -70,7 +69,7 @@ pub record Reads (g : History) (viewer : ℕ) (how : How) : Type 0 where
   pub not_ended : ended g viewer ≡ false
   pub behind : is_closed g ≡ false → (position g viewer == newest g) ≡ false
   pub not_full : is_closed g ≡ false → is_full g ≡ false
-  pub suffix : how ≡ Suffix
+  pub updates : Updates g (position g viewer) how
 
 pub record Writes (g : History) (viewer : ℕ) (acts : List Act) : Type 0 where
   pub live : is_live g viewer ≡ true
@@ -140,8 +139,8 @@ join_free h asked e =
       few_joined = leb-false most_joined (joined h) few.1;
     }
 
-read_free : (h : History) (viewer : ℕ) → read_stop h viewer ≡ None → Reads h viewer Suffix
-read_free h viewer e =
+read_free : (h : History) (viewer : ℕ) (how : How) → read_stop h viewer ≡ None → Updates h (position h viewer) how → Reads h viewer how
+read_free h viewer how e updates =
     let away : Option (Result ReadAnswer ReadRefusal) = only_if (not (is_live h viewer)) (Err read_no_viewer) in
     let over : Option (Result ReadAnswer ReadRefusal) = only_if (ended h viewer) (Ok Ended) in
     let empty : Option (Result ReadAnswer ReadRefusal) = only_if (not (is_closed h) && position h viewer == newest h) (Ok Empty) in
@@ -155,7 +154,7 @@ read_free h viewer e =
       not_ended = not_there (ended h viewer) (Ok Ended) q.0;
       behind = λ o. when_open (is_closed h) (position h viewer == newest h) (not_there (not (is_closed h) && position h viewer == newest h) (Ok Empty) r.0) o;
       not_full = λ o. when_open (is_closed h) (is_full h) (not_there (not (is_closed h) && is_full h) (Err (read_worn (length h))) s.0) o;
-      suffix = refl;
+      updates = updates;
     }
   where
     when_open : (a b : Bool) → (not a && b) ≡ false → a ≡ false → b ≡ false
@@ -183,8 +182,10 @@ added h (feed bytes now) answer e s =
 added h (join asked) answer e s =
     let a = s.1.1 in
     let free = join_free h asked (unmapped (λ (r : JoinRefusal). joined_as (Err r)) (join_refusal h asked) s.1.0) in
-    subst (IsNext h) (sym a.3) record { is_open = free.is_open; is_next = refl; few_live = free.few_live; few_joined = free.few_joined; asked = asked; granted = a.1; everything = refl }
-added h (read viewer) answer e s = subst (IsNext h) (sym s.1.1.1) (read_free h viewer (unmapped was_read (read_stop h viewer) s.1.0))
+    subst (IsNext h) (sym a.5) record { is_open = free.is_open; is_next = refl; few_live = free.few_live; few_joined = free.few_joined; asked = asked; granted = a.2; shape = a.3 }
+added h (read viewer) answer e s =
+    let a = s.1.1 in
+    subst (IsNext h) (sym a.3) (read_free h viewer a.0 (unmapped was_read (read_stop h viewer) s.1.0) a.1)
 added h (write viewer acts) answer e s =
     let free = write_free h viewer (unmapped (λ (r : WriteRefusal). was_written (Err r)) (write_refusal h viewer) s.1.0) in
     subst (IsNext h) (sym s.1.1.1) record { live = free.0; is_open = free.1; few = s.0.few }

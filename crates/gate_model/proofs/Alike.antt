@@ -1,5 +1,5 @@
 -- Layer maps that are the same and have no open path stay so under each list that a frame may hold.
-use Rattle.std.proofs.Common.{◌≡◌, ℕ, ◌+◌, ◌-◌, ◌<◌, ℤ, List, [], ◌∷◌, Bool, true, false, ◌&&◌, ◌||◌, refl, ap, sym, ◌∙◌, subst, arith}
+use Rattle.std.proofs.Common.{◌≡◌, ℕ, ◌+◌, ◌-◌, ◌<◌, ℤ, List, [], ◌∷◌, ◌++◌, Bool, true, false, ◌&&◌, ◌||◌, refl, ap, sym, ◌∙◌, subst, arith, append_assoc, inl, inr}
 use Rattle.std.specs.Prelude.{if◌then◌else◌, nat_lt, Option, Some, None}
 use Rattle.std.specs.List.{list_any}
 use Rattle.std.specs.Ordering.{int_eq}
@@ -7,9 +7,13 @@ use Rattle.std.proofs.lemmas.Bool.Decides.{nat_tests, Decides-int_eq}
 use Rattle.gate_model.specs.declared.colour.Colour.{Colour}
 use Rattle.gate_model.specs.declared.instr.Instr.{Instr}
 use Rattle.gate_model.specs.declared.instr.Instr.TheVariants.{Size, Rect, Cfill, Copy, Sync, Disconnect, Error}
-use Rattle.gate_model.specs.picture.Layers.{Area, HasNoPaths, Layer, Layers, with_layer, is_in, is_covered, open_path, sized, traced, painted, over, source_pixel, copied, draw, IsAlike, Same}
+use Rattle.gate_model.specs.picture.Layers.{Area, HasNoPaths, Layer, Layers, with_layer, is_in, is_covered, open_path, sized, traced, painted, over, source_pixel, copied, draw, nothing, IsAlike, Same}
 use Rattle.gate_model.specs.picture.Shape.{Draws, Shape, without_layer}
+use Rattle.gate_model.specs.Sequences.{BeginsWith}
+use Rattle.gate_model.specs.session.History.{frames_after, instructions}
 use Rattle.gate_model.proofs.Drawing.{draw-append}
+use Rattle.gate_model.proofs.Fronts.{front_cases}
+use Rattle.gate_model.proofs.Syncs.{sync_is_last}
 
 -- one layer in two maps: they look alike
 in_alike : (l r : Layer) (x y : ℕ) → IsAlike l r → is_in x y l ≡ is_in x y r
@@ -159,10 +163,77 @@ all_go cols rows u (Sync t ∷ is) m n d a = absurd d
 all_go cols rows u (Disconnect ∷ is) m n d a = absurd d
 all_go cols rows u (Error status ∷ is) m n d a = absurd d
 
--- under a list that has the shape of a frame maps that are the same, with no unfilled path, stay so
-pub same-goes_on : (cols rows t : ℕ) (is : List Instr) (m n : Layers) → Shape cols rows is t → Same m n → HasNoPaths m → HasNoPaths n → Same (draw m is) (draw n is)
-same-goes_on cols rows t is m n s same first second =
-    let start : AllGo [] m n = λ j. record { look = same j; paths = (first j, second j) } in
+-- two maps that are the same, with no open path in either
+pub record AreEven (m n : Layers) : Type 0 where
+  pub same : Same m n
+  pub first_shut : HasNoPaths m
+  pub second_shut : HasNoPaths n
+
+-- to draw a frame is to draw its body
+drawn_body : (m : Layers) (body : List Instr) (t : ℕ) → draw m (body ++ Sync t ∷ []) ≡ draw m body
+drawn_body m body t = draw-append m body (Sync t ∷ [])
+
+pub even-frame : (cols rows t : ℕ) (is : List Instr) (m n : Layers) → Shape cols rows is t → AreEven m n → AreEven (draw m is) (draw n is)
+even-frame cols rows t is m n s e =
+    let start : AllGo [] m n = λ j. record { look = e.same j; paths = (e.first_shut j, e.second_shut j) } in
     let end : AllGo [] (draw m s.body) (draw n s.body) = all_go cols rows [] s.body m n s.body_draws start in
-    let of_body : (l : Layers) → draw l is ≡ draw l s.body = λ l. ap (draw l) s.ends ∙ draw-append l s.body (Sync t ∷ []) in
-    rw (of_body m, of_body n) (λ j. (end j).look)
+    let m_is : draw m is ≡ draw m s.body = ap (draw m) s.ends ∙ drawn_body m s.body t in
+    let n_is : draw n is ≡ draw n s.body = ap (draw n) s.ends ∙ drawn_body n s.body t in
+    rw (m_is, n_is) record { same = λ j. (end j).look; first_shut = λ j. (end j).paths.0; second_shut = λ j. (end j).paths.1 }
+
+-- .. under a list of frames
+pub even-nothing : AreEven nothing nothing
+even-nothing = record { same = λ k. record { width = refl; height = refl; pixels = λ x y low high. refl }; first_shut = λ k. refl; second_shut = λ k. refl }
+
+-- a frame with its stamp
+abbrev pub IsShaped : ℕ × List Instr → Type 0
+IsShaped f = (cols : ℕ) × (rows : ℕ) × Shape cols rows f.1 f.0
+
+abbrev pub AreShaped : List (ℕ × List Instr) → Type 0
+AreShaped [] = Unit {0}
+AreShaped (f ∷ fs) = IsShaped f × AreShaped fs
+
+pub shaped-append : (fs gs : List (ℕ × List Instr)) → AreShaped fs → AreShaped gs → AreShaped (fs ++ gs)
+shaped-append [] gs s t = t
+shaped-append (f ∷ fs) gs s t = (s.0, shaped-append fs gs s.1 t)
+
+pub shaped-after : (t : ℕ) (fs : List (ℕ × List Instr)) → AreShaped fs → AreShaped (frames_after t fs)
+shaped-after t [] s = tt
+shaped-after t (f ∷ fs) s = cases (nat_lt t f.0) refl (shaped-after t fs s.1)
+  where
+    cases : (b : Bool) → nat_lt t f.0 ≡ b → AreShaped (frames_after t fs) → AreShaped (frames_after t (f ∷ fs))
+    cases true e more = rw e (s.0, more)
+    cases false e more = rw e more
+
+pub even-frames : (fs : List (ℕ × List Instr)) → AreShaped fs → (m n : Layers) → AreEven m n → AreEven (draw m (instructions fs)) (draw n (instructions fs))
+even-frames [] s m n e = e
+even-frames (f ∷ fs) s m n e =
+    let first : AreEven (draw m f.1) (draw n f.1) = even-frame s.0.0 s.0.1 f.0 f.1 m n s.0.2 e in
+    rw (draw-append m f.1 (instructions fs), draw-append n f.1 (instructions fs)) (even-frames fs s.1 (draw m f.1) (draw n f.1) first)
+
+nothing_begins : (t : ℕ) (front rest : List Instr) → [] ≡ (front ++ Sync t ∷ []) ++ rest → ⊥
+nothing_begins t [] rest e = cc
+nothing_begins t (x ∷ front) rest e = cc
+
+-- .. and under each front of them that ends with a sync
+pub even-front : (fs : List (ℕ × List Instr)) → AreShaped fs → (m n : Layers) → AreEven m n → (front : List Instr) (t : ℕ)
+    → BeginsWith (instructions fs) (front ++ Sync t ∷ []) → AreEven (draw m (front ++ Sync t ∷ [])) (draw n (front ++ Sync t ∷ []))
+even-front [] s m n e front t b = absurd (nothing_begins t front b.0 b.1)
+even-front (f ∷ fs) s m n e front t b =
+    elim (front_cases f.1 (instructions fs) front (Sync t) b) as (λ _. AreEven (draw m (front ++ Sync t ∷ [])) (draw n (front ++ Sync t ∷ []))) [
+      | inl p ↦ within p
+      | inr p ↦ rw (is_later m p.0 p.1, is_later n p.0 p.1) (even-front fs s.1 (draw m f.1) (draw n f.1) (even-frame s.0.0 s.0.1 f.0 f.1 m n s.0.2 e) p.0 t p.2)
+    ]
+  where
+    within : BeginsWith f.1 (front ++ Sync t ∷ []) → AreEven (draw m (front ++ Sync t ∷ [])) (draw n (front ++ Sync t ∷ []))
+    within p =
+        let q = sync_is_last s.0.0 s.0.1 [] s.0.2.body front t f.0 s.0.2.body_draws (p.0, sym s.0.2.ends ∙ p.1) in
+        let whole : front ++ Sync t ∷ [] ≡ f.1 = ap (λ (xs : List Instr). xs ++ Sync t ∷ []) q.0 ∙ (ap (λ (u : ℕ). s.0.2.body ++ Sync u ∷ []) q.1 ∙ sym s.0.2.ends) in
+        rw whole (even-frame s.0.0 s.0.1 f.0 f.1 m n s.0.2 e)
+
+    is_later : (l : Layers) (more : List Instr) → front ≡ f.1 ++ more → draw l (front ++ Sync t ∷ []) ≡ draw (draw l f.1) (more ++ Sync t ∷ [])
+    is_later l more e = ap (λ (xs : List Instr). draw l (xs ++ Sync t ∷ [])) e ∙ (ap (draw l) (append_assoc f.1 more (Sync t ∷ [])) ∙ draw-append l f.1 (more ++ Sync t ∷ []))
+
+-- maps that are the same, with no unfilled path, stay the same
+pub same-goes_on : (cols rows t : ℕ) (is : List Instr) (m n : Layers) → Shape cols rows is t → Same m n → HasNoPaths m → HasNoPaths n → Same (draw m is) (draw n is)
+same-goes_on cols rows t is m n s same first second = (even-frame cols rows t is m n s record { same = same; first_shut = first; second_shut = second }).same

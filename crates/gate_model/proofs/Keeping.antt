@@ -193,3 +193,16 @@ kept-all (x ∷ fs) gone f e = cases (may_be_kept (x ∷ fs)) refl (kept-all fs)
             let rest : fs ≡ kept_of fs = cc in
             subst (λ (xs : List (ℕ × List Instr)). may_be_kept xs ≡ false) q b
         parts (y ∷ gone) q = let rest : fs ≡ gone ++ f ∷ kept_of fs = cc in more gone f rest
+
+-- ---- a viewer who is covered
+
+after-few : (t : ℕ) (fs : List (ℕ × List Instr)) → length (frames_after t fs) ≤ length fs
+after-few t [] = omega arith
+after-few t (f ∷ fs) = cases (nat_lt t f.0) refl (after-few t fs)
+  where
+    cases : (b : Bool) → nat_lt t f.0 ≡ b → length (frames_after t fs) ≤ length fs → length (frames_after t (f ∷ fs)) ≤ length (f ∷ fs)
+    cases true e more = rw e (omega (arith, more))
+    cases false e more = rw e (omega (arith, more))
+
+pub covered-few : (h : History) (t : ℕ) → Covers h t → length (frames_after t (frames h)) ≤ most_kept_frames
+covered-few h t covers = omega (arith, ap length covers, after-few t (kept h), (kept-few (frames h)).0)

@@ -10,7 +10,7 @@ use Rattle.gate_model.specs.picture.Buffers.{Buffers, AreLayers, Renews, new_key
 use Rattle.gate_model.specs.terminal.Screens.{shown}
 use Rattle.gate_model.specs.session.History.{History, at, all_frames}
 use Rattle.gate_model.specs.session.Truth.{AllDrawn, all_layers}
-use Rattle.gate_model.specs.session.Cost.{changes, cost, keys_shown, rise, AllFrugal, IsFrugal}
+use Rattle.gate_model.specs.session.Cost.{changes, cost, keys_shown, rise, AllFrugal}
 use Rattle.gate_model.proofs.Drawing.{draw-append}
 use Rattle.gate_model.proofs.Histories.{IsPlain, at-plain, all_frames-plain, all_frames-feed}
 use Rattle.gate_model.proofs.Layering.{layers-drawn}
@@ -29,19 +29,6 @@ keys_shown-plain h (Write v acts) p = refl
 keys_shown-plain h (Take count) p = refl
 keys_shown-plain h (Leave v) p = refl
 keys_shown-plain h (Close cause) p = refl
-
-frugal_at-plain : (h : History) (e : Entry) → IsPlain e → IsFrugal h e
-frugal_at-plain h (Start cols rows mode term entries t frame) p = tt
-frugal_at-plain h (Feed bs t frame) p = absurd (let w : [] ≡ (t, frame) ∷ [] = sym p.no_frame in cc)
-frugal_at-plain h (Join v role first) p = tt
-frugal_at-plain h (Read v how) p = tt
-frugal_at-plain h (Write v acts) p = tt
-frugal_at-plain h (Take count) p = tt
-frugal_at-plain h (Leave v) p = tt
-frugal_at-plain h (Close cause) p = tt
-
-pub frugal-plain : (h : History) (e : Entry) → IsPlain e → AllFrugal h → AllFrugal (e ∷ h)
-frugal-plain h e p f = (f, frugal_at-plain h e p)
 
 -- ---- a Feed
 

@@ -1,5 +1,5 @@
 -- A step of each call from its parts.
-use Rattle.std.proofs.Common.{◌≡◌, ℕ, ◌+◌, ◌-◌, ◌^◌, min, List, [], ◌∷◌, length, take, Bool, false, refl, ap, sym, ◌∙◌, subst, arith}
+use Rattle.std.proofs.Common.{◌≡◌, ℕ, ◌+◌, List, [], ◌∷◌, length, take, Bool, false, refl, ap, sym, ◌∙◌, subst, arith}
 use Rattle.std.specs.Prelude.{Some, None, Result, Ok, Err, ◌==◌, if◌then◌else◌, count_by}
 use Rattle.std.specs.Option.{option_map}
 use Rattle.std.proofs.lemmas.Bool.Decides.{nat_tests}
@@ -7,7 +7,7 @@ use Rattle.gate_model.specs.declared.act.Act.{Act}
 use Rattle.gate_model.specs.declared.cause.Cause.{Cause}
 use Rattle.gate_model.specs.declared.closed.Closed.{Closed}
 use Rattle.gate_model.specs.declared.no_viewer.NoViewer.{NoViewer}
-use Rattle.gate_model.specs.declared.how.How.TheVariants.{Suffix}
+use Rattle.gate_model.specs.declared.how.How.TheVariants.{Suffix, Fresh as Picture}
 use Rattle.gate_model.specs.declared.instr.Instr.{Instr}
 use Rattle.gate_model.specs.declared.joined.Joined.{Joined}
 use Rattle.gate_model.specs.declared.written.Written.{Written}
@@ -19,15 +19,17 @@ use Rattle.gate_model.specs.declared.feed_refusal.FeedRefusal.{FeedRefusal}
 use Rattle.gate_model.specs.declared.join_refusal.JoinRefusal.{JoinRefusal}
 use Rattle.gate_model.specs.declared.write_refusal.WriteRefusal.{WriteRefusal}
 use Rattle.gate_model.specs.declared.read_answer.ReadAnswer.{ReadAnswer}
-use Rattle.gate_model.specs.declared.read_answer.ReadAnswer.TheVariants.{Frames}
+use Rattle.gate_model.specs.declared.read_answer.ReadAnswer.TheVariants.{Frames, Fresh}
 use Rattle.gate_model.specs.declared.read_refusal.ReadRefusal.{ReadRefusal}
 use Rattle.gate_model.specs.picture.Shape.{Shape}
-use Rattle.gate_model.specs.session.History.{History, next_stamp, size_now, newest, all_frames, joined, share_mode, is_closed}
+use Rattle.gate_model.specs.session.History.{History, next_stamp, size_now, newest, joined, share_mode, is_closed}
+use Rattle.gate_model.specs.session.Delivered.{position}
+use Rattle.gate_model.specs.session.Kept.{Covers}
 use Rattle.gate_model.specs.session.Output.{untaken}
 use Rattle.gate_model.specs.session.Rights.{may}
 use Rattle.gate_model.specs.session.Roles.{grant_of}
 use Rattle.gate_model.specs.session.Refusals.{only_if, feed_refusal, join_refusal, read_stop, write_refusal, leave_refusal, close_refusal}
-use Rattle.gate_model.specs.session.Calls.{AreBytes, IsPiece, IsWrite, lacked, is_key_act, take_entry, Step}
+use Rattle.gate_model.specs.session.Calls.{AreBytes, IsPiece, IsWrite, ShowsNewest, lacked, is_key_act, take_entry, Step}
 
 -- ---- a call that nothing stops
 
@@ -37,23 +39,30 @@ feed_step h bytes now stamp frame piece octets free is_next shape =
     (piece, (ap (option_map (λ (r : FeedRefusal). fed (Err r))) free, (octets, frame, subst (λ (t : ℕ). Shape (size_now h).columns (size_now h).rows frame t) is_next shape, ap (λ (t : ℕ). fed (Ok t)) is_next, ap (λ (t : ℕ). Feed bytes t frame) is_next)))
 
 pub join_step : (h : History) (asked : Asked) (given : Joined) (first : List Instr) → join_refusal h asked ≡ None → grant_of (share_mode h) asked ≡ Ok given.role → given.viewer ≡ joined h + 1 → given.stamp ≡ newest h
-    → first ≡ all_frames h → Step h (join asked) (joined_as (Ok given)) (Join given.viewer given.role first ∷ [])
-join_step h asked given first free granted number stamp everything = (
+    → ShowsNewest h first → Step h (join asked) (joined_as (Ok given)) (Join given.viewer given.role first ∷ [])
+join_step h asked given first free granted number stamp shape = (
   tt,
   (
     ap (option_map (λ (r : JoinRefusal). joined_as (Err r))) free,
     (
       given.role,
+      first,
       granted,
+      shape,
       ap (λ (n : ℕ). joined_as (Ok record { viewer = n; role = given.role; stamp = given.stamp })) number ∙ ap (λ (t : ℕ). joined_as (Ok record { viewer = joined h + 1; role = given.role; stamp = t })) stamp,
-      ap (λ (n : ℕ). Join n given.role first) number ∙ ap (λ (is : List Instr). Join (joined h + 1) given.role is) everything,
+      ap (λ (n : ℕ). Join n given.role first) number,
     ),
   ),
 )
 
-pub read_step : (h : History) (viewer count stamp : ℕ) (closed : Bool) → read_stop h viewer ≡ None → count ≡ min (lacked h viewer) (2 ^ 32 - 1) → stamp ≡ newest h → closed ≡ is_closed h
+-- a read that gives the frames that the viewer lacks, or a picture
+pub read_step : (h : History) (viewer count stamp : ℕ) (closed : Bool) → read_stop h viewer ≡ None → Covers h (position h viewer) → count ≡ lacked h viewer → stamp ≡ newest h → closed ≡ is_closed h
     → Step h (read viewer) (was_read (Ok (Frames count stamp closed))) (Read viewer Suffix ∷ [])
-read_step h viewer count stamp closed free counts is_stamp closes = rw (counts, is_stamp, closes) (tt, (ap (option_map was_read) free, (refl, refl)))
+read_step h viewer count stamp closed free covers counts is_stamp closes = rw (counts, is_stamp, closes) (tt, (ap (option_map was_read) free, (Suffix, covers, refl, refl)))
+
+pub fresh_step : (h : History) (viewer stamp : ℕ) (closed : Bool) (is : List Instr) → read_stop h viewer ≡ None → (Covers h (position h viewer) → ⊥) → ShowsNewest h is → stamp ≡ newest h → closed ≡ is_closed h
+    → Step h (read viewer) (was_read (Ok (Fresh stamp closed))) (Read viewer (Picture is) ∷ [])
+fresh_step h viewer stamp closed is free uncovered shape is_stamp closes = rw (is_stamp, closes) (tt, (ap (option_map was_read) free, (Picture is, (uncovered, shape), refl, refl)))
 
 pub write_step : (h : History) (viewer : ℕ) (acts : List Act) (counts : Written) → IsWrite acts → write_refusal h viewer ≡ None → counts.keys ≡ (if may h viewer then count_by is_key_act acts else 0)
     → counts.denied ≡ (if may h viewer then 0 else count_by is_key_act acts) → Step h (write viewer acts) (was_written (Ok counts)) (Write viewer acts ∷ [])

@@ -5,12 +5,15 @@ pub mod History
 pub mod Delivered
 pub mod Rights
 pub mod Output
+pub mod Kept
 pub mod Refusals
 pub mod Calls
 pub mod Steps
 pub mod Runs
 pub mod Cost
-pub mod Kept
 pub mod Truth
+pub mod Whole
 pub mod FrameLaws
+pub mod KeptLaws
+pub mod WholeLaws
 pub mod Laws

@@ -59,12 +59,14 @@ impl Cache {
 
     /// The key of the layer, if the layer is a buffer.
     pub fn key_at(&self, layer: i32) -> Option<Key>
-        ensures { result ≡ buffer_key self.now.keys layer }
+        ensures key { result ≡ buffer_key self.now.keys layer }
+        ensures valid { IsCache self.now }
     {
+        let keys = &self.by_number;
         if 0 <= layer {
             return None;
         }
-        self.by_number.get((-1 - layer) as usize).copied()
+        keys.get((-1 - layer) as usize).copied()
     }
 
     /// The buffer of the key, which is the one used last from then on: the one it has, the next one that is

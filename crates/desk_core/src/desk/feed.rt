@@ -34,7 +34,14 @@ impl Desk {
         let heard = self.heard(alloc, bytes)?;
         let drawn = self.drawing.draw(alloc, &heard.host.screen, stamp)?;
         let (replies, frame) = (&heard.replies, &drawn.frame);
-        put(replies, frame, stamp, &mut self.outgoing, &mut self.frames)?;
+        put(
+            alloc,
+            replies,
+            frame,
+            stamp,
+            &mut self.outgoing,
+            &mut self.frames,
+        )?;
         self.log.feed(bytes, stamp, frame);
         self.drawing.show(drawn);
         self.host = heard.host;

@@ -1,19 +1,18 @@
 //! Viewers that join.
 
-ghost use Rattle.std.specs.Prelude.{◌≡◌, ◌+◌, ◌<◌, ◌≤◌, ◌++◌, ◌^◌, length, OnErr, OnOk};
+ghost use Rattle.std.specs.Prelude.{◌≡◌, ◌+◌, ◌<◌, ◌≤◌, ◌++◌, ◌^◌, IfOk, OnErr, OnOk};
 ghost use Rattle.gate_model.specs.session.History.{History};
 ghost use Rattle.gate_model.specs.Limits.{most_joined, most_live};
 ghost use Rattle.gate_model.specs.declared.event.Event.TheVariants.{Join};
-ghost use Rattle.viewer_book.specs.Book.{live_count};
-ghost use Rattle.desk_core.specs.Viewers.{with_viewer};
+ghost use Rattle.gate_model.specs.text.Text.{texts};
+ghost use Rattle.viewer_book.specs.Book.{added, live_count};
 
 use crate::desk::Desk;
-use crate::frames::Frames;
-use crate::giving::give_all;
-use crate::seats::Seats;
 use gate_model::limits::{MOST_JOINED, MOST_LIVE};
-use gate_model::{Asked, JoinRefusal, Joined, NoMemory, Role};
+use gate_model::{Asked, Entry, Instrs, JoinRefusal, Joined, NoMemory, Role};
+use guac_instr::texts_of;
 use share_policy::grant;
+use viewer_book::Book;
 
 impl Desk {
     ghost use Rattle.desk_core.specs.Desk.{Stands};
@@ -21,7 +20,8 @@ impl Desk {
     ghost use Rattle.desk_core.specs.Parts.{Admits};
 
     /// Adds a viewer with the next number and the role that the session's share mode grants, and appends
-    /// the text of every frame (this project's own rule).
+    /// a picture of the newest screen with every glyph buffer. What it costs depends on the screen and
+    /// the buffers alone (this project's own rule).
     pub fn join(&mut self, asked: Asked, into: &mut Vec<u8>) -> Result<Joined, JoinRefusal>
         ensures step { (h : History) → Stands self.old h → Ended h (Join asked) (join_answer result) self.old self.new into.old.items into.new.items }
         ensures unchanged { OnErr result (self.new ≡ self.old) }
@@ -30,10 +30,14 @@ impl Desk {
         ensures buffer { OnErr result (into.new.items ≡ into.old.items) }
     {
         let role = self.admitted(asked)?;
-        let viewer = self.seats.joined() + 1;
         let stamp = self.frames.stamp();
-        seat(role, &self.frames, &mut self.seats, into)?;
-        self.log.join(viewer, role);
+        let first = self.picture()?;
+        let viewer = seat(role, stamp, &first, &mut self.book, into)?;
+        self.log.add(&Entry::Join {
+            viewer,
+            role,
+            first,
+        });
         Ok(Joined {
             viewer,
             role,
@@ -51,7 +55,7 @@ impl Desk {
         let Ok(role) = grant(self.setup.mode, asked) else {
             return Err(JoinRefusal::Forbidden);
         };
-        let (live, joined) = (self.seats.live(), self.seats.joined());
+        let (live, joined) = (self.book.live(), self.book.joined());
         if live as usize >= MOST_LIVE || joined >= MOST_JOINED {
             return Err(JoinRefusal::TooMany { live, joined });
         }
@@ -63,20 +67,28 @@ impl Desk {
     }
 }
 
-// Adds a viewer that was given every frame, and appends their text: both, or for want of memory neither.
-fn seat(role: Role, frames: &Frames, seats: &mut Seats, into: &mut Vec<u8>) -> Result<(), NoMemory>
-    requires few_live { live_count seats.old.book < most_live }
-    requires few_joined { seats.old.book.joined < most_joined }
-    ensures added { OnOk result (seats.new ≡ with_viewer seats.old role frames.now.stamp (record { frames = frames.now.count; bytes = length frames.now.text })) }
-    ensures appended { OnOk result (into.new.items ≡ into.old.items ++ frames.now.text) }
-    ensures unchanged { OnErr result (seats.new ≡ seats.old) }
+// Adds a viewer that was given this list, up to the stamp, and appends its text: both, or for want of
+// memory neither.
+fn seat(
+    role: Role,
+    stamp: u64,
+    first: &Instrs,
+    book: &mut Book,
+    into: &mut Vec<u8>,
+) -> Result<u32, NoMemory>
+    requires few_live { live_count book.old < most_live }
+    requires few_joined { book.old.joined < most_joined }
+    ensures number { IfOk result (λ number. number ≡ book.old.joined + 1) }
+    ensures added { OnOk result (book.new ≡ added book.old role stamp) }
+    ensures appended { OnOk result (into.new.items ≡ into.old.items ++ texts first.now) }
+    ensures unchanged { OnErr result (book.new ≡ book.old) }
     ensures buffer { OnErr result (into.new.items ≡ into.old.items) }
 {
     let before = into.len();
-    give_all(frames.text_from(0), None, into)?;
-    let added = seats.add(role, frames.stamp(), frames.reached());
-    if added.is_err() {
+    texts_of(first.as_slice(), into)?;
+    let number = book.add(role, stamp);
+    if number.is_err() {
         into.truncate(before);
     }
-    added
+    number
 }

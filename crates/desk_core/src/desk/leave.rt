@@ -18,13 +18,13 @@ impl Desk {
         ensures step { (h : History) → Stands self.old h → Ended h (Leave viewer) (Ok (left result)) self.old self.new [] [] }
         ensures unchanged { OnErr result (self.new ≡ self.old) }
     {
-        if !self.seats.is_live(viewer) {
+        if !self.book.is_live(viewer) {
             return Err(NoViewer);
         }
         // So the number of entries doesn't overflow.
         entries_are_few();
         self.log.add(&Entry::Leave { viewer });
-        self.seats.remove(viewer);
+        self.book.remove(viewer);
         Ok(())
     }
 }

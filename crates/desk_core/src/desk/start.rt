@@ -8,9 +8,9 @@ use crate::frames::Frames;
 use crate::host::Host;
 use crate::log::Log;
 use crate::outgoing::Outgoing;
-use crate::seats::Seats;
 use gate_model::{NoMemory, Setup};
 use std::alloc::Global;
+use viewer_book::Book;
 
 impl Desk {
     ghost use Rattle.gate_model.specs.session.Steps.{IsSetup};
@@ -25,7 +25,7 @@ impl Desk {
         ensures one { IfOk result (λ d. d.entries ≡ 1) }
     {
         let stamp = next_stamp(0, now);
-        let seats = Seats::new(alloc)?;
+        let book = Book::new(alloc)?;
         let host = Host::new(alloc, setup.cols, setup.rows)?;
         let first = Drawing::first(alloc, &host.screen, stamp)?;
         let frames = Frames::first(alloc, first.frame.as_slice(), stamp)?;
@@ -36,7 +36,7 @@ impl Desk {
             outgoing: Outgoing::new(alloc),
             frames,
             drawing: first.drawing,
-            seats,
+            book,
             log,
             cause: None,
         })

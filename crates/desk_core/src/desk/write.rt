@@ -41,7 +41,7 @@ impl Desk {
         let typed = self.typed(alloc, viewer, acts, may_type)?;
         self.outgoing.append(&typed.bytes)?;
         self.log.write(viewer, acts);
-        self.seats.set_mods(viewer, typed.held);
+        self.book.set_mods(viewer, typed.held);
         Ok(counted(may_type, keys_among(acts)))
     }
 
@@ -49,7 +49,7 @@ impl Desk {
     fn write_refusal(&self, viewer: u32) -> Option<WriteRefusal>
         ensures { (h : History) → Stands self.now h → result ≡ write_refusal h viewer }
     {
-        if !self.seats.is_live(viewer) {
+        if !self.book.is_live(viewer) {
             return Some(WriteRefusal::NoViewer);
         }
         if let Some(cause) = self.cause {
@@ -64,10 +64,10 @@ impl Desk {
 
     // Whether the viewer may type in an open session.
     fn may_type(&self, viewer: u32) -> bool
-        requires { IsTrue (is_live self.now.seats.book viewer) }
+        requires { IsTrue (is_live self.now.book viewer) }
         ensures { (h : History) → Stands self.now h → is_closed h ≡ false → result ≡ may h viewer }
     {
-        types(self.seats.role(viewer))
+        types(self.book.role(viewer))
     }
 
     // What the viewer's acts send, if it may type.
@@ -78,10 +78,10 @@ impl Desk {
         acts: &[Act],
         may_type: bool,
     ) -> Result<Typed, NoMemory>
-        requires { IsTrue (is_live self.now.seats.book viewer) }
+        requires { IsTrue (is_live self.now.book viewer) }
         ensures { (h : History) → Stands self.now h → may_type ≡ may h viewer → IfOk result (Types h viewer acts.now) }
     {
-        let held = self.seats.mods(viewer);
+        let held = self.book.mods(viewer);
         let cursor_mode = self.host.screen.cursor_mode();
         typed_by(alloc, acts, may_type, held, cursor_mode)
     }

@@ -48,6 +48,11 @@ Renews old before is new after = (m : Layers) → AreLayers m old before → Are
 abbrev pub IsWithin : Layers → Layers → Type 0
 IsWithin m n = (k : ℤ) → (n k).width ≡ 0 → (n k).height ≡ 0 → ((m k).width ≡ 0) × ((m k).height ≡ 0)
 
+-- over any layers that have nothing unfilled, and in which each layer with a size is the visible one or has
+-- a buffer, the instructions leave the layers of the screen and the buffers
+abbrev pub Makes : List Instr → KeyGrid → Buffers → Type 0
+Makes is s keys = (m : Layers) → HasNoPaths m → IsWithin m (layers s keys) → Same (draw m is) (layers s keys)
+
 -- ---- which keys have a buffer
 
 abbrev pub is_same_key : Key → Key → Bool

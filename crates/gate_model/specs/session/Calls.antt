@@ -1,11 +1,12 @@
 -- Each call of a desk after a history: its condition, the answer with which it adds nothing, and the answer
 -- and the entry that it adds else (this project's own). One rule for each call; a limit and a refusal stand
 -- here and in `Refusals` alone.
-use Rattle.std.specs.Prelude.{◌≡◌, ℕ, ◌+◌, ◌-◌, ◌<◌, ◌≤◌, ◌^◌, min, List, [], ◌∷◌, length, take, ◌==◌, if◌then◌else◌, Bool, true, false, count_by, All, Option, Some, None, Ok, Err}
+use Rattle.std.specs.Prelude.{◌≡◌, ℕ, ◌+◌, ◌<◌, ◌≤◌, List, [], ◌∷◌, length, take, ◌==◌, if◌then◌else◌, Bool, true, false, count_by, All, Option, Some, None, Ok, Err}
 use Rattle.std.specs.Option.{option_map}
 use Rattle.gate_model.specs.declared.act.Act.{Act}
 use Rattle.gate_model.specs.declared.act.Act.TheVariants.{Key as key_act}
-use Rattle.gate_model.specs.declared.how.How.TheVariants.{Suffix}
+use Rattle.gate_model.specs.declared.how.How.{How}
+use Rattle.gate_model.specs.declared.how.How.TheVariants.{Suffix, Fresh as Picture}
 use Rattle.gate_model.specs.declared.instr.Instr.{Instr}
 use Rattle.gate_model.specs.declared.sharing.Role.{Role}
 use Rattle.gate_model.specs.declared.entry.Entry.{Entry}
@@ -14,13 +15,15 @@ use Rattle.gate_model.specs.declared.event.Event.{Event}
 use Rattle.gate_model.specs.declared.event.Event.TheVariants.{Feed as feed, Join as join, Read as read, Write as write, Take as take_most, Leave as leave, Close as close}
 use Rattle.gate_model.specs.declared.answer.Answer.{Answer}
 use Rattle.gate_model.specs.declared.answer.Answer.TheVariants.{Feed as fed, Join as joined_as, Read as was_read, Write as was_written, Take as was_taken, Leave as was_left, Close as was_closed}
-use Rattle.gate_model.specs.declared.read_answer.ReadAnswer.TheVariants.{Frames}
+use Rattle.gate_model.specs.declared.read_answer.ReadAnswer.{ReadAnswer}
+use Rattle.gate_model.specs.declared.read_answer.ReadAnswer.TheVariants.{Frames, Fresh}
 use Rattle.gate_model.specs.Limits.{most_piece, most_acts}
 use Rattle.gate_model.specs.picture.Shape.{Shape}
-use Rattle.gate_model.specs.session.History.{History, next_stamp, newest, size_now, frames, frames_after, all_frames, joined, share_mode, is_closed}
+use Rattle.gate_model.specs.session.History.{History, next_stamp, newest, size_now, frames, frames_after, joined, share_mode, is_closed}
 use Rattle.gate_model.specs.session.Rights.{may}
 use Rattle.gate_model.specs.session.Roles.{grant_of}
 use Rattle.gate_model.specs.session.Delivered.{position}
+use Rattle.gate_model.specs.session.Kept.{Covers}
 use Rattle.gate_model.specs.session.Output.{untaken}
 use Rattle.gate_model.specs.session.Refusals.{only_if, feed_refusal, join_refusal, read_stop, write_refusal, leave_refusal, close_refusal}
 
@@ -63,21 +66,36 @@ AreBytes bytes = All (λ b. b < 256) bytes
 abbrev pub lacked : History → ℕ → ℕ
 lacked h viewer = length (frames_after (position h viewer) (frames h))
 
+-- the list has a frame's shape, for the size in force, and ends with the newest stamp
+abbrev pub ShowsNewest : History → List Instr → Type 0
+ShowsNewest h is = Shape (size_now h).columns (size_now h).rows is (newest h)
+
+-- how a viewer is brought up to date that was given everything up to the stamp t: by the frames above it, exactly
+-- where each of them is kept, else by a picture of the newest screen
+abbrev pub Updates : History → ℕ → How → Type 0
+Updates h t Suffix = Covers h t
+Updates h t (Picture is) = (Covers h t → ⊥) × ShowsNewest h is
+
+-- what a read answers that brings the viewer up to date so
+abbrev pub updated_as : History → ℕ → How → ReadAnswer
+updated_as h viewer Suffix = Frames (lacked h viewer) (newest h) (is_closed h)
+updated_as h viewer (Picture is) = Fresh (newest h) (is_closed h)
+
 abbrev pub is_key_act : Act → Bool
 is_key_act (key_act keysym pressed) = true
 is_key_act a = false
 
 -- the answer and the entry of a call that nothing stops. A feed answers the stamp of its frame; a join the
--- viewer, the role that it gets and the newest stamp; a read the number of frames, at most 2^32 - 1, the
--- newest stamp, and whether the session is closed; a write the number of its key acts, which count where the
--- viewer may type and are denied where it may not; a take some of the bytes that wait
+-- viewer, the role that it gets and the newest stamp; a read the newest stamp, whether the session is closed, and
+-- the number of the frames, where it gives them; a write the number of its key acts, which count where the viewer
+-- may type and are denied where it may not; a take some of the bytes that wait
 abbrev pub Adds : History → Event → Answer → Entry → Type 0
 Adds h (feed bytes now) answer entry = let stamp = next_stamp (newest h) now in
     AreBytes bytes × (frame : List Instr) × Shape (size_now h).columns (size_now h).rows frame stamp × (answer ≡ fed (Ok stamp)) × (entry ≡ Feed bytes stamp frame)
 Adds h (join asked) answer entry = let viewer = joined h + 1 in
-    (role : Role) × (grant_of (share_mode h) asked ≡ Ok role) × (answer ≡ joined_as (Ok record { viewer = viewer; role = role; stamp = newest h })) × (entry ≡ Join viewer role (all_frames h))
+    (role : Role) × (first : List Instr) × (grant_of (share_mode h) asked ≡ Ok role) × ShowsNewest h first × (answer ≡ joined_as (Ok record { viewer = viewer; role = role; stamp = newest h })) × (entry ≡ Join viewer role first)
 Adds h (read viewer) answer entry =
-    (answer ≡ was_read (Ok (Frames (min (lacked h viewer) (2 ^ 32 - 1)) (newest h) (is_closed h)))) × (entry ≡ Read viewer Suffix)
+    (how : How) × Updates h (position h viewer) how × (answer ≡ was_read (Ok (updated_as h viewer how))) × (entry ≡ Read viewer how)
 Adds h (write viewer acts) answer entry = let keys = count_by is_key_act acts in
     (answer ≡ was_written (Ok record { keys = if may h viewer then keys else 0; denied = if may h viewer then 0 else keys })) × (entry ≡ Write viewer acts)
 Adds h (take_most most) answer entry = let bytes = take most (untaken h) in

@@ -3,13 +3,14 @@ use Rattle.std.specs.Prelude.{ℕ, ◌+◌, ◌-◌, ◌*◌, ◌/◌, ◌%◌, 
 use Rattle.std.specs.List.{range_with_len}
 use Rattle.gate_model.specs.declared.key.Key.{Key}
 use Rattle.gate_model.specs.declared.entry.Entry.{Entry}
-use Rattle.gate_model.specs.declared.entry.Entry.TheVariants.{Start, Feed}
+use Rattle.gate_model.specs.declared.entry.Entry.TheVariants.{Start, Feed, Join, Read}
+use Rattle.gate_model.specs.declared.how.How.TheVariants.{Fresh}
 use Rattle.gate_model.specs.picture.KeyGrid.{KeyGrid}
 use Rattle.gate_model.specs.picture.Pictures.{key_at}
 use Rattle.gate_model.specs.Limits.{most_buffers}
 use Rattle.gate_model.specs.picture.Buffers.{is_same_key, new_keys}
 use Rattle.gate_model.specs.terminal.Screens.{shown}
-use Rattle.gate_model.specs.session.History.{History, at}
+use Rattle.gate_model.specs.session.History.{History, ScreenSize, at, size_now}
 
 -- ---- the places that changed
 
@@ -36,6 +37,10 @@ changes old new shift = filter (is_changed old new shift) (range_with_len 0 (len
 abbrev pub cost : ℕ → ℕ → ℕ
 cost changed fresh = 3 + 2 * changed + 40 * fresh
 
+-- the most instructions of a picture of the whole screen with every glyph buffer
+abbrev pub picture_cost : ScreenSize → ℕ
+picture_cost size = 3 + 40 * (size.columns * size.rows + most_buffers)
+
 -- the keys that the screens at Start and the Feeds showed, each once, the oldest first
 abbrev pub keys_shown : History → List Key
 keys_shown [] = []
@@ -47,15 +52,18 @@ keys_shown (e ∷ g) = keys_shown g
 abbrev pub rise : Entry → History → ℕ
 rise e g = (at (e ∷ g)).shift - (at g).shift
 
--- the frame of a Feed has at most so many instructions, while few keys were shown
+-- the frame of a Feed has at most so many instructions, while few keys were shown; what a Join gives, and a picture
+-- that a Read gives, have at most so many
 abbrev pub IsFrugal : History → Entry → Type 0
 IsFrugal g (Feed bytes stamp frame) =
     let before = shown (at g) in let after = shown (at (Feed bytes stamp frame ∷ g)) in
     length (keys_shown (Feed bytes stamp frame ∷ g)) ≤ most_buffers
     → length frame ≤ cost (length (changes before after (rise (Feed bytes stamp frame) g))) (length (new_keys (keys_shown g) after.keys))
+IsFrugal g (Join viewer role first) = length first ≤ picture_cost (size_now g)
+IsFrugal g (Read viewer (Fresh is)) = length is ≤ picture_cost (size_now g)
 IsFrugal g e = Unit {0}
 
--- so has each Feed's of the history
+-- so has each of the history
 abbrev pub AllFrugal : History → Type 0
 AllFrugal [] = Unit {0}
 AllFrugal (e ∷ g) = AllFrugal g × IsFrugal g e

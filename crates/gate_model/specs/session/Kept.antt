@@ -1,11 +1,9 @@
--- The frames that are kept for viewers who are behind (this project's own), and the laws about them, which a public
--- function of `laws::frames` proves.
-use Rattle.std.specs.Prelude.{◌≡◌, ◌↔◌, ℕ, ◌+◌, ◌≤◌, List, [], ◌∷◌, ◌++◌, length, Bool, false, ◌&&◌, nat_le, if◌then◌else◌}
+-- The frames that are kept for viewers who are behind (this project's own).
+use Rattle.std.specs.Prelude.{◌≡◌, ℕ, ◌+◌, List, [], ◌∷◌, length, Bool, ◌&&◌, nat_le, if◌then◌else◌}
 use Rattle.gate_model.specs.declared.instr.Instr.{Instr}
 use Rattle.gate_model.specs.Limits.{most_kept_frames, most_kept_text}
 use Rattle.gate_model.specs.text.Text.{texts}
 use Rattle.gate_model.specs.session.History.{History, frames, frames_after}
-use Rattle.gate_model.specs.session.Steps.{Legal}
 
 -- the bytes of the text of frames, each with its stamp
 abbrev pub text_size : List (ℕ × List Instr) → ℕ
@@ -32,25 +30,3 @@ Covers h t = frames_after t (frames h) ≡ frames_after t (kept h)
 abbrev pub last_stamp_from : ℕ → List (ℕ × List Instr) → ℕ
 last_stamp_from t [] = t
 last_stamp_from t (f ∷ fs) = last_stamp_from f.0 fs
-
--- ---- laws
-
--- the kept frames are the last ones
-abbrev pub KeptAreLast : Type 0
-KeptAreLast = (fs : List (ℕ × List Instr)) → (gone : List (ℕ × List Instr)) × (fs ≡ gone ++ kept_of fs)
-
--- .. within both limits
-abbrev pub KeptAreFew : Type 0
-KeptAreFew = (fs : List (ℕ × List Instr)) → (length (kept_of fs) ≤ most_kept_frames) × (text_size (kept_of fs) ≤ most_kept_text)
-
--- .. and with the one before them they aren't
-abbrev pub KeptAreAll : Type 0
-KeptAreAll = (fs gone : List (ℕ × List Instr)) (f : ℕ × List Instr) → fs ≡ gone ++ f ∷ kept_of fs → may_be_kept (f ∷ kept_of fs) ≡ false
-
--- of frames and more of them those are kept that are kept of the kept ones and those more
-abbrev pub KeptGoOn : Type 0
-KeptGoOn = (fs more : List (ℕ × List Instr)) → kept_of (fs ++ more) ≡ kept_of (kept_of fs ++ more)
-
--- the frames above a stamp are kept exactly where no frame that is gone has a higher one
-abbrev pub CoversByStamp : Type 0
-CoversByStamp = (h : History) → Legal h → (gone : List (ℕ × List Instr)) → frames h ≡ gone ++ kept h → (t : ℕ) → (last_stamp_from 0 gone ≤ t) ↔ Covers h t

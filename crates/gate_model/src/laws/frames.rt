@@ -1,7 +1,7 @@
 //! Laws of glyph buffers, of what a frame may cost, and of the frames that are kept.
 
 ghost use Rattle.gate_model.specs.session.FrameLaws.{ChangesOfFewLines, HeldAreNotNew, LayersAreDrawn, NewKeysAreAdded, NothingIsLayers, SameKeysAreEqual, SamenessGoesOn};
-ghost use Rattle.gate_model.specs.session.Kept.{CoversByStamp, KeptAreAll, KeptAreFew, KeptAreLast, KeptGoOn};
+ghost use Rattle.gate_model.specs.session.KeptLaws.{CoveredLackFew, CoversByStamp, KeptAreAll, KeptAreFew, KeptAreLast, KeptGoOn};
 
 /// Layers of a screen and its buffers show the picture of the screen, and no layers at all are those of
 /// a screen without places (this project's own).
@@ -39,7 +39,8 @@ pub fn kept_are_last()
 {}
 
 /// Whether every frame above a stamp is kept is one comparison, with the last stamp of those that are gone
-/// (this project's own).
+/// (this project's own). A viewer for whom they are lacks at most 256.
 pub fn covers_by_stamp()
-    ensures { CoversByStamp }
+    ensures stamp { CoversByStamp }
+    ensures few { CoveredLackFew }
 {}

@@ -54,7 +54,7 @@ draw-requires-clause-coloured c =
     colours_of h c.in_ok-heard.heard.host (at h).shift (bytes h ++ c.args.bytes.now) (c.in_ok-heard.ensures h stood).host
 
 pub put-requires : goal.put-requires
-put-requires c = omega (arith, (small (state c.self.inside) c.self.invariant.0 c.self.invariant.1).frames)
+put-requires c = omega (arith, c.next_stamp-stamp.ensures, c.stamp.ensures)
 
 pub feed-requires : goal.feed-requires
 feed-requires c =

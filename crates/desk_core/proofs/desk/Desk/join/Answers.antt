@@ -1,4 +1,4 @@
-use Rattle.std.proofs.Common.{◌≡◌, ℕ, ◌+◌, ◌++◌, ◌∙◌, refl, ap, sym, subst, arith}
+use Rattle.std.proofs.Common.{◌≡◌, ◌++◌, ◌∙◌, ap, sym, subst, arith}
 use Rattle.std.specs.Prelude.{Result, Err}
 use Rattle.std.proofs.lemmas.Result.{err_from_is_err_and}
 use Rattle.gate_model.specs.declared.event.Event.TheVariants.{Join}
@@ -21,8 +21,16 @@ returns-in_err-role-clause-step c = λ h stood.
     subst (λ (r : Result Joined JoinRefusal). Ended h (Join c.args.asked) (join_answer r) c.args.self.now c.args.self.now w w) (sym e)
     (join_stops c.args.self.now h c.args.asked c.in_err-role.field-0.0 w stood (c.in_err-role.ensures h stood))
 
-pub join-requires : goal.join-requires
-join-requires c =
+-- no picture, for want of memory
+pub seat-requires-clause-few_live : goal.seat-requires-clause-few_live
+seat-requires-clause-few_live c =
+    let h = c.self.invariant.0 in
+    let s : Stands (state c.self.inside) h = c.self.invariant.1 in
+    let admits = c.in_ok-role.ensures h (subst (λ (k : DeskState). Stands k h) c.self.view_is s) in
+    omega (arith, s.book.live, (join_goes h c.args.asked admits.0).live)
+
+pub add-requires : goal.add-requires
+add-requires c =
     let d = state c.self.inside in
     let h = c.self.invariant.0 in
     let s : Stands d h = c.self.invariant.1 in
@@ -34,9 +42,10 @@ invariant_of-self-2 c =
     let d = state c.self.inside in
     let h = c.self.invariant.0 in
     let s : Stands d h = c.self.invariant.1 in
-    let admits = c.in_ok-role.ensures h (subst (λ (k : DeskState). Stands k h) c.self.view_is s) in
-    let a = added_join d h c.args.asked c.in_ok-role.role (c.joined-viewer.result + 1) c.stamp-stamp.result c.join.new.self c.seat.new.seats _ c.args.into.now.items c.seat.new.into.items s admits.0 admits.1
-    (ap (λ (n : ℕ). n + 1) c.joined-viewer.ensures) c.stamp-stamp.ensures c.join.ensures c.in_ok-seat.ensures.added refl refl c.in_ok-seat.ensures.appended in
+    let stood : Stands c.args.self.now h = subst (λ (k : DeskState). Stands k h) c.self.view_is s in
+    let admits = c.in_ok-role.ensures h stood in
+    let a = added_join d h c.args.asked c.in_ok-role.role c.in_ok-viewer.viewer c.stamp-stamp.result c.in_ok-first.first c.add.new.self c.seat.new.book c.args.into.now.items c.seat.new.into.items s admits.0 admits.1 (c.in_ok-first.ensures h stood)
+    c.in_ok-viewer.ensures.number c.stamp-stamp.ensures c.add.ensures c.in_ok-viewer.ensures.added c.in_ok-viewer.ensures.appended in
     (a.added ++ h, a.stands)
 
 pub returns-clause-step : goal.returns-clause-step
@@ -44,8 +53,8 @@ returns-clause-step c = λ h stood.
     let d = state c.self.inside in
     let s : Stands d h = subst (λ (k : DeskState). Stands k h) (sym c.self.view_is) stood in
     let admits = c.in_ok-role.ensures h stood in
-    added_join d h c.args.asked c.in_ok-role.role (c.joined-viewer.result + 1) c.stamp-stamp.result c.join.new.self c.seat.new.seats _ c.args.into.now.items c.seat.new.into.items s admits.0 admits.1
-    (ap (λ (n : ℕ). n + 1) c.joined-viewer.ensures) c.stamp-stamp.ensures c.join.ensures c.in_ok-seat.ensures.added refl refl c.in_ok-seat.ensures.appended
+    added_join d h c.args.asked c.in_ok-role.role c.in_ok-viewer.viewer c.stamp-stamp.result c.in_ok-first.first c.add.new.self c.seat.new.book c.args.into.now.items c.seat.new.into.items s admits.0 admits.1 (c.in_ok-first.ensures h stood)
+    c.in_ok-viewer.ensures.number c.stamp-stamp.ensures c.add.ensures c.in_ok-viewer.ensures.added c.in_ok-viewer.ensures.appended
 
 pub returns-clause-few : goal.returns-clause-few
 returns-clause-few c =
@@ -53,4 +62,4 @@ returns-clause-few c =
     let h = c.self.invariant.0 in
     let s : Stands d h = c.self.invariant.1 in
     let admits = c.in_ok-role.ensures h (subst (λ (k : DeskState). Stands k h) c.self.view_is s) in
-    omega (arith, ap (λ k. k.entries) c.join.ensures, stays_few d h s (join_goes h c.args.asked admits.0).goes)
+    omega (arith, ap (λ k. k.entries) c.add.ensures, stays_few d h s (join_goes h c.args.asked admits.0).goes)

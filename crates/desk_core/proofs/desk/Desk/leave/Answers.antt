@@ -11,11 +11,11 @@ add-requires c = counts_on (state c.self.inside) c.self.invariant.0 c.self.invar
 pub invariant_of-self : goal.invariant_of-self
 invariant_of-self c =
     let h = c.self.invariant.0 in
-    let a = added_leave (state c.self.inside) h c.args.viewer c.add.new.self c.remove.new.self c.self.invariant.1 (sym c.is_live.ensures ∙ c.if-not-is_live.false) c.add.ensures c.remove.ensures in
+    let a = added_leave (state c.self.inside) h c.args.viewer c.add.new.self c.remove.new.self c.self.invariant.1 (sym c.is_live.ensures.live ∙ c.if-not-is_live.false) c.add.ensures c.remove.ensures in
     (a.added ++ h, a.stands)
 
 pub returns-clause-step : goal.returns-clause-step
 returns-clause-step c = λ h stood.
     let d = state c.self.inside in
     let s : Stands d h = subst (λ (k : DeskState). Stands k h) (sym c.self.view_is) stood in
-    added_leave d h c.args.viewer c.add.new.self c.remove.new.self s (sym c.is_live.ensures ∙ c.if-not-is_live.false) c.add.ensures c.remove.ensures
+    added_leave d h c.args.viewer c.add.new.self c.remove.new.self s (sym c.is_live.ensures.live ∙ c.if-not-is_live.false) c.add.ensures c.remove.ensures

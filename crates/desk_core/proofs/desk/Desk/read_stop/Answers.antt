@@ -9,7 +9,7 @@ returns-then-ended c = λ h stood.
     let d = state c.self.inside in
     let v = c.args.viewer in
     let s : Stands d h = subst (λ (k : DeskState). Stands k h) (sym c.self.view_is) stood in
-    let there = sym c.is_live.ensures ∙ c.if-not-is_live.false in
+    let there = sym c.is_live.ensures.live ∙ c.if-not-is_live.false in
     let over = ended_is d h v s there c.ended.result c.ended.ensures in
     sym (read_is_over d h v s there (over ∙ c.if-ended.true))
 
@@ -18,7 +18,7 @@ returns-then-is_some c = λ h stood.
     let d = state c.self.inside in
     let v = c.args.viewer in
     let s : Stands d h = subst (λ (k : DeskState). Stands k h) (sym c.self.view_is) stood in
-    let there = sym c.is_live.ensures ∙ c.if-not-is_live.false in
+    let there = sym c.is_live.ensures.live ∙ c.if-not-is_live.false in
     let over = ended_is d h v s there c.ended.result c.ended.ensures in
     sym (read_is_last d h v s there (over ∙ c.if-ended.false) (sym c.is_some.ensures ∙ c.if-is_some.true))
 
@@ -27,7 +27,7 @@ returns-then-position-stamp c = λ h stood.
     let d = state c.self.inside in
     let v = c.args.viewer in
     let s : Stands d h = subst (λ (k : DeskState). Stands k h) (sym c.self.view_is) stood in
-    let there = sym c.is_live.ensures ∙ c.if-not-is_live.false in
+    let there = sym c.is_live.ensures.live ∙ c.if-not-is_live.false in
     let over = ended_is d h v s there c.ended.result c.ended.ensures in
     sym (read_is_empty d h v s there (over ∙ c.if-ended.false) (sym c.is_some.ensures ∙ c.if-is_some.false) (position_is d h v s there c.position.result c.position.ensures ∙ (c.if-position-stamp.true ∙ c.stamp.ensures)))
 
@@ -36,7 +36,7 @@ returns-then-is_full c = λ h stood.
     let d = state c.self.inside in
     let v = c.args.viewer in
     let s : Stands d h = subst (λ (k : DeskState). Stands k h) (sym c.self.view_is) stood in
-    let there = sym c.is_live.ensures ∙ c.if-not-is_live.false in
+    let there = sym c.is_live.ensures.live ∙ c.if-not-is_live.false in
     let over = ended_is d h v s there c.ended.result c.ended.ensures in
     rw c.entries-entries.ensures (sym (read_is_worn d h v s there (over ∙ c.if-ended.false) (sym c.is_some.ensures ∙ c.if-is_some.false) (λ at. c.if-position-stamp.false (sym (position_is d h v s there c.position.result c.position.ensures) ∙ (at ∙ sym c.stamp.ensures))) (sym c.is_full.ensures ∙ c.if-is_full.true)))
 
@@ -45,6 +45,6 @@ returns c = λ h stood.
     let d = state c.self.inside in
     let v = c.args.viewer in
     let s : Stands d h = subst (λ (k : DeskState). Stands k h) (sym c.self.view_is) stood in
-    let there = sym c.is_live.ensures ∙ c.if-not-is_live.false in
+    let there = sym c.is_live.ensures.live ∙ c.if-not-is_live.false in
     let over = ended_is d h v s there c.ended.result c.ended.ensures in
     sym (read_is_allowed d h v s there (over ∙ c.if-ended.false) (sym c.is_some.ensures ∙ c.if-is_some.false) (λ at. c.if-position-stamp.false (sym (position_is d h v s there c.position.result c.position.ensures) ∙ (at ∙ sym c.stamp.ensures))) (sym c.is_full.ensures ∙ c.if-is_full.false))

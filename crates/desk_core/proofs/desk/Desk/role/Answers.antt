@@ -9,5 +9,5 @@ pub returns : goal.returns
 returns c = λ h stood.
     let d = state c.self.inside in
     let s : Stands d h = subst (λ (k : DeskState). Stands k h) (sym c.self.view_is) stood in
-    let there : book.is_live d.seats.book c.args.viewer ≡ true = subst (λ (k : DeskState). book.is_live k.seats.book c.args.viewer ≡ true) (sym c.self.view_is) c.requires in
+    let there : book.is_live d.book c.args.viewer ≡ true = subst (λ (k : DeskState). book.is_live k.book c.args.viewer ≡ true) (sym c.self.view_is) c.requires in
     role_is d h c.args.viewer s there c.role.result c.role.ensures

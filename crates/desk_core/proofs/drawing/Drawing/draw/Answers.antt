@@ -13,7 +13,7 @@ returns-then-holds_all-clause-draws c =
     let same = no_buffer old.keys c.in_ok-shown.shown.keys c.frame.new.cache.keys (c.holds_all.ensures.held c.if-holds_all.true) (c.holds_all.ensures.few c.if-holds_all.true) frame.keys in
     subst (λ (d : DrawingState). Draws d t c.args.stamp c.in_ok-frame.frame record { screen = c.in_ok-shown.shown; keys = d.keys }) c.self.view_is
     (drawn_over old record { screen = c.in_ok-shown.shown; keys = old.keys } t c.args.stamp c.shift-shift.result c.in_ok-frame.frame c.in_ok-shown.shown c.frame.new.cache.keys
-    c.in_ok-shown.ensures c.shift-shift.ensures few refl same frame.shape frame.renews frame.keys frame.cost)
+    c.in_ok-shown.ensures c.shift-shift.ensures few refl same frame.shape frame.renews frame.stays frame.keys frame.cost)
 
 pub returns-clause-draws : goal.returns-clause-draws
 returns-clause-draws c =
@@ -25,4 +25,4 @@ returns-clause-draws c =
     let is : copied ≡ c.args.self.now = ap (λ (k : CacheState). record { screen = c.self.inside.screen; keys = k.keys }) c.in_ok-cache.ensures.same ∙ c.self.view_is in
     subst (λ (d : DrawingState). Draws d t c.args.stamp c.in_ok-frame-2.frame new) is
     (drawn_over copied new t c.args.stamp c.shift-shift.result c.in_ok-frame-2.frame c.in_ok-shown.shown c.frame-2.new.cache.keys
-    c.in_ok-shown.ensures c.shift-shift.ensures few refl refl frame.shape frame.renews frame.keys frame.cost)
+    c.in_ok-shown.ensures c.shift-shift.ensures few refl refl frame.shape frame.renews frame.stays frame.keys frame.cost)

@@ -1,0 +1,117 @@
+-- What paints a cell is of a frame's shape, in range and short.
+use Rattle.std.proofs.Common.{◌≡◌, ℕ, zero, suc, ◌+◌, ◌^◌, ◌<◌, ◌≤◌, ℤ, List, [], ◌∷◌, ◌++◌, length, map, Bool, true, false, ◌&&◌, nat_lt, get_or, slice_index, slice_index_or, refl, sym, subst, arith}
+use Rattle.std.specs.List.{list_all, All}
+use Rattle.std.proofs.lemmas.Bool.Decides.{nat_tests}
+use Rattle.std.proofs.lemmas.List.{length-append, length-map}
+use Rattle.std.proofs.lemmas.List.Elements.{All-head, All-tail}
+use Rattle.gate_model.specs.declared.instr.Instr.{Instr}
+use Rattle.gate_model.specs.declared.instr.Instr.TheVariants.{Size, Rect, Cfill, Copy, Sync, Disconnect, Error}
+use Rattle.gate_model.specs.declared.key.Key.{Key}
+use Rattle.gate_model.specs.picture.Palette.{colour_of, palette}
+use Rattle.gate_model.specs.picture.Shape.{AreReadable, Draws, IsInRange, IsLayer, without_layer}
+use Rattle.gate_model.proofs.Readable.{readable_both}
+use Rattle.glyph_table.specs.declared.patch.Patch.{Patch}
+use Rattle.glyph_table.specs.GlyphRects.{IsInside, rects}
+use Rattle.glyph_table.proofs.GlyphRects.{rects_few, rects_inside}
+use Rattle.glyph_strokes.specs.Strokes.{covering, fill, inked, rect_at}
+use Rattle.glyph_strokes.proofs.Filled.{equal_self}
+
+-- ---- one list after another draws what both do, and what is traced is filled
+module _ (cols rows : ℕ) where
+  pub draws_both : (unfilled : List ℤ) (first second : List Instr) → Draws cols rows unfilled first → Draws cols rows [] second → Draws cols rows unfilled (first ++ second)
+  draws_both unfilled [] second d e = subst (λ (u : List ℤ). Draws cols rows u second) (sym d) e
+  draws_both unfilled (Size k w h ∷ is) second d e = (d.0, draws_both unfilled is second d.1 e)
+  draws_both unfilled (Rect k x y w h ∷ is) second d e = draws_both (k ∷ unfilled) is second d e
+  draws_both unfilled (Cfill k red green blue ∷ is) second d e = (d.0, draws_both (without_layer k unfilled) is second d.1 e)
+  draws_both unfilled (Copy k x y w h to to_x to_y ∷ is) second d e = draws_both unfilled is second d e
+  draws_both unfilled (Sync t ∷ is) second d e = absurd d
+  draws_both unfilled (Disconnect ∷ is) second d e = absurd d
+  draws_both unfilled (Error status ∷ is) second d e = absurd d
+
+  -- a layer, so many times
+  times : ℕ → ℤ → List ℤ
+  times zero k = []
+  times (suc n) k = k ∷ times n k
+
+  none_left : (n : ℕ) (k : ℤ) → without_layer k (times n k) ≡ []
+  unfolding times
+  none_left zero k = refl
+  none_left (suc n) k = rw (equal_self k) (none_left n k)
+
+  rects_filled : (n : ℕ) (k : ℤ) (left top : ℕ) (ps : List Patch) (ink : ℕ) → Draws cols rows (times (suc n) k) (map (rect_at k left top) ps ++ fill k ink ∷ [])
+  unfolding times fill
+  rects_filled n k left top [] ink = (rw (equal_self k) refl, none_left (suc n) k)
+  rects_filled n k left top (p ∷ ps) ink = rects_filled (suc n) k left top ps ink
+
+  inked_draws : (k : ℤ) (left top : ℕ) (ps : List Patch) (ink : ℕ) → Draws cols rows [] (inked k left top ps ink)
+  unfolding inked times
+  inked_draws k left top [] ink = refl
+  inked_draws k left top (p ∷ ps) ink = rects_filled 0 k left top ps ink
+
+  pub covering_draws : (k : ℤ) (left top : ℕ) (key : Key) → Draws cols rows [] (covering k left top key)
+  unfolding covering fill times
+  covering_draws k left top key =
+      (rw (equal_self k) refl, subst (λ (u : List ℤ). Draws cols rows u (inked k left top (rects key.face key.under) key.ink)) (sym (none_left 1 k)) (inked_draws k left top (rects key.face key.under) key.ink))
+
+-- ---- colours
+is_colour : List ℕ → Bool
+is_colour rgb = nat_lt (slice_index rgb 0) 256 && (nat_lt (slice_index rgb 1) 256 && nat_lt (slice_index rgb 2) 256)
+
+both : (a b : Bool) → (a && b) ≡ true → (a ≡ true) × (b ≡ true)
+both true b e = (refl, e)
+both false b e = absurd (cc)
+
+at_place : (p : List ℕ → Bool) (rows : List (List ℕ)) (i : ℕ) (d : List ℕ) → list_all p rows ≡ true → p d ≡ true → p (get_or rows i d) ≡ true
+at_place p [] i d e h = h
+at_place p (x ∷ xs) zero d e h = (both (p x) (list_all p xs) e).0
+at_place p (x ∷ xs) (suc i) d e h = at_place p xs i d (both (p x) (list_all p xs) e).1 h
+
+from_lt : (a b : ℕ) → nat_lt a b ≡ true → a < b
+from_lt a b e = grind (arith, nat_tests)
+
+palette_is : (index : ℕ) → is_colour (slice_index_or palette index (0 ∷ 0 ∷ 0 ∷ [])) ≡ true
+unfolding is_colour
+palette_is index = at_place is_colour palette index (0 ∷ 0 ∷ 0 ∷ []) refl refl
+
+fill_readable : (k : ℤ) (index : ℕ) → IsLayer k → IsInRange (fill k index)
+unfolding fill colour_of is_colour
+fill_readable k index layer =
+    let rgb = slice_index_or palette index (0 ∷ 0 ∷ 0 ∷ []) in
+    let p = both (nat_lt (slice_index rgb 0) 256) (nat_lt (slice_index rgb 1) 256 && nat_lt (slice_index rgb 2) 256) (palette_is index) in
+    let q = both (nat_lt (slice_index rgb 1) 256) (nat_lt (slice_index rgb 2) 256) p.1 in
+    (layer, from_lt (slice_index rgb 0) 256 p.0, from_lt (slice_index rgb 1) 256 q.0, from_lt (slice_index rgb 2) 256 q.1)
+
+-- ---- places
+small : (n : ℕ) → n ≤ 65536 → n < 2 ^ 32
+small n le = omega arith
+
+rect_readable : (k : ℤ) (left top : ℕ) (p : Patch) → IsLayer k → left ≤ 4096 → top ≤ 4096 → IsInside p → IsInRange (rect_at k left top p)
+rect_readable k left top p layer l t is =
+    (layer, small (left + p.x) (omega (arith, l, is.in_columns)), small (top + p.y) (omega (arith, t, is.in_rows)), small p.width (omega (arith, is.in_columns)), small p.height (omega (arith, is.in_rows)))
+
+rects_readable : (k : ℤ) (left top : ℕ) (ps : List Patch) → IsLayer k → left ≤ 4096 → top ≤ 4096 → All IsInside ps → AreReadable (map (rect_at k left top) ps)
+rects_readable k left top [] layer l t all = tt
+rects_readable k left top (p ∷ ps) layer l t all = (rect_readable k left top p layer l t (All-head IsInside p ps all), rects_readable k left top ps layer l t (All-tail IsInside p ps all))
+
+inked_readable : (k : ℤ) (left top : ℕ) (ps : List Patch) (ink : ℕ) → IsLayer k → left ≤ 4096 → top ≤ 4096 → All IsInside ps → AreReadable (inked k left top ps ink)
+unfolding inked
+inked_readable k left top [] ink layer l t all = tt
+inked_readable k left top (p ∷ ps) ink layer l t all =
+    readable_both (map (rect_at k left top) (p ∷ ps)) (fill k ink ∷ []) (rects_readable k left top (p ∷ ps) layer l t all) (fill_readable k ink layer, tt)
+
+pub covering_readable : (k : ℤ) (left top : ℕ) (key : Key) → IsLayer k → left ≤ 4096 → top ≤ 4096 → AreReadable (covering k left top key)
+unfolding covering
+covering_readable k left top key layer l t = (
+  (layer, small left (omega (arith, l)), small top (omega (arith, t)), small 8 (omega arith), small 16 (omega arith)),
+  (fill_readable k key.paper layer, inked_readable k left top (rects key.face key.under) key.ink layer l t (rects_inside key.face key.under)),
+)
+
+-- ---- lengths
+inked_length : (k : ℤ) (left top : ℕ) (ps : List Patch) (ink : ℕ) → length (inked k left top ps ink) ≤ length ps + 1
+unfolding inked
+inked_length k left top [] ink = omega arith
+inked_length k left top (p ∷ ps) ink = omega (arith, length-append (map (rect_at k left top) (p ∷ ps)) (fill k ink ∷ []), length-map (p ∷ ps) (rect_at k left top))
+
+pub covering_length : (k : ℤ) (left top : ℕ) (key : Key) → length (covering k left top key) ≤ 24
+unfolding covering
+covering_length k left top key = omega (arith, inked_length k left top (rects key.face key.under) key.ink, rects_few key.face key.under)

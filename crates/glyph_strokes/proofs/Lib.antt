@@ -1,0 +1,4 @@
+-- In reading order.
+mod Inks
+pub mod Filled
+pub mod Allowed

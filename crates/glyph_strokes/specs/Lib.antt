@@ -1,0 +1,2 @@
+-- How a key is painted over a cell.
+pub mod Strokes

@@ -1,0 +1,6 @@
+-- In reading order.
+mod Cells
+mod Made
+mod Allowed
+mod Ends
+mod Walking
