@@ -12,19 +12,21 @@ use Rattle.std.specs.Prelude.{◌⊎◌, ◌^◌}
 use Rattle.gate_outside.specs.Edge.{AtEnd, came, Rose}
 use Rattle.gate_script.specs.declared.session.Session.{Session}
 use Rattle.gate_outside.proofs.Moved.{came-none}
-use Rattle.gate_script.specs.declared.form.Form.{Form}
-use Rattle.gate_script.specs.declared.form.Form.TheVariants.{Draw, Script}
+use Rattle.script_lines.specs.declared.form.Form.{Form}
+use Rattle.script_lines.specs.declared.form.Form.TheVariants.{Draw, Script}
 use Rattle.gate_script.specs.declared.run.Run.{Run}
-use Rattle.gate_script.specs.declared.size.Size.{Size}
+use Rattle.script_lines.specs.declared.size.Size.{Size}
 use Rattle.gate_script.specs.declared.stop.Stop.{Stop}
 use Rattle.gate_script.specs.declared.stop.Stop.TheVariants.{ReadFault, WriteFault, NoMemory, Refused}
-use Rattle.gate_script.specs.Pieces.{first_piece, whole_pieces, all_pieces, last_piece}
-use Rattle.gate_script.specs.Lines.{Line, server, read_untold, acknowledge, done, draw_lines}
-use Rattle.gate_script.specs.Grammar.{ending, judged, total, is_start, script_lines, lines_of, most_of, whole_lines, all_lines}
+use Rattle.script_lines.specs.Pieces.{first_piece, whole_pieces, all_pieces, last_piece}
+use Rattle.script_lines.specs.declared.line.Line.TheVariants.{Server, Read, Acknowledge, Done}
+use Rattle.script_lines.specs.declared.order.Order.{Order}
+use Rattle.script_lines.specs.declared.order.Order.TheVariants.{Told as told, Untold as untold}
+use Rattle.script_lines.specs.Lines.{draw_lines}
+use Rattle.script_lines.specs.Grammar.{ending, judged, total, starts, script_lines, lines_of, most_of, whole_lines, all_lines}
+use Rattle.gate_script.specs.Sinks.{Sinks}
 use Rattle.gate_script.specs.Running.{StoppedIn, HasDone, HasCut, LastEnds, AllDone, RunEnds, AtEndUnless, IsReady, IsReadyFor}
-use Rattle.gate_script.proofs.TakenLaws.{tells}
-use Rattle.gate_script.proofs.PieceLaws.{pieces_are_read, begun}
-use Rattle.gate_script.proofs.ReportLaws.{whole}
+use Rattle.script_lines.proofs.PieceLaws.{pieces_are_read, begun}
 use Rattle.gate_script.proofs.RunLaws.{stopped-later, all_done}
 
 reverse-cons : {A : Type 0} (x : A) (xs : List A) → reverse (x ∷ xs) ≡ reverse xs ++ x ∷ []
@@ -40,26 +42,12 @@ nothing-whole (Draw size) = refl
 nothing-whole (Script entries) = refl
 
 -- all that was done so far
-pub done_so_far : (form : Form) (pieces : List (List ℕ)) (r : Run) (a0 f0 a f : Option (List ℕ)) → HasDone form pieces r a0 f0 a f → AllDone (lines_of form pieces) a0 f0 a f
-done_so_far (Draw size) pieces r a0 f0 a f had = all_done (draw_lines size pieces) 0 a0 f0 a f r.session had.stays
-done_so_far (Script entries) pieces r a0 f0 a f had = all_done (script_lines entries pieces) r.moment a0 f0 a f r.session had.does.stays
+pub done_so_far : (form : Form) (pieces : List (List ℕ)) (r : Run) (b n : Sinks) → HasDone form pieces r b n → AllDone (lines_of form pieces) b n
+done_so_far form pieces r b n had = all_done (lines_of form pieces) r b n had.at
 
--- a call stopped for want of memory after these lines
-pub short_after : (lines all : List Line) (a0 f0 a f : Option (List ℕ)) → AllDone lines a0 f0 a f → IsLater lines all → StoppedIn all NoMemory a0 f0 a f
-short_after lines all a0 f0 a f d more = record {
-  lines = lines;
-  play = d.play;
-  answers = d.told.answers;
-  framings = d.told.framings;
-  own_a = d.told.answers;
-  own_f = d.told.framings;
-  first = more;
-  tells = tells lines d.play d.told.answers d.told.framings d.told.bytes d.told.plays d.lawful;
-  answers_begin = whole d.told.answers;
-  framings_begin = whole d.told.framings;
-  answered = d.told.answered;
-  framed = d.told.framed;
-}
+-- a call stopped for want of memory after these orders
+pub short_after : (orders all : List Order) (b n : Sinks) → AllDone orders b n → IsLater orders all → StoppedIn all NoMemory b n
+short_after orders all b n d more = record { orders = orders; first = more; done = d }
 
 -- the lines of more pieces go on with those of these
 pub lines-later : (form : Form) (ps qs : List (List ℕ)) → IsLater ps qs → IsLater (lines_of form ps) (lines_of form qs)
@@ -67,22 +55,22 @@ lines-later form ps qs p = subst (λ (l : List (List ℕ)). IsLater (lines_of fo
   where
     draws : (size : Size) (ms : List (List ℕ)) → IsLater (draw_lines size ps) (draw_lines size (ms ++ ps))
     draws size [] = ([], refl)
-    draws size (m ∷ ms) = let q = draws size ms in (acknowledge 1 ∷ read_untold 1 ∷ server m ∷ q.0, ap (λ (l : List Line). acknowledge 1 ∷ read_untold 1 ∷ server m ∷ l) q.1)
+    draws size (m ∷ ms) = let q = draws size ms in (untold (Acknowledge 1) ∷ untold (Read 1) ∷ told (Server m) ∷ q.0, ap (λ (l : List Order). untold (Acknowledge 1) ∷ untold (Read 1) ∷ told (Server m) ∷ l) q.1)
 
     scripts : (entries : ℕ) (ms : List (List ℕ)) → IsLater (script_lines entries ps) (script_lines entries (ms ++ ps))
     scripts entries [] = ([], refl)
     scripts entries (m ∷ ms) =
         let q = scripts entries ms in
-        let line : Line = judged entries (list_any is_start (script_lines entries (ms ++ ps))) (total (ms ++ ps)) m in
-        (line ∷ q.0, ap (λ (l : List Line). line ∷ l) q.1)
+        let order : Order = told (judged entries (list_any starts (script_lines entries (ms ++ ps))) (total (ms ++ ps)) m) in
+        (order ∷ q.0, ap (λ (l : List Order). order ∷ l) q.1)
 
     more : (form : Form) (ms : List (List ℕ)) → IsLater (lines_of form ps) (lines_of form (ms ++ ps))
     more (Draw size) ms = draws size ms
     more (Script entries) ms = scripts entries ms
 
 -- the lines at the end of the input go on with the others
-ending-later : (form : Form) (lines : List Line) → IsLater lines (ending form lines)
-ending-later (Draw size) lines = (done ∷ [], refl)
+ending-later : (form : Form) (lines : List Order) → IsLater lines (ending form lines)
+ending-later (Draw size) lines = (told Done ∷ [], refl)
 ending-later (Script entries) lines = ([], refl)
 
 module _ (form : Form) where
@@ -124,36 +112,36 @@ module _ (form : Form) where
         last [] lt = absurd (omega (arith, lt))
         last (b ∷ bs) lt = refl
 
-  module _ (before piece : List ℕ) (r r' : Run) (a0 f0 a a' f f' : Option (List ℕ)) (h : HasCut form before piece r a0 f0 a f) where
+  module _ (before piece : List ℕ) (r r' : Run) (b n n' : Sinks) (h : HasCut form before piece r b n) where
     -- no memory for the bytes of the piece
-    pub not_kept : (bytes : List ℕ) → StoppedIn (whole_lines form (before ++ bytes)) NoMemory a0 f0 a f
-    not_kept bytes = short_after (lines_of form h.pieces) (whole_lines form (before ++ bytes)) a0 f0 a f (done_so_far form h.pieces r a0 f0 a f h.has_done)
+    pub not_kept : (bytes : List ℕ) → StoppedIn (whole_lines form (before ++ bytes)) NoMemory b n
+    not_kept bytes = short_after (lines_of form h.pieces) (whole_lines form (before ++ bytes)) b n (done_so_far form h.pieces r b n h.has_done)
         (lines-later form h.pieces (reverse (whole_pieces (most_of form) (before ++ bytes))) (pieces-later before piece h.pieces h.cut bytes))
 
     -- the piece became whole, and was done
-    pub piece_done : (front : List ℕ) (own rest : List ℕ) → own ≡ piece ++ front → rest ≡ [] → first_piece (most_of form) (piece ++ front) ≡ Some ((piece ++ front) ∷ [], []) → HasDone form (own ∷ h.pieces) r' a0 f0 a' f' → HasCut form (before ++ front) rest r' a0 f0 a' f'
+    pub piece_done : (front : List ℕ) (own rest : List ℕ) → own ≡ piece ++ front → rest ≡ [] → first_piece (most_of form) (piece ++ front) ≡ Some ((piece ++ front) ∷ [], []) → HasDone form (own ∷ h.pieces) r' b n' → HasCut form (before ++ front) rest r' b n'
     piece_done front own rest own_is rest_is is_whole had = record {
       pieces = (piece ++ front) ∷ h.pieces;
       cut = cut-whole before piece h.pieces h.cut front is_whole ∙ ap (λ (l : List ℕ). (reverse ((piece ++ front) ∷ h.pieces), l)) (sym rest_is);
       begun = ap (first_piece (most_of form)) rest_is ∙ nothing-whole form;
-      has_done = subst (λ (l : List ℕ). HasDone form (l ∷ h.pieces) r' a0 f0 a' f') own_is had;
+      has_done = subst (λ (l : List ℕ). HasDone form (l ∷ h.pieces) r' b n') own_is had;
     }
 
     -- it became whole, and a call stopped in it
     pub piece_stopped : (bytes : List ℕ) (count : ℕ) (own : List ℕ) (stop : Stop) → own ≡ piece ++ take count bytes → first_piece (most_of form) (piece ++ take count bytes) ≡ Some ((piece ++ take count bytes) ∷ [], [])
-        → StoppedIn (lines_of form (own ∷ h.pieces)) stop a0 f0 a' f' → StoppedIn (whole_lines form (before ++ bytes)) stop a0 f0 a' f'
+        → StoppedIn (lines_of form (own ∷ h.pieces)) stop b n' → StoppedIn (whole_lines form (before ++ bytes)) stop b n'
     piece_stopped bytes count own stop own_is is_whole s =
         let front : List ℕ = take count bytes in
         let rest : List ℕ = drop count bytes in
         let all : (before ++ front) ++ rest ≡ before ++ bytes = append_assoc before front rest ∙ ap (λ (l : List ℕ). before ++ l) (take-append-drop count bytes) in
         let cut = cut-whole before piece h.pieces h.cut front is_whole in
-        stopped-later (lines_of form ((piece ++ front) ∷ h.pieces)) (whole_lines form (before ++ bytes)) stop a0 f0 a' f'
+        stopped-later (lines_of form ((piece ++ front) ∷ h.pieces)) (whole_lines form (before ++ bytes)) stop b n'
         (lines-later form ((piece ++ front) ∷ h.pieces) (reverse (whole_pieces (most_of form) (before ++ bytes)))
         (subst (λ (l : List ℕ). IsLater ((piece ++ front) ∷ h.pieces) (reverse (whole_pieces (most_of form) l))) all (pieces-later (before ++ front) [] ((piece ++ front) ∷ h.pieces) cut rest)))
-        (subst (λ (l : List ℕ). StoppedIn (lines_of form (l ∷ h.pieces)) stop a0 f0 a' f') own_is s)
+        (subst (λ (l : List ℕ). StoppedIn (lines_of form (l ∷ h.pieces)) stop b n') own_is s)
 
     -- it isn't whole yet
-    pub piece_goes_on : (front own : List ℕ) → own ≡ piece ++ front → first_piece (most_of form) (piece ++ front) ≡ None → HasCut form (before ++ front) own r a0 f0 a f
+    pub piece_goes_on : (front own : List ℕ) → own ≡ piece ++ front → first_piece (most_of form) (piece ++ front) ≡ None → HasCut form (before ++ front) own r b n
     piece_goes_on front own own_is open_ = record {
       pieces = h.pieces;
       cut = cut-open before piece h.pieces h.cut front open_ ∙ ap (λ (l : List ℕ). (reverse h.pieces, l)) (sym own_is);
@@ -162,24 +150,24 @@ module _ (form : Form) where
     }
 
     -- the input ended with a piece
-    pub ended_whole : (own : List ℕ) (result : Result (Unit {0}) Stop) → own ≡ piece → length own ≡ 0 → LastEnds (ending form (lines_of form h.pieces)) result a0 f0 a' f' → LastEnds (all_lines form before) result a0 f0 a' f'
-    ended_whole own result is empty e = subst (λ (ps : List (List ℕ)). LastEnds (ending form (lines_of form ps)) result a0 f0 a' f') (sym (all-none before piece h.pieces h.cut (omega (arith, ap length is, empty)))) e
+    pub ended_whole : (own : List ℕ) (result : Result (Unit {0}) Stop) → own ≡ piece → length own ≡ 0 → LastEnds (ending form (lines_of form h.pieces)) result b n' → LastEnds (all_lines form before) result b n'
+    ended_whole own result is empty e = subst (λ (ps : List (List ℕ)). LastEnds (ending form (lines_of form ps)) result b n') (sym (all-none before piece h.pieces h.cut (omega (arith, ap length is, empty)))) e
 
     -- it ended in the midst of one
-    pub ended_amidst : (own : List ℕ) (result : Result (Unit {0}) Stop) → own ≡ piece → 0 < length own → LastEnds (ending form (lines_of form (own ∷ h.pieces))) result a0 f0 a' f' → LastEnds (all_lines form before) result a0 f0 a' f'
-    ended_amidst own result is some e = subst (λ (ps : List (List ℕ)). LastEnds (ending form (lines_of form ps)) result a0 f0 a' f') (ap (λ (l : List ℕ). l ∷ h.pieces) is ∙ sym (all-last before piece h.pieces h.cut (omega (arith, ap length is, some)))) e
+    pub ended_amidst : (own : List ℕ) (result : Result (Unit {0}) Stop) → own ≡ piece → 0 < length own → LastEnds (ending form (lines_of form (own ∷ h.pieces))) result b n' → LastEnds (all_lines form before) result b n'
+    ended_amidst own result is some e = subst (λ (ps : List (List ℕ)). LastEnds (ending form (lines_of form ps)) result b n') (ap (λ (l : List ℕ). l ∷ h.pieces) is ∙ sym (all-last before piece h.pieces h.cut (omega (arith, ap length is, some)))) e
 
-    pub stopped_amidst : (own : List ℕ) (stop : Stop) → own ≡ piece → 0 < length own → StoppedIn (lines_of form (own ∷ h.pieces)) stop a0 f0 a' f' → StoppedIn (all_lines form before) stop a0 f0 a' f'
-    stopped_amidst own stop is some s = subst (λ (ps : List (List ℕ)). StoppedIn (ending form (lines_of form ps)) stop a0 f0 a' f') (ap (λ (l : List ℕ). l ∷ h.pieces) is ∙ sym (all-last before piece h.pieces h.cut (omega (arith, ap length is, some))))
-        (stopped-later (lines_of form (own ∷ h.pieces)) (ending form (lines_of form (own ∷ h.pieces))) stop a0 f0 a' f' (ending-later form (lines_of form (own ∷ h.pieces))) s)
+    pub stopped_amidst : (own : List ℕ) (stop : Stop) → own ≡ piece → 0 < length own → StoppedIn (lines_of form (own ∷ h.pieces)) stop b n' → StoppedIn (all_lines form before) stop b n'
+    stopped_amidst own stop is some s = subst (λ (ps : List (List ℕ)). StoppedIn (ending form (lines_of form ps)) stop b n') (ap (λ (l : List ℕ). l ∷ h.pieces) is ∙ sym (all-last before piece h.pieces h.cut (omega (arith, ap length is, some))))
+        (stopped-later (lines_of form (own ∷ h.pieces)) (ending form (lines_of form (own ∷ h.pieces))) stop b n' (ending-later form (lines_of form (own ∷ h.pieces))) s)
 
     -- the source failed
-    pub read_failed : AllDone (whole_lines form before) a0 f0 a f
-    read_failed = subst (λ (ps : List (List ℕ)). AllDone (lines_of form ps) a0 f0 a f) (sym (ap (λ (q : List (List ℕ) × List ℕ). reverse q.0) h.cut ∙ reverse-reverse h.pieces)) (done_so_far form h.pieces r a0 f0 a f h.has_done)
+    pub read_failed : AllDone (whole_lines form before) b n
+    read_failed = subst (λ (ps : List (List ℕ)). AllDone (lines_of form ps) b n) (sym (ap (λ (q : List (List ℕ) × List ℕ). reverse q.0) h.cut ∙ reverse-reverse h.pieces)) (done_so_far form h.pieces r b n h.has_done)
 
   -- nothing was read yet
-  pub cut_nothing : (r : Run) (a0 f0 a f : Option (List ℕ)) (piece : List ℕ) → piece ≡ [] → HasDone form [] r a0 f0 a f → HasCut form [] piece r a0 f0 a f
-  cut_nothing r a0 f0 a f piece is had = record {
+  pub cut_nothing : (r : Run) (b n : Sinks) (piece : List ℕ) → piece ≡ [] → HasDone form [] r b n → HasCut form [] piece r b n
+  cut_nothing r b n piece is had = record {
     pieces = [];
     cut = read-unfinished (first_piece (most_of form)) (pieces_are_read (most_of form) (some_most form)) [] (nothing-whole form) ∙ ap (λ (l : List ℕ). ([], l)) (sym is);
     begun = ap (first_piece (most_of form)) is ∙ nothing-whole form;
@@ -187,23 +175,23 @@ module _ (form : Form) where
   }
 
   -- a call stopped in the bytes
-  pub run_stopped : (bytes : List ℕ) (left a0 f0 a f : Option (List ℕ)) (stop : Stop) → StoppedIn (whole_lines form bytes) stop a0 f0 a f → RunEnds form bytes left (Err stop) a0 f0 a f
-  run_stopped bytes left a0 f0 a f WriteFault s = inl s
-  run_stopped bytes left a0 f0 a f NoMemory s = inl s
-  run_stopped bytes left a0 f0 a f (Refused refused) s = inl s
-  run_stopped bytes left a0 f0 a f ReadFault s = absurd s
+  pub run_stopped : (bytes : List ℕ) (left : Option (List ℕ)) (Fault : Type 0) (b n : Sinks) (stop : Stop) → StoppedIn (whole_lines form bytes) stop b n → RunEnds form bytes left Fault (Err stop) b n
+  run_stopped bytes left Fault b n WriteFault s = inl s
+  run_stopped bytes left Fault b n NoMemory s = inl s
+  run_stopped bytes left Fault b n (Refused refused) s = inl s
+  run_stopped bytes left Fault b n ReadFault s = absurd s
 
   -- the input ended
-  pub run_finished : (bytes : List ℕ) (left a0 f0 a f : Option (List ℕ)) (result : Result (Unit {0}) Stop) → AtEnd left → LastEnds (all_lines form bytes) result a0 f0 a f → RunEnds form bytes left result a0 f0 a f
-  run_finished bytes left a0 f0 a f (Ok u) at_end e = (at_end, e)
-  run_finished bytes left a0 f0 a f (Err WriteFault) at_end e = inr (at_end, e)
-  run_finished bytes left a0 f0 a f (Err NoMemory) at_end e = inr (at_end, e)
-  run_finished bytes left a0 f0 a f (Err (Refused refused)) at_end e = inr (at_end, e)
-  run_finished bytes left a0 f0 a f (Err ReadFault) at_end e = absurd e
+  pub run_finished : (bytes : List ℕ) (left : Option (List ℕ)) (Fault : Type 0) (b n : Sinks) (result : Result (Unit {0}) Stop) → AtEnd left → LastEnds (all_lines form bytes) result b n → RunEnds form bytes left Fault result b n
+  run_finished bytes left Fault b n (Ok u) at_end e = (at_end, e)
+  run_finished bytes left Fault b n (Err WriteFault) at_end e = inr (at_end, e)
+  run_finished bytes left Fault b n (Err NoMemory) at_end e = inr (at_end, e)
+  run_finished bytes left Fault b n (Err (Refused refused)) at_end e = inr (at_end, e)
+  run_finished bytes left Fault b n (Err ReadFault) at_end e = absurd e
 
 -- nothing was read, for want of memory
-pub no_room : (form : Form) (piece : List ℕ) (r : Run) (left a0 f0 a f : Option (List ℕ)) → HasCut form [] piece r a0 f0 a f → RunEnds form [] left (Err NoMemory) a0 f0 a f
-no_room form piece r left a0 f0 a f h = inl (short_after (whole_lines form []) (whole_lines form []) a0 f0 a f (read_failed form [] piece r r a0 f0 a a f f h) ([], refl))
+pub no_room : (form : Form) (piece : List ℕ) (r : Run) (left : Option (List ℕ)) (Fault : Type 0) (b n : Sinks) → HasCut form [] piece r b n → RunEnds form [] left Fault (Err NoMemory) b n
+no_room form piece r left Fault b n h = inl (short_after (whole_lines form []) (whole_lines form []) b n (read_failed form [] piece r r b n n h) ([], refl))
 
 -- no bytes make no pieces
 pub no_pieces : (form : Form) → reverse (whole_pieces (most_of form) []) ≡ []
@@ -212,22 +200,29 @@ no_pieces form = ap (λ (q : List (List ℕ) × List ℕ). reverse q.0) (read-un
 pub no_piece : (form : Form) → first_piece (most_of form) [] ≡ None
 no_piece form = nothing-whole form
 
+-- a fault of the source that a part of the run met is one of the run
+pub fault_earlier : (form : Form) (bytes : List ℕ) (left : Option (List ℕ)) (Fault Fault' : Type 0) (stop : Stop) (b n : Sinks) → (Fault → Fault') → RunEnds form bytes left Fault (Err stop) b n → RunEnds form bytes left Fault' (Err stop) b n
+fault_earlier form bytes left Fault Fault' ReadFault b n more ends = (more ends.0, ends.1)
+fault_earlier form bytes left Fault Fault' WriteFault b n more ends = ends
+fault_earlier form bytes left Fault Fault' NoMemory b n more ends = ends
+fault_earlier form bytes left Fault Fault' (Refused refused) b n more ends = ends
+
 -- the last read gave nothing, and the input was finished
-pub read_ends : (form form1 form2 : Form) (some : Bool) (bytes piece : List ℕ) (r : Run) (left a0 f0 a a' f f' : Option (List ℕ)) (result : Result (Unit {0}) Stop) → form1 ≡ form → form2 ≡ form1 → some ≡ false
-    → AtEndUnless some left × HasCut form1 bytes piece r a0 f0 a f → (HasCut form2 bytes piece r a0 f0 a f → LastEnds (all_lines form2 bytes) result a0 f0 a' f') → RunEnds form bytes left result a0 f0 a' f'
-read_ends form form1 form2 some bytes piece r left a0 f0 a a' f f' result is1 is2 none h finish =
+pub read_ends : (form form1 form2 : Form) (some : Bool) (bytes piece : List ℕ) (r : Run) (left : Option (List ℕ)) (Fault : Type 0) (b n n' : Sinks) (result : Result (Unit {0}) Stop) → form1 ≡ form → form2 ≡ form1 → some ≡ false
+    → AtEndUnless some left × HasCut form1 bytes piece r b n → (HasCut form2 bytes piece r b n → LastEnds (all_lines form2 bytes) result b n') → RunEnds form bytes left Fault result b n'
+read_ends form form1 form2 some bytes piece r left Fault b n n' result is1 is2 none h finish =
     let both : form2 ≡ form = is2 ∙ is1 in
-    run_finished form bytes left a0 f0 a' f' result (subst (λ (b : Bool). AtEndUnless b left) none h.0)
-    (subst (λ (x : Form). LastEnds (all_lines x bytes) result a0 f0 a' f') both (finish (subst (λ (x : Form). HasCut x bytes piece r a0 f0 a f) (sym is2) h.1)))
+    run_finished form bytes left Fault b n' result (subst (λ (x : Bool). AtEndUnless x left) none h.0)
+    (subst (λ (x : Form). LastEnds (all_lines x bytes) result b n') both (finish (subst (λ (x : Form). HasCut x bytes piece r b n) (sym is2) h.1)))
 
 -- what a run has read is bounded
 pub few_read : (r : Run) → IsReady r → r.read ≤ 2 ^ 56
-few_read r ready = by_form r.form r.session ready
+few_read r ready = by_form r.form r.state.session ready.form
   where
-    by_form : (form : Form) (session : Option Session) → IsReadyFor form session r.lines r.read → r.read ≤ 2 ^ 56
-    by_form (Draw size) None n = absurd n
-    by_form (Draw size) (Some s) p = omega (arith, p.0, p.1.few)
-    by_form (Script entries) session p = omega (arith, p.2)
+    by_form : (form : Form) (session : Option Session) → IsReadyFor form session r.read → r.read ≤ 2 ^ 56
+    by_form (Draw size) None p = absurd p.0
+    by_form (Draw size) (Some s) p = omega (arith, p.1, p.0.few)
+    by_form (Script entries) session p = omega (arith, p.1)
 
 pub short_piece : (form : Form) (piece : List ℕ) → first_piece (most_of form) piece ≡ None → length piece < 262146
 short_piece (Draw size) piece e = omega (arith, (begun 65536 piece e).short)
@@ -236,10 +231,6 @@ short_piece (Script entries) piece e = omega (arith, (begun 262146 piece e).shor
 -- a count that rose in a later part of a call rose in the call
 pub rose-later : (a b c : ℕ) → a ≤ b → Rose b c → Rose a c
 rose-later a b c le rose = omega (arith, le, rose)
-
-pub rose_within : (a b c d e f : ℕ) → a ≤ b → d ≤ e → (Rose b c) ⊎ (Rose e f) → (Rose a c) ⊎ (Rose d f)
-rose_within a b c d e f le1 le2 (inl r) = inl (rose-later a b c le1 r)
-rose_within a b c d e f le1 le2 (inr r) = inr (rose-later d e f le2 r)
 
 -- where a read gave no bytes, the source is at its end
 pub at_end_unless : (count : ℕ) (into : List ℕ) (old new : Option (List ℕ)) → old ≡ came (take count into) new → (count ≡ 0 → AtEnd old) → AtEndUnless (nat_lt 0 count) new

@@ -1,14 +1,9 @@
-pub mod PieceLaws
-pub mod ReportLaws
 pub mod ShownLaws
 pub mod StepLaws
 pub mod TakenLaws
 pub mod SessionLaws
 pub mod OpenLaws
 pub mod PlayingLaws
-pub mod ActsLaws
 pub mod RunLaws
-pub mod HexLaws
-pub mod GrammarLaws
 pub mod InputLaws
 pub mod CommandLaws

@@ -1,212 +1,373 @@
--- How the lines of a piece end, from how the session's calls ended.
-use Rattle.std.proofs.Common.{◌≡◌, ℕ, suc, ◌+◌, ◌*◌, List, [], ◌∷◌, ◌++◌, length, Bool, true, false, refl, ap, sym, ◌∙◌, subst, append_assoc, arith}
-use Rattle.std.specs.Prelude.{Result, Ok, Err, OnOk, Option, Some, None, codes}
-use Rattle.std.proofs.Common.{◌≤◌, ◌<◌, ◌⊎◌, inl, inr}
+-- How an order is told, and how the orders of a piece end.
+use Rattle.std.proofs.Common.{◌≡◌, ◌≢◌, ℕ, suc, ◌+◌, ◌*◌, ◌≤◌, ◌<◌, ◌⊎◌, inl, inr, List, [], ◌∷◌, ◌++◌, length, take, drop, Bool, true, false, refl, ap, sym, ◌∙◌, subst, append_assoc, append-nil, arith}
+use Rattle.std.specs.Prelude.{Result, Ok, Err, Option, Some, None, OnOk, ◌||◌, codes}
 use Rattle.std.specs.List.{list_any}
 use Rattle.std.specs.Option.{is_some}
-use Rattle.gate_model.specs.Sequences.{IsLater}
-use Rattle.gate_outside.proofs.Moved.{gained-none}
-use Rattle.gate_script.specs.declared.form.Form.{Form}
-use Rattle.gate_script.specs.declared.form.Form.TheVariants.{Draw, Script}
+use Rattle.std.proofs.lemmas.List.{take-append-drop}
+use Rattle.gate_model.specs.Sequences.{IsLater, BeginsWith}
+use Rattle.gate_outside.specs.Edge.{GainedFront, Rose, gained}
+use Rattle.gate_outside.proofs.Moved.{gained-none, gained-gained}
+use Rattle.script_lines.specs.declared.form.Form.{Form}
+use Rattle.script_lines.specs.declared.form.Form.TheVariants.{Draw, Script}
+use Rattle.script_lines.specs.declared.line.Line.{Line}
+use Rattle.script_lines.specs.declared.line.Line.TheVariants.{Blank, Bad, At as moment, Start, Server, Join, Read, Write, Take, Leave, Close, Pixel, Same, Acknowledge, Done}
+use Rattle.script_lines.specs.declared.order.Order.{Order}
+use Rattle.script_lines.specs.declared.order.Order.TheVariants.{Told as told, Untold as untold}
+use Rattle.script_lines.specs.Lines.{line_in, told_by}
+use Rattle.script_lines.specs.Grammar.{ending, starts, judged, in_place, lines_of, script_lines, total}
+use Rattle.gate_script.specs.declared.halt.Halt.{Halt}
+use Rattle.gate_script.specs.declared.halt.Halt.TheVariants.{NoMemory as no_memory, OutsideGrammar, Worn as is_worn}
+use Rattle.gate_script.specs.declared.reply.Reply.{Reply}
 use Rattle.gate_script.specs.declared.run.Run.{Run}
 use Rattle.gate_script.specs.declared.session.Session.{Session}
+use Rattle.gate_script.specs.declared.state.State.{State}
 use Rattle.gate_script.specs.declared.stop.Stop.{Stop}
 use Rattle.gate_script.specs.declared.stop.Stop.TheVariants.{ReadFault, WriteFault, NoMemory, Refused}
-use Rattle.gate_script.specs.declared.refused.Refused.TheVariants.{BadLine}
-use Rattle.gate_script.specs.Lines.{Line, blank, bad, moment, server, read_untold, acknowledge, done, draw_lines}
-use Rattle.gate_script.specs.Grammar.{ending, is_start, lines_of, script_lines, in_place, judged, line_of, content, most_script, most_line}
-use Rattle.gate_script.specs.Meanings.{call_meant}
-use Rattle.gate_script.specs.declared.line.Call.{Call}
-use Rattle.gate_script.specs.declared.line.Call.TheVariants.{Server, Join, Read, Write, Take, Leave, Close, Pixel, Same}
+use Rattle.gate_script.specs.Plays.{Play, Plays, Does, IsLawful}
+use Rattle.gate_script.specs.Calls.{Adds, Appends, CallEnds, Halts, IsAt, IsCall, LineDone, StartEnds, play}
+use Rattle.gate_script.specs.Calls.{LeavesOpen as CallLeavesOpen}
 use Rattle.gate_script.specs.Told.{answer_line}
-use Rattle.gate_script.specs.Plays.{Play}
-use Rattle.gate_script.specs.Running.{Told, At, StoppedIn, Ends, Stays, DoesLines, HasDone, IsDrawing, IsOpenDesk, IsReadyFor, PieceEnds, LineEnds, LastEnds, AllDone, Put, stopped_at}
-use Rattle.gate_script.proofs.ReportLaws.{said_alone}
-use Rattle.gate_script.proofs.SessionLaws.{play, lawful, no_memory, refused_line_ends, told-more, stopped-more}
-use Rattle.std.proofs.lemmas.Bool.{le-leb, lt-leb}
+use Rattle.gate_model.specs.session.History.{History}
+use Rattle.gate_model.specs.declared.sharing.Asked.TheVariants.{Owner}
+use Rattle.gate_model.specs.declared.sharing.Share.{Share}
+use Rattle.gate_model.specs.declared.sharing.Share.TheVariants.{Nobody}
+use Rattle.gate_model.specs.Limits.{most_entries}
+use Rattle.script_lines.specs.declared.size.Size.{Size}
+use Rattle.desk_core.specs.Desk.{Stands}
+use Rattle.desk_core.specs.Laws.{DesksAreTrue, DesksAreWhole}
+use Rattle.gate_script.specs.Sinks.{Sinks, Gains, GainsFronts, HaveFailed, Wrote, held}
+use Rattle.gate_script.specs.Running.{AllDone, At, Ends, HasDone, IsOpen, LastEnds, LeavesOpen, LineEnds, LineIsDone, OrderDone, OrderEnds, PieceEnds, ShortOf, StandsAt, StoppedIn, Told, stop_of}
+use Rattle.gate_script.proofs.TakenLaws.{printed, tells}
 
--- what stopped in some lines stopped in more of them
+-- ---- in memory
+
+-- before `start` there is no call
+pub no_call : (line : Line) → IsCall line → in_place false line ≡ line → ⊥
+no_call Blank call placed = call
+no_call Bad call placed = call
+no_call (moment now) call placed = call
+no_call (Start size mode entries) call placed = call
+no_call (Server bytes) call placed = cc
+no_call (Join asked) call placed = cc
+no_call (Read viewer) call placed = cc
+no_call (Write viewer text) call placed = cc
+no_call (Take most) call placed = cc
+no_call (Leave viewer) call placed = cc
+no_call Close call placed = cc
+no_call (Pixel viewer x y) call placed = cc
+no_call (Same one other) call placed = cc
+no_call (Acknowledge viewer) call placed = cc
+no_call Done call placed = cc
+
+-- what a session's call did
+pub called : (line : Line) (p : Play) (now : ℕ) (s n : Session) (r : Result (Unit {0}) Halt) (o o' : Reply) → StandsAt p now (Some s) → ((h : History) → IsAt s h → CallEnds line (play now h) r n o o') → LineEnds line p r record { moment = now; session = Some n; reply = o' } o o'
+called line p now s n r o o' at step = by r (subst (λ (q : Play). CallEnds line q r n o o') (ap (λ (t : ℕ). play t p.history) (sym at.0)) (step p.history at.1))
+  where
+    by : (r : Result (Unit {0}) Halt) → CallEnds line p r n o o' → LineEnds line p r record { moment = now; session = Some n; reply = o' } o o'
+    by (Ok u) d = record { after = play p.now d.history; answer = d.answer; framing = d.framing; does = d.does; stands = (at.0, d.at); appends = d.appends }
+    by (Err halt) d = d
+
+-- a session's call leaves it open
+pub leaves_open : (line : Line) (s n : Session) (r : Result (Unit {0}) Halt) → IsCall line → OnOk r (CallLeavesOpen line s.desk n.desk) → OnOk r (LeavesOpen line (Some s) (Some n))
+leaves_open line s n (Err halt) call o = tt
+leaves_open (Start size mode entries) s n (Ok u) call o = absurd call
+leaves_open (Server bytes) s n (Ok u) call o = o
+leaves_open (Join asked) s n (Ok u) call o = o
+leaves_open (Read viewer) s n (Ok u) call o = o
+leaves_open (Acknowledge viewer) s n (Ok u) call o = o
+leaves_open Blank s n (Ok u) call o = absurd call
+leaves_open Bad s n (Ok u) call o = absurd call
+leaves_open (moment now) s n (Ok u) call o = absurd call
+leaves_open (Write viewer text) s n (Ok u) call o = tt
+leaves_open (Take most) s n (Ok u) call o = tt
+leaves_open (Leave viewer) s n (Ok u) call o = tt
+leaves_open Close s n (Ok u) call o = tt
+leaves_open (Pixel viewer x y) s n (Ok u) call o = tt
+leaves_open (Same one other) s n (Ok u) call o = tt
+leaves_open Done s n (Ok u) call o = tt
+
+-- the session has started
+pub has_started : (line : Line) (p : Play) (now : ℕ) (n : Session) (o o' : Reply) → p ≡ play now [] → LineDone line (play now []) n o o' → LineIsDone line p record { moment = now; session = Some n; reply = o' } o o'
+has_started line p now n o o' is d = subst (λ (q : Play). LineIsDone line q record { moment = now; session = Some n; reply = o' } o o') (sym is) (record { after = play now d.history; answer = d.answer; framing = d.framing; does = d.does; stands = (refl, d.at); appends = d.appends })
+
+pub not_started_yet : (line : Line) (p : Play) (now : ℕ) (r : Result Session Halt) (r' : Result (Unit {0}) Halt) (halt : Halt) (s : State) (o o' : Reply) → p ≡ play now [] → r ≡ Err halt → r' ≡ Err halt → StartEnds line (play now []) r o o' → LineEnds line p r' s o o'
+not_started_yet line p now r r' halt s o o' is failed failed' ends = rw (failed', is) (subst (λ (x : Result Session Halt). StartEnds line (play now []) x o o') failed ends)
+
+-- nothing but the moment has changed
+pub now_is : (p : Play) (now old : ℕ) (session : Option Session) → StandsAt p old session → StandsAt (play now p.history) now session
+now_is p now old None is = ap (λ (q : Play). play now q.history) is
+now_is p now old (Some s) at = (refl, at.1)
+
+-- the moment was set
+pub moment_set : (now old : ℕ) (p : Play) (session : Option Session) (r : Result (Unit {0}) Halt) (o o' : Reply) → StandsAt p old session → Adds r o o' (answer_line (codes "now") (now ∷ [])) [] → LineEnds (moment now) p r record { moment = now; session = session; reply = o' } o o'
+moment_set now old p session (Ok u) o o' at adds = record { after = play now p.history; answer = answer_line (codes "now") (now ∷ []); framing = []; does = record { same = refl; answered = refl; framed = refl }; stands = now_is p now old session at; appends = adds }
+moment_set now old p session (Err no_memory) o o' at adds = tt
+moment_set now old p session (Err OutsideGrammar) o o' at adds = absurd adds
+moment_set now old p session (Err (is_worn entries)) o o' at adds = absurd adds
+
+-- a line without effect
+pub nothing_told : (p : Play) (now : ℕ) (session : Option Session) (o : Reply) → StandsAt p now session → LineIsDone Blank p record { moment = now; session = session; reply = o } o o
+nothing_told p now session o at = record { after = p; answer = []; framing = []; does = record { same = refl; answered = refl; framed = refl }; stands = at; appends = record { answered = sym (append-nil o.answer.items); framed = sym (append-nil o.frame.items) } }
+
+-- `start` comes once
+pub once : (opened : Bool) (size : Size) (mode : Share) (entries : ℕ) → in_place opened (Start size mode entries) ≡ Start size mode entries → opened ≡ false
+once true size mode entries placed = let w : Bad ≡ Start size mode entries = placed in cc
+once false size mode entries placed = refl
+
+pub not_yet : (p : Play) (now : ℕ) (session : Option Session) → is_some session ≡ false → StandsAt p now session → p ≡ play now []
+not_yet p now None none is = is
+not_yet p now (Some s) none at = absurd (let w : true ≡ false = none in cc)
+
+-- an order was done, by its line
+pub order_told_line : (line : Line) (p : Play) (s : State) (o : Reply) (r : Result (Unit {0}) Halt) → o.answer.items ≡ [] → o.frame.items ≡ [] → LineEnds line p r s o s.reply → OrderEnds (told line) p r s
+order_told_line line p s o (Ok u) none none' d = record { after = d.after; answer = d.answer; framing = d.framing; does = d.does; stands = d.stands; answer_is = d.appends.answered ∙ ap (λ (l : List ℕ). l ++ d.answer) none; frame_is = d.appends.framed ∙ ap (λ (l : List ℕ). l ++ d.framing) none' }
+order_told_line line p s o (Err halt) none none' d = d
+
+pub order_untold_line : (line : Line) (p : Play) (s s' : State) (o : Reply) → o.frame.items ≡ [] → s'.moment ≡ s.moment → s'.session ≡ s.session → s'.reply.answer.items ≡ [] → s'.reply.frame.items ≡ s.reply.frame.items → LineIsDone line p s o s.reply → OrderDone (untold line) p s'
+order_untold_line line p s s' o none at same cleared kept d = record { after = d.after; answer = d.answer; framing = d.framing; does = d.does; stands = rw (at, same) d.stands; answer_is = cleared; frame_is = kept ∙ (d.appends.framed ∙ ap (λ (l : List ℕ). l ++ d.framing) none) }
+
+-- ---- with the sinks
+
+-- a history that a run stands for is legal, true and whole, by the laws about desks
+pub lawful_at : DesksAreTrue → DesksAreWhole → (p : Play) (now : ℕ) (o : Option Session) → StandsAt p now o → IsLawful p.history
+lawful_at is_true is_whole p now None is = subst (λ (q : Play). IsLawful q.history) (sym is) tt
+lawful_at is_true is_whole p now (Some s) at = by p.history at.1.stands
+  where
+    by : (h : History) → Stands s.desk h → IsLawful h
+    by [] stands = tt
+    by (e ∷ g) stands = let t = is_true s.desk (e ∷ g) stands in (t.0, t.1, is_whole s.desk (e ∷ g) stands)
+
+begins-more : (xs ys zs : List ℕ) → BeginsWith ys zs → BeginsWith (xs ++ ys) (xs ++ zs)
+begins-more xs ys zs b = (b.0, ap (λ (l : List ℕ). xs ++ l) b.1 ∙ sym (append_assoc xs zs b.0))
+
+gained-more : (o a a' : Option (List ℕ)) (xs ys : List ℕ) → a ≡ gained o xs → a' ≡ gained a ys → a' ≡ gained o (xs ++ ys)
+gained-more o a a' xs ys p q = q ∙ (ap (λ (x : Option (List ℕ)). gained x ys) p ∙ gained-gained o xs ys)
+
+gains-more : (b n n' : Sinks) (a f own_a own_f : List ℕ) → Gains b n a f → Gains n n' own_a own_f → Gains b n' (a ++ own_a) (f ++ own_f)
+gains-more b n n' a f own_a own_f g w = record {
+  answered = gained-more b.wrote n.wrote n'.wrote a own_a g.answered w.answered;
+  framed = gained-more b.framed n.framed n'.framed f own_f g.framed w.framed;
+  later_answers = omega (arith, g.later_answers, w.later_answers);
+  later_frames = omega (arith, g.later_frames, w.later_frames);
+}
+
+failed-earlier : (b n n' : Sinks) → b.wrote_faults ≤ n.wrote_faults → b.framed_faults ≤ n.framed_faults → HaveFailed n n' → HaveFailed b n'
+failed-earlier b n n' le le' (inl rose) = inl (omega (arith, le, rose))
+failed-earlier b n n' le le' (inr rose) = inr (omega (arith, le', rose))
+
+pub front : (text : List ℕ) (n : ℕ) → BeginsWith text (take n text)
+front text n = (drop n text, sym (take-append-drop n text))
+
+-- the frames and the answer were written
+pub wrote_both : (n : Sinks) (answer framing : List ℕ) (a f : Option (List ℕ)) (ac fc : ℕ) → a ≡ gained n.wrote answer → n.wrote_faults ≤ ac → f ≡ gained n.framed framing → n.framed_faults ≤ fc → Gains n (held a ac f fc) answer framing
+wrote_both n answer framing a f ac fc answered later framed later' = record { answered = answered; framed = framed; later_answers = later; later_frames = later' }
+
+-- a front of the frames was
+pub frames_cut : (n : Sinks) (answer framing : List ℕ) (f : Option (List ℕ)) (fc : ℕ) → GainedFront n.framed f framing → n.framed_faults ≤ fc → Rose n.framed_faults fc → GainsFronts n (held n.wrote n.wrote_faults f fc) answer framing
+frames_cut n answer framing f fc put later rose = record {
+  own_a = [];
+  own_f = take put.0 framing;
+  answer_begins = (answer, refl);
+  framing_begins = front framing put.0;
+  in_order = inl refl;
+  gains = record { answered = sym (gained-none n.wrote); framed = put.2; later_answers = omega arith; later_frames = later };
+  failed = inr rose;
+}
+
+-- the frames were, and a front of the answer
+pub answer_cut : (n : Sinks) (answer framing : List ℕ) (a f : Option (List ℕ)) (ac fc : ℕ) → GainedFront n.wrote a answer → n.wrote_faults ≤ ac → Rose n.wrote_faults ac → f ≡ gained n.framed framing → n.framed_faults ≤ fc → GainsFronts n (held a ac f fc) answer framing
+answer_cut n answer framing a f ac fc put later rose framed later' = record {
+  own_a = take put.0 answer;
+  own_f = framing;
+  answer_begins = front answer put.0;
+  framing_begins = ([], sym (append-nil framing));
+  in_order = inr refl;
+  gains = record { answered = put.2; framed = framed; later_answers = later; later_frames = later' };
+  failed = inl rose;
+}
+
+module _ (order : Order) (orders : List Order) (p : Play) (b n : Sinks) (t : Told orders p b n) where
+  plays-more : (q : Play) (answer shown : List ℕ) → (does : Does (line_in order) p q answer shown) → Plays (order ∷ orders) q (t.answers ++ told_by order answer) (t.framings ++ shown) (t.bytes ++ (printed (line_in order) p q answer shown does).0)
+  plays-more q answer shown does =
+      let w = printed (line_in order) p q answer shown does in
+      (p, t.answers, t.framings, t.bytes, t.plays, record { answer = answer; own_f = shown; own_bytes = w.0; does = does; prints = w.1; answered = refl; framed = refl; joined = refl })
+
+  -- the order was done, and all of it told
+  told-more : (q : Play) (answer shown : List ℕ) (n' : Sinks) → Does (line_in order) p q answer shown → Gains n n' (told_by order answer) shown → Told (order ∷ orders) q b n'
+  told-more q answer shown n' does gains = record {
+    answers = t.answers ++ told_by order answer;
+    framings = t.framings ++ shown;
+    bytes = t.bytes ++ (printed (line_in order) p q answer shown does).0;
+    plays = plays-more q answer shown does;
+    gains = gains-more b n n' t.answers t.framings (told_by order answer) shown t.gains gains;
+  }
+
+  -- it was done, and a sink failed
+  short-more : (q : Play) (answer shown : List ℕ) (n' : Sinks) → Does (line_in order) p q answer shown → IsLawful q.history → GainsFronts n n' (told_by order answer) shown → ShortOf (order ∷ orders) b n'
+  short-more q answer shown n' does is_lawful w = record {
+    orders = order ∷ orders;
+    play = q;
+    answers = t.answers ++ told_by order answer;
+    framings = t.framings ++ shown;
+    own_a = t.answers ++ w.own_a;
+    own_f = t.framings ++ w.own_f;
+    first = ([], refl);
+    tells = tells (order ∷ orders) q (t.answers ++ told_by order answer) (t.framings ++ shown) (t.bytes ++ (printed (line_in order) p q answer shown does).0) (plays-more q answer shown does) is_lawful;
+    answers_begin = begins-more t.answers (told_by order answer) w.own_a w.answer_begins;
+    framings_begin = begins-more t.framings shown w.own_f w.framing_begins;
+    newest = record {
+      before = p;
+      before_a = t.answers;
+      before_f = t.framings;
+      before_bytes = t.bytes;
+      plays = t.plays;
+      answer = answer;
+      framing = shown;
+      does = does;
+      own_a = w.own_a;
+      own_f = w.own_f;
+      answer_begins = w.answer_begins;
+      framing_begins = w.framing_begins;
+      in_order = w.in_order;
+      answered = refl;
+      framed = refl;
+    };
+    gains = gains-more b n n' t.answers t.framings w.own_a w.own_f t.gains w.gains;
+    failed = failed-earlier b n n' t.gains.later_answers t.gains.later_frames w.failed;
+  }
+
+module _ (orders : List Order) (r : Run) (b n : Sinks) (at : At orders r b n) where
+  -- all was done
+  pub all_done : AllDone orders b n
+  all_done = record { play = at.play; told = at.told; lawful = at.lawful }
+
+  -- the next order was halted
+  pub halted : (order : Order) (halt : Halt) (number : ℕ) → number ≡ r.lines + 1 → Halts (line_in order) at.play halt → StoppedIn (order ∷ orders) (stop_of halt number) b n
+  halted order no_memory number is h = record { orders = orders; first = (order ∷ [], refl); done = record { play = at.play; told = at.told; lawful = at.lawful } }
+  halted order OutsideGrammar number is h = record { orders = orders; next = order; first = ([], refl); done = record { play = at.play; told = at.told; lawful = at.lawful }; is_refused = (h, omega (arith, is, at.count)) }
+  halted order (is_worn entries) number is h = record { orders = orders; next = order; first = ([], refl); done = record { play = at.play; told = at.told; lawful = at.lawful }; is_refused = h }
+
+  -- no memory was found for more orders
+  pub none_done : (more : List Order) → StoppedIn (more ++ orders) NoMemory b n
+  none_done more = record { orders = orders; first = (more, refl); done = record { play = at.play; told = at.told; lawful = at.lawful } }
+
+  -- it was done, and what it tells was written, or fronts of that
+  pub order_told : DesksAreTrue → DesksAreWhole → (order : Order) (r' : Run) (n' : Sinks) → OrderDone order at.play r'.state → is_some r'.state.session ≡ (starts order || is_some r.state.session) → r'.lines ≡ r.lines + 1 → (result : Result (Unit {0}) Stop)
+      → Wrote result n n' r'.state.reply.answer.items r'.state.reply.frame.items → Ends (order ∷ orders) result r' b n'
+  order_told is_true is_whole order r' n' d opened count result w = by result (subst (λ (f : List ℕ). Wrote result n n' (told_by order d.answer) f) d.frame_is (subst (λ (a : List ℕ). Wrote result n n' a r'.state.reply.frame.items) d.answer_is w))
+    where
+      lawful_after : IsLawful d.after.history
+      lawful_after = lawful_at is_true is_whole d.after r'.state.moment r'.state.session d.stands
+
+      by : (result : Result (Unit {0}) Stop) → Wrote result n n' (told_by order d.answer) d.framing → Ends (order ∷ orders) result r' b n'
+      by (Ok u) w = record {
+        play = d.after;
+        told = told-more order orders at.play b n at.told d.after d.answer d.framing n' d.does w;
+        lawful = lawful_after;
+        stands = d.stands;
+        opened = ap (λ (x : Bool). starts order || x) at.opened ∙ sym opened;
+        count = omega (arith, count, at.count);
+      }
+      by (Err WriteFault) w = short-more order orders at.play b n at.told d.after d.answer d.framing n' d.does lawful_after w
+      by (Err ReadFault) w = absurd w
+      by (Err NoMemory) w = absurd w
+      by (Err (Refused refused)) w = absurd w
+
+-- what stopped in some orders stopped in more of them
 later : {A : Type 0} (xs ys zs : List A) → IsLater xs ys → IsLater ys zs → IsLater xs zs
 later xs ys zs p q = (q.0 ++ p.0, q.1 ∙ (ap (λ l. q.0 ++ l) p.1 ∙ sym (append_assoc q.0 p.0 xs)))
 
-pub stopped-later : (lines all : List Line) (stop : Stop) (a0 f0 a f : Option (List ℕ)) → IsLater lines all → StoppedIn lines stop a0 f0 a f → StoppedIn all stop a0 f0 a f
-stopped-later lines all WriteFault a0 f0 a f more s = record { lines = s.lines; play = s.play; answers = s.answers; framings = s.framings; own_a = s.own_a; own_f = s.own_f; first = later s.lines lines all s.first more; tells = s.tells; answers_begin = s.answers_begin; framings_begin = s.framings_begin; answered = s.answered; framed = s.framed }
-stopped-later lines all NoMemory a0 f0 a f more s = record { lines = s.lines; play = s.play; answers = s.answers; framings = s.framings; own_a = s.own_a; own_f = s.own_f; first = later s.lines lines all s.first more; tells = s.tells; answers_begin = s.answers_begin; framings_begin = s.framings_begin; answered = s.answered; framed = s.framed }
-stopped-later lines all (Refused refused) a0 f0 a f more s = record { lines = s.lines; next = s.next; play = s.play; first = later (s.next ∷ s.lines) lines all s.first more; told = s.told; lawful = s.lawful; is_refused = s.is_refused }
-stopped-later lines all ReadFault a0 f0 a f more s = absurd s
+pub stopped-later : (orders all : List Order) (stop : Stop) (b n : Sinks) → IsLater orders all → StoppedIn orders stop b n → StoppedIn all stop b n
+stopped-later orders all WriteFault b n more s = record {
+  orders = s.orders;
+  play = s.play;
+  answers = s.answers;
+  framings = s.framings;
+  own_a = s.own_a;
+  own_f = s.own_f;
+  first = later s.orders orders all s.first more;
+  tells = s.tells;
+  answers_begin = s.answers_begin;
+  framings_begin = s.framings_begin;
+  newest = s.newest;
+  gains = s.gains;
+  failed = s.failed;
+}
+stopped-later orders all NoMemory b n more s = record { orders = s.orders; first = later s.orders orders all s.first more; done = s.done }
+stopped-later orders all (Refused refused) b n more s = record { orders = s.orders; next = s.next; first = later (s.next ∷ s.orders) orders all s.first more; done = s.done; is_refused = s.is_refused }
+stopped-later orders all ReadFault b n more s = absurd s
 
--- nothing was done
-pub nothing_done : (a0 f0 : Option (List ℕ)) → Told [] (play 0 []) a0 f0 a0 f0
-nothing_done a0 f0 = record { answers = []; framings = []; bytes = []; plays = (refl, refl, refl, refl); answered = sym (gained-none a0); framed = sym (gained-none f0) }
-
-module _ (lines : List Line) (now : ℕ) (a0 f0 a f : Option (List ℕ)) where
-  -- a line is outside the grammar
-  pub stopped_at_bad : (o : Option Session) → Stays lines now o a0 f0 a f → (n : ℕ) → length lines ≡ n → (stop : Stop) → stop ≡ stopped_at (n + 1) → StoppedIn (bad ∷ lines) stop a0 f0 a f
-  stopped_at_bad None t n is stop stop_is = rw stop_is (refused_line_ends bad lines (play now []) a0 f0 a f t (BadLine (n + 1)) tt (inl refl, omega (arith, is)))
-  stopped_at_bad (Some s) at n is stop stop_is = rw stop_is (refused_line_ends bad lines (play now at.history) a0 f0 a f at.told (BadLine (n + 1)) (lawful s.desk at.history at.stands) (inl refl, omega (arith, is)))
-
-  -- before `start` there is no session
-  pub told_before : (o : Option Session) → is_some o ≡ false → Stays lines now o a0 f0 a f → Told lines (play now []) a0 f0 a f
-  told_before None is t = t
-  told_before (Some s) is at = absurd (let w : true ≡ false = is in cc)
-
-  -- no memory was found for a line
-  pub stopped_for_memory : (line : Line) (o : Option Session) → Stays lines now o a0 f0 a f → StoppedIn (line ∷ lines) NoMemory a0 f0 a f
-  stopped_for_memory line None t = no_memory line lines (play now []) a0 f0 a f t tt
-  stopped_for_memory line (Some s) at = no_memory line lines (play now at.history) a0 f0 a f at.told (lawful s.desk at.history at.stands)
-
-  -- all was done
-  pub all_done : (o : Option Session) → Stays lines now o a0 f0 a f → AllDone lines a0 f0 a f
-  all_done None t = record { play = play now []; told = t; lawful = tt }
-  all_done (Some s) at = record { play = play now at.history; told = at.told; lawful = lawful s.desk at.history at.stands }
-
-module _ (pieces : List (List ℕ)) (r r' : Run) (s s' : Session) (a0 f0 a a' f f' : Option (List ℕ)) (is : r.session ≡ Some s) where
-  -- `draw` did a piece, by what its session did
-  pub draw_ends : (form : Form) (piece : List ℕ) → IsDrawing form → HasDone form pieces r a0 f0 a f → r'.session ≡ Some s' → r'.moment ≡ r.moment → (result : Result (Unit {0}) Stop)
-      → ((lines : List Line) → At lines 0 s a0 f0 a f → Ends (acknowledge 1 ∷ read_untold 1 ∷ server piece ∷ lines) 0 result s' a0 f0 a' f') → PieceEnds form (piece ∷ pieces) result r' a0 f0 a' f'
-  draw_ends (Draw size) piece d had is' same result ends = cases result (ends (draw_lines size pieces) (subst (λ (o : Option Session). Stays (draw_lines size pieces) 0 o a0 f0 a f) is had.stays))
-    where
-      cases : (result : Result (Unit {0}) Stop) → Ends (acknowledge 1 ∷ read_untold 1 ∷ server piece ∷ draw_lines size pieces) 0 result s' a0 f0 a' f' → PieceEnds (Draw size) (piece ∷ pieces) result r' a0 f0 a' f'
-      cases (Ok u) at = record { moment = same ∙ had.moment; stays = subst (λ (o : Option Session). Stays (draw_lines size (piece ∷ pieces)) 0 o a0 f0 a' f') (sym is') at }
-      cases (Err stop) e = e
-  draw_ends (Script entries) piece d had is' same result ends = absurd d
-
-  -- `draw` told the newest stamp
-  pub done_ends : (form : Form) → IsDrawing form → HasDone form pieces r a0 f0 a f → (result : Result (Unit {0}) Stop)
-      → ((lines : List Line) → At lines 0 s a0 f0 a f → Ends (done ∷ lines) 0 result s' a0 f0 a' f') → LastEnds (ending form (lines_of form pieces)) result a0 f0 a' f'
-  done_ends (Draw size) d had result ends = cases result (ends (draw_lines size pieces) (subst (λ (o : Option Session). Stays (draw_lines size pieces) 0 o a0 f0 a f) is had.stays))
-    where
-      cases : (result : Result (Unit {0}) Stop) → Ends (done ∷ draw_lines size pieces) 0 result s' a0 f0 a' f' → LastEnds (done ∷ draw_lines size pieces) result a0 f0 a' f'
-      cases (Ok u) at = all_done (done ∷ draw_lines size pieces) 0 a0 f0 a' f' (Some s') at
-      cases (Err stop) e = e
-  done_ends (Script entries) d had result ends = absurd d
-
--- `draw` did a piece, whose entries are few, of a session that is open
-pub draw_ready : (form : Form) (session : Option Session) (s s1 s2 s3 : Session) (lines read size : ℕ) (r : Result (Unit {0}) Stop) → IsDrawing form → IsReadyFor form session lines read → session ≡ Some s → size ≤ 65536
-    → (IsOpenDesk s.desk → s1.desk.entries ≡ s.desk.entries + 1) → (IsOpenDesk s.desk → IsOpenDesk s1.desk) → s1.desk.entries ≤ s2.desk.entries → (IsOpenDesk s1.desk → IsOpenDesk s2.desk)
-    → OnOk r (s2.desk.entries ≤ s3.desk.entries) → (IsOpenDesk s2.desk → OnOk r (IsOpenDesk s3.desk)) → OnOk r (IsReadyFor form (Some s3) lines (read + size))
-draw_ready form session s s1 s2 s3 lines read size (Err stop) draws ready is few counts stays1 grows stays2 grows3 stays3 = tt
-draw_ready (Draw size_) (Some t) s s1 s2 s3 lines read size (Ok u) draws ready is few counts stays1 grows stays2 grows3 stays3 =
-    let same : t ≡ s = cc in
-    let own : (read ≤ 65536 * s.desk.entries) × IsOpenDesk s.desk = subst (λ (x : Session). (read ≤ 65536 * x.desk.entries) × IsOpenDesk x.desk) same ready in
-    (omega (arith, own.0, counts own.1, grows, grows3, few), stays3 (stays2 (stays1 own.1)))
-draw_ready (Draw size_) None s s1 s2 s3 lines read size (Ok u) draws ready is few counts stays1 grows stays2 grows3 stays3 = absurd ready
-draw_ready (Script entries) session s s1 s2 s3 lines read size (Ok u) draws ready is few counts stays1 grows stays2 grows3 stays3 = absurd draws
-
--- a script has no line after its last piece
-pub script_ends : (form : Form) (entries : ℕ) (pieces : List (List ℕ)) (r : Run) (a0 f0 a f : Option (List ℕ)) → form ≡ Script entries → HasDone form pieces r a0 f0 a f → AllDone (ending form (lines_of form pieces)) a0 f0 a f
-script_ends (Script e) entries pieces r a0 f0 a f is had = all_done (script_lines e pieces) r.moment a0 f0 a f r.session had.does.stays
-script_ends (Draw size) entries pieces r a0 f0 a f is had = absurd (let w : Draw size ≡ Script entries = is in cc)
-
--- a line that is in place before `start` and after it
-pub in_place-moment : (opened : Bool) (now : ℕ) → in_place opened (moment now) ≡ moment now
-in_place-moment true now = refl
-in_place-moment false now = refl
-
-pub in_place-blank : (opened : Bool) → in_place opened blank ≡ blank
-in_place-blank true = refl
-in_place-blank false = refl
-
-pub in_place-bad : (opened : Bool) → in_place opened bad ≡ bad
-in_place-bad true = refl
-in_place-bad false = refl
-
--- a call of the session before `start`
-pub call-unopened : (call : Call) → in_place false (call_meant call) ≡ bad
-call-unopened (Server bytes) = refl
-call-unopened (Join asked) = refl
-call-unopened (Read viewer) = refl
-call-unopened (Write viewer text) = refl
-call-unopened (Take most) = refl
-call-unopened (Leave viewer) = refl
-call-unopened Close = refl
-call-unopened (Pixel viewer x y) = refl
-call-unopened (Same one other) = refl
-
--- .. and after it
-call-opened : (call : Call) → (in_place true (call_meant call) ≡ call_meant call) × (is_start (call_meant call) ≡ false)
-call-opened (Server bytes) = (refl, refl)
-call-opened (Join asked) = (refl, refl)
-call-opened (Read viewer) = (refl, refl)
-call-opened (Write viewer text) = (refl, refl)
-call-opened (Take most) = (refl, refl)
-call-opened (Leave viewer) = (refl, refl)
-call-opened Close = (refl, refl)
-call-opened (Pixel viewer x y) = (refl, refl)
-call-opened (Same one other) = (refl, refl)
-
--- a line did what its session's call did
-pub call_ends : (call : Call) (lines : List Line) (r r' : Run) (s s' : Session) (a0 f0 a a' f f' : Option (List ℕ)) → r.session ≡ Some s → DoesLines lines r a0 f0 a f → r'.session ≡ Some s' → r'.moment ≡ r.moment → (result : Result (Unit {0}) Stop)
-    → (At lines r.moment s a0 f0 a f → Ends (call_meant call ∷ lines) r.moment result s' a0 f0 a' f') → LineEnds (in_place (is_some r.session) (call_meant call) ∷ lines) result r' a0 f0 a' f'
-call_ends call lines r r' s s' a0 f0 a a' f f' is does is' same result ends = subst (λ (l : Line). LineEnds (l ∷ lines) result r' a0 f0 a' f') (sym placed) (cases result (ends (subst (λ (o : Option Session). Stays lines r.moment o a0 f0 a f) is does.stays)))
+-- nothing was done yet
+pub nothing_done : (r : Run) (b : Sinks) → r.state.moment ≡ 0 → is_some r.state.session ≡ false → r.lines ≡ 0 → At [] r b b
+nothing_done r b at none count = record {
+  play = play 0 [];
+  told = record { answers = []; framings = []; bytes = []; plays = (refl, refl, refl, refl); gains = record { answered = sym (gained-none b.wrote); framed = sym (gained-none b.framed); later_answers = omega arith; later_frames = omega arith } };
+  lawful = tt;
+  stands = by r.state.session none;
+  opened = sym none;
+  count = count;
+}
   where
-    placed : in_place (is_some r.session) (call_meant call) ≡ call_meant call
-    placed = ap (λ (o : Option Session). in_place (is_some o) (call_meant call)) is ∙ (call-opened call).0
+    by : (o : Option Session) → is_some o ≡ false → StandsAt (play 0 []) r.state.moment o
+    by None e = ap (λ (now : ℕ). play now []) (sym at)
+    by (Some s) e = absurd (let w : true ≡ false = e in cc)
 
-    started : list_any is_start (call_meant call ∷ lines) ≡ is_some r'.session
-    started = rw (call-opened call).1 (does.opened ∙ (ap (λ (o : Option Session). is_some o) is ∙ sym (ap (λ (o : Option Session). is_some o) is')))
+-- the run stands there still when more bytes were read
+pub still_at : (orders : List Order) (r r' : Run) (b n : Sinks) → r'.state ≡ r.state → r'.lines ≡ r.lines → At orders r b n → At orders r' b n
+still_at orders r r' b n same count at = record { play = at.play; told = at.told; lawful = at.lawful; stands = rw same at.stands; opened = rw same at.opened; count = count ∙ at.count }
 
-    cases : (result : Result (Unit {0}) Stop) → Ends (call_meant call ∷ lines) r.moment result s' a0 f0 a' f' → LineEnds (call_meant call ∷ lines) result r' a0 f0 a' f'
-    cases (Ok u) at = record { stays = rw (same, is') at; opened = started }
-    cases (Err stop) e = e
+-- the orders of one more piece of `draw`
+pub draw_more : (form : Form) (size : Size) (pieces : List (List ℕ)) (piece : List ℕ) → form ≡ Draw size → untold (Acknowledge 1) ∷ untold (Read 1) ∷ told (Server piece) ∷ lines_of form pieces ≡ lines_of form (piece ∷ pieces)
+draw_more (Draw s) size pieces piece is = refl
+draw_more (Script entries) size pieces piece is = absurd (let w : Script entries ≡ Draw size = is in cc)
 
--- a line without effect
-pub blank_ends : (lines : List Line) (r : Run) (a0 f0 a f : Option (List ℕ)) → DoesLines lines r a0 f0 a f → DoesLines (blank ∷ lines) r a0 f0 a f
-blank_ends lines r a0 f0 a f does = by_session r.session refl
+-- a piece of a script is the line that it is judged to be
+pub script_more : (form : Form) (entries : ℕ) (pieces : List (List ℕ)) (piece : List ℕ) (opened : Bool) (read : ℕ) → form ≡ Script entries → list_any starts (lines_of form pieces) ≡ opened → read ≡ total pieces
+    → told (judged entries opened read piece) ∷ lines_of form pieces ≡ lines_of form (piece ∷ pieces)
+script_more (Script e) entries pieces piece opened read is opens at = let same : e ≡ entries = is_of is in rw (sym same, sym opens, at) refl
   where
-    more : (p : Play) → Told lines p a0 f0 a f → Told (blank ∷ lines) p a0 f0 a f
-    more p t = told-more blank lines p a0 f0 a f t p [] [] a f (record { same = refl; answered = refl; framed = refl }) (sym (gained-none a)) (sym (gained-none f))
+    is_of : Script e ≡ Script entries → e ≡ entries
+    is_of q = cc
+script_more (Draw size) entries pieces piece opened read is opens at = absurd (let w : Draw size ≡ Script entries = is in cc)
 
-    by_session : (o : Option Session) → r.session ≡ o → DoesLines (blank ∷ lines) r a0 f0 a f
-    by_session None is =
-        let t : Told lines (play r.moment []) a0 f0 a f = subst (λ (o : Option Session). Stays lines r.moment o a0 f0 a f) is does.stays in
-        record { stays = rw is (more (play r.moment []) t); opened = does.opened }
-    by_session (Some s) is =
-        let at : At lines r.moment s a0 f0 a f = subst (λ (o : Option Session). Stays lines r.moment o a0 f0 a f) is does.stays in
-        record { stays = rw is (record { history = at.history; told = more (play r.moment at.history) at.told; stands = at.stands; shown = at.shown }); opened = does.opened }
-
--- the moment was set
-pub moment_ends : (lines : List Line) (r r' : Run) (a0 f0 a a' f : Option (List ℕ)) (now : ℕ) → DoesLines lines r a0 f0 a f → r'.moment ≡ now → r'.session ≡ r.session → (result : Result (Unit {0}) Stop) → Put result (answer_line (codes "now") (now ∷ [])) a a'
-    → LineEnds (moment now ∷ lines) result r' a0 f0 a' f
-moment_ends lines r r' a0 f0 a a' f now does moment_is same result put = by_session r.session refl result put
+pub draw_begins : (form : Form) (size : Size) → form ≡ Draw size → told (Join Owner) ∷ told (Start size Nobody most_entries) ∷ [] ≡ lines_of form []
+draw_begins (Draw s) size is = let same : s ≡ size = is_of is in rw (sym same) refl
   where
-    by_session : (o : Option Session) → r.session ≡ o → (result : Result (Unit {0}) Stop) → Put result (answer_line (codes "now") (now ∷ [])) a a' → LineEnds (moment now ∷ lines) result r' a0 f0 a' f
-    by_session None is (Ok u) put =
-        let t : Told lines (play r.moment []) a0 f0 a f = subst (λ (o : Option Session). Stays lines r.moment o a0 f0 a f) is does.stays in
-        let w = said_alone (answer_line (codes "now") (now ∷ [])) a a' f (Ok tt) put in
-        record {
-          stays = rw (moment_is, same ∙ is) (told-more (moment now) lines (play r.moment []) a0 f0 a f t (play now []) (answer_line (codes "now") (now ∷ [])) [] a' f (record { same = refl; answered = refl; framed = refl }) w.0 w.1);
-          opened = does.opened ∙ ap (λ (o : Option Session). is_some o) (sym same);
-        }
-    by_session None is (Err stop) put =
-        let t : Told lines (play r.moment []) a0 f0 a f = subst (λ (o : Option Session). Stays lines r.moment o a0 f0 a f) is does.stays in
-        stopped-more (moment now) lines (play r.moment []) a0 f0 a f t (play now []) (answer_line (codes "now") (now ∷ [])) [] a' f stop (record { same = refl; answered = refl; framed = refl }) tt (said_alone (answer_line (codes "now") (now ∷ [])) a a' f (Err stop) put)
-    by_session (Some s) is (Ok u) put =
-        let at : At lines r.moment s a0 f0 a f = subst (λ (o : Option Session). Stays lines r.moment o a0 f0 a f) is does.stays in
-        let w = said_alone (answer_line (codes "now") (now ∷ [])) a a' f (Ok tt) put in
-        record {
-          stays = rw (moment_is, same ∙ is) (record { history = at.history; told = told-more (moment now) lines (play r.moment at.history) a0 f0 a f at.told (play now at.history) (answer_line (codes "now") (now ∷ [])) [] a' f (record { same = refl; answered = refl; framed = refl }) w.0 w.1; stands = at.stands; shown = at.shown });
-          opened = does.opened ∙ ap (λ (o : Option Session). is_some o) (sym same);
-        }
-    by_session (Some s) is (Err stop) put =
-        let at : At lines r.moment s a0 f0 a f = subst (λ (o : Option Session). Stays lines r.moment o a0 f0 a f) is does.stays in
-        stopped-more (moment now) lines (play r.moment at.history) a0 f0 a f at.told (play now at.history) (answer_line (codes "now") (now ∷ [])) [] a' f stop (record { same = refl; answered = refl; framed = refl }) (lawful s.desk at.history at.stands) (said_alone (answer_line (codes "now") (now ∷ [])) a a' f (Err stop) put)
+    is_of : Draw s ≡ Draw size → s ≡ size
+    is_of q = cc
+draw_begins (Script entries) size is = absurd (let w : Script entries ≡ Draw size = is in cc)
 
--- as many lines as pieces
-pub count_lines : (entries : ℕ) (pieces : List (List ℕ)) → length (script_lines entries pieces) ≡ length pieces
-count_lines entries [] = refl
-count_lines entries (piece ∷ pieces) = ap (λ (n : ℕ). suc n) (count_lines entries pieces)
+pub script_begins : (form : Form) (entries : ℕ) → form ≡ Script entries → [] ≡ lines_of form []
+script_begins (Script e) entries is = refl
+script_begins (Draw size) entries is = absurd (let w : Draw size ≡ Script entries = is in cc)
 
--- a line that is too long, or stands too far back
-pub judged_bad : (entries : ℕ) (opened : Bool) (before read : ℕ) (piece text : List ℕ) → read ≡ before → text ≡ content piece → (most_script < read + length piece) ⊎ ((read + length piece ≤ most_script) × (most_line < length text)) → judged entries opened before piece ≡ bad
-judged_bad entries opened before read piece text at is (inl far) = rw (lt-leb (before + length piece) most_script (omega (arith, at, far))) refl
-judged_bad entries opened before read piece text at is (inr long) = rw (le-leb (before + length piece) most_script (omega (arith, at, long.0)), lt-leb (length (content piece)) most_line (omega (arith, ap length is, long.1))) refl
+pub draw_ending : (form : Form) (size : Size) (orders : List Order) → form ≡ Draw size → told Done ∷ orders ≡ ending form orders
+draw_ending (Draw s) size orders is = refl
+draw_ending (Script entries) size orders is = absurd (let w : Script entries ≡ Draw size = is in cc)
 
--- a line that fits
-pub judged_fits : (entries : ℕ) (opened : Bool) (before : ℕ) (piece : List ℕ) → before + length piece ≤ most_script → length (content piece) ≤ most_line → judged entries opened before piece ≡ in_place opened (line_of entries (content piece))
-judged_fits entries opened before piece few short = rw (le-leb (before + length piece) most_script few, le-leb (length (content piece)) most_line short) refl
+pub script_ending : (form : Form) (entries : ℕ) (orders : List Order) → form ≡ Script entries → orders ≡ ending form orders
+script_ending (Script e) entries orders is = refl
+script_ending (Draw size) entries orders is = absurd (let w : Draw size ≡ Script entries = is in cc)
 
--- a line that fits says what its content says, in its place
-pub judged_line : (entries : ℕ) (opened there : Bool) (before read : ℕ) (piece : List ℕ) (line : Line) → opened ≡ there → read ≡ before → read + length piece ≤ most_script → length (content piece) ≤ most_line → line ≡ line_of entries (content piece)
-    → judged entries opened before piece ≡ in_place there line
-judged_line entries opened there before read piece line same at few short is = judged_fits entries opened before piece (omega (arith, at, few)) short ∙ (ap (in_place opened) (sym is) ∙ ap (λ (b : Bool). in_place b line) same)
+-- what stopped in a call stopped in its piece
+pub piece_stops : (form : Form) (pieces : List (List ℕ)) (orders : List Order) (r : Run) (b n : Sinks) (result : Result (Unit {0}) Stop) (stop : Stop) → orders ≡ lines_of form pieces → result ≡ Err stop → StoppedIn orders stop b n → PieceEnds form pieces result r b n
+piece_stops form pieces orders r b n result stop is failed s = subst (λ (x : Result (Unit {0}) Stop). PieceEnds form pieces x r b n) (sym failed) (subst (λ (os : List Order). StoppedIn os stop b n) is s)
+
+-- what a call did, its piece did
+pub piece_ends : (form : Form) (pieces : List (List ℕ)) (orders : List Order) (r : Run) (b n : Sinks) (result : Result (Unit {0}) Stop) → orders ≡ lines_of form pieces → r.read ≡ total pieces → Ends orders result r b n → PieceEnds form pieces result r b n
+piece_ends form pieces orders r b n (Ok u) is read e = record { at = subst (λ (os : List Order). At os r b n) is e; read = read }
+piece_ends form pieces orders r b n (Err stop) is read e = subst (λ (os : List Order). StoppedIn os stop b n) is e
+
+-- its bytes were read
+pub piece_read : (form : Form) (pieces : List (List ℕ)) (piece : List ℕ) (orders : List Order) (r r' : Run) (b n : Sinks) → orders ≡ lines_of form (piece ∷ pieces) → r'.state ≡ r.state → r'.lines ≡ r.lines → r'.read ≡ total pieces + length piece → At orders r b n → HasDone form (piece ∷ pieces) r' b n
+piece_read form pieces piece orders r r' b n is same count read at = record { at = still_at (lines_of form (piece ∷ pieces)) r r' b n same count (subst (λ (os : List Order). At os r b n) is at); read = read }
+
+-- an open session has started, so its calls stand in place
+pub placed : (o : Option Session) (line : Line) → IsOpen o → in_place true line ≡ line → in_place (is_some o) line ≡ line
+placed None line n is = absurd n
+placed (Some s) line n is = is
+
+-- the last order was done, or the call stopped in it
+pub last_ends : (orders : List Order) (r : Run) (b n : Sinks) (result : Result (Unit {0}) Stop) → Ends orders result r b n → LastEnds orders result b n
+last_ends orders r b n (Ok u) e = all_done orders r b n e
+last_ends orders r b n (Err stop) e = e

@@ -1,8 +1,8 @@
 -- The canvas of each viewer goes on to show what the viewer was given.
-use Rattle.std.proofs.Common.{◌≡◌, ◌≢◌, ℕ, ◌+◌, ◌-◌, ◌<◌, List, [], ◌∷◌, ◌++◌, ◌⊎◌, inl, inr, length, Bool, true, false, get_or, refl, ap, sym, ◌∙◌, subst, append-nil, arith, length-append}
+use Rattle.std.proofs.Common.{◌≡◌, ◌≢◌, ℕ, zero, suc, ◌+◌, ◌-◌, ◌<◌, ◌≤◌, List, set, [], ◌∷◌, ◌++◌, ◌⊎◌, inl, inr, length, Bool, true, false, get_or, refl, ap, sym, ◌∙◌, subst, append-nil, arith, length-append}
 use Rattle.std.specs.Prelude.{◌==◌, ◌&&◌, ◌||◌, not, nat_le, if◌then◌else◌, Option, Some, None, IfSome}
 use Rattle.std.specs.Option.{is_some}
-use Rattle.std.proofs.lemmas.List.{get_or_append_left, get_or_past}
+use Rattle.std.proofs.lemmas.List.{get_or_append_left, get_or_past, get_or-set_same, get_or-set_other, length-set}
 use Rattle.std.proofs.Math.Seq.{get_or-append_seam}
 use Rattle.std.proofs.lemmas.Bool.{eq-eqb, leb-true, leb-false}
 use Rattle.std.proofs.lemmas.Bool.Decides.{eqb_tells}
@@ -233,3 +233,20 @@ played_nowhere cs v text w = record {
 
 pub taken_nowhere : (cs : Canvases) (v : ℕ) → (v < 1) ⊎ (length cs < v) → TakesAway cs cs v
 taken_nowhere cs v w = record { kept = none_changed cs v; gone = nowhere cs v w }
+
+-- the place of a viewer was emptied
+pub taken_here : (cs : Canvases) (v : ℕ) → 1 ≤ v → v ≤ length cs → TakesAway cs (set cs (v - 1) None) v
+taken_here cs v some within = record {
+  kept = record { count = length-set cs (v - 1) None; others = λ u other. elsewhere u other (eqb_tells u 0) };
+  gone = at_place (set cs (v - 1) None) v (λ zero_. absurd (omega (arith, some, zero_))) ∙ get_or-set_same cs (v - 1) None None (omega (arith, some, within));
+}
+  where
+    one : (u : ℕ) → (u ≡ 0 → ⊥) → 1 ≤ u
+    one zero none = absurd (none refl)
+    one (suc k) none = omega arith
+
+    elsewhere : (u : ℕ) → u ≢ v → (((u == 0) ≡ true) × (u ≡ 0)) ⊎ (((u == 0) ≡ false) × (u ≡ 0 → ⊥)) → canvas_at (set cs (v - 1) None) u ≡ canvas_at cs u
+    elsewhere u other (inl q) = rw q.0 refl
+    elsewhere u other (inr q) =
+        let apart : u - 1 ≢ v - 1 = λ e. other (omega (arith, e, some, one u q.1)) in
+        at_place (set cs (v - 1) None) u q.1 ∙ (get_or-set_other cs (v - 1) (u - 1) None None apart ∙ sym (at_place cs u q.1))

@@ -13,21 +13,22 @@ use Rattle.gate_model.specs.declared.entry.Entry.TheVariants.{Feed, Join, Read, 
 use Rattle.gate_model.specs.declared.event.Event.{Event}
 use Rattle.gate_model.specs.declared.event.Event.TheVariants.{Feed as feed, Join as join_in, Read as read_as, Write as write_acts, Take as take_most, Leave as leave_as, Close as close_for}
 use Rattle.gate_model.specs.declared.feed_refusal.FeedRefusal.{FeedRefusal}
-use Rattle.gate_model.specs.declared.how.How.TheVariants.{Suffix}
+use Rattle.gate_model.specs.declared.how.How.{How}
+use Rattle.gate_model.specs.declared.how.How.TheVariants.{Suffix, Fresh as Picture}
 use Rattle.gate_model.specs.declared.instr.Instr.{Instr}
 use Rattle.gate_model.specs.declared.join_refusal.JoinRefusal.{JoinRefusal}
 use Rattle.gate_model.specs.declared.joined.Joined.{Joined}
 use Rattle.gate_model.specs.declared.no_viewer.NoViewer.{NoViewer}
 use Rattle.gate_model.specs.declared.read_answer.ReadAnswer.{ReadAnswer}
-use Rattle.gate_model.specs.declared.read_answer.ReadAnswer.TheVariants.{Frames, Fresh, Ended, Empty}
+use Rattle.gate_model.specs.declared.read_answer.ReadAnswer.TheVariants.{Frames, Fresh, Ended, Empty, Hold}
 use Rattle.gate_model.specs.declared.read_refusal.ReadRefusal.{ReadRefusal}
 use Rattle.gate_model.specs.declared.read_refusal.ReadRefusal.TheVariants.{NoViewer as read_no_viewer, Worn as read_worn}
 use Rattle.gate_model.specs.declared.sharing.Asked.{Asked}
 use Rattle.gate_model.specs.declared.write_refusal.WriteRefusal.{WriteRefusal}
 use Rattle.gate_model.specs.declared.written.Written.{Written}
-use Rattle.gate_model.specs.session.Calls.{Adds, Step, lacked, stop_of, take_entry}
+use Rattle.gate_model.specs.session.Calls.{Adds, Step, stop_of, take_entry, updated_as}
 use Rattle.gate_model.specs.session.Delivered.{position, ended}
-use Rattle.gate_model.specs.session.History.{History, newest, next_stamp, joined, all_frames, is_closed, is_full}
+use Rattle.gate_model.specs.session.History.{History, newest, next_stamp, joined, is_closed, is_full}
 use Rattle.gate_model.specs.session.Output.{untaken}
 use Rattle.gate_model.specs.session.Refusals.{only_if, first_of, feed_refusal, join_refusal, write_refusal, leave_refusal, close_refusal}
 use Rattle.gate_model.specs.session.Rights.{is_live}
@@ -66,11 +67,11 @@ pub record JoinAdds (h : History) (given : Joined) (added : List Entry) : Type 0
 pub join_adds : (h : History) (asked : Asked) (given : Joined) (added : List Entry) → Step h (join_in asked) (joined_as (Ok given)) added → JoinAdds h given added
 join_adds h asked given added s =
     let one = adding h (join_in asked) (joined_as (Ok given)) added (no_stop (join_refusal h asked)) s in
-    let same : given ≡ record { viewer = joined h + 1; role = one.1.0; stamp = newest h } = is_of (record { viewer = joined h + 1; role = one.1.0; stamp = newest h }) one.1.2 in
+    let same : given ≡ record { viewer = joined h + 1; role = one.1.0; stamp = newest h } = is_of (record { viewer = joined h + 1; role = one.1.0; stamp = newest h }) one.1.4 in
     record {
-      first = all_frames h;
+      first = one.1.1;
       is_next = ap (λ (g : Joined). g.viewer) same;
-      adds = one.2 ∙ ap (λ (e : Entry). e ∷ []) (one.1.3 ∙ ap (λ (g : Joined). Join g.viewer g.role (all_frames h)) (sym same));
+      adds = one.2 ∙ ap (λ (e : Entry). e ∷ []) (one.1.5 ∙ ap (λ (g : Joined). Join g.viewer g.role one.1.1) (sym same));
     }
   where
     is_of : (other : Joined) → joined_as (Ok given) ≡ joined_as (Ok other) → given ≡ other
@@ -119,27 +120,26 @@ read_stops h viewer answer e = cases (is_live h viewer) (ended h viewer) (not (i
     cases true false false true worn q = absurd (let w : Some (was_read (Err worn)) ≡ Some (was_read (Ok answer)) = q in cc)
     cases true false false false worn q = absurd (let w : None ≡ Some (was_read (Ok answer)) = q in cc)
 
-pub read_adds : (h : History) (viewer count stamp : ℕ) (closed : Bool) (added : List Entry) → Step h (read_as viewer) (was_read (Ok (Frames count stamp closed))) added → added ≡ Read viewer Suffix ∷ []
-read_adds h viewer count stamp closed added s =
-    let one = adding h (read_as viewer) (was_read (Ok (Frames count stamp closed))) added (λ e. no_stop (read_stops h viewer (Frames count stamp closed) e)) s in
-    one.2 ∙ ap (λ (e : Entry). e ∷ []) one.1.1
-  where
-    no_stop : (Frames count stamp closed ≡ Ended) ⊎ (Frames count stamp closed ≡ Empty) → ⊥
-    no_stop (inl e) = cc
-    no_stop (inr e) = cc
+-- a read that gave something
+abbrev pub Gave : ReadAnswer → Type 0
+Gave (Frames count stamp closed) = Unit {0}
+Gave (Fresh stamp closed) = Unit {0}
+Gave answer = ⊥
 
--- no read answers Fresh
-pub not_fresh : (h : History) (viewer stamp : ℕ) (closed : Bool) (added : List Entry) → Step h (read_as viewer) (was_read (Ok (Fresh stamp closed))) added → ⊥
-not_fresh h viewer stamp closed added s =
-    let one = adding h (read_as viewer) (was_read (Ok (Fresh stamp closed))) added (λ e. no_stop (read_stops h viewer (Fresh stamp closed) e)) s in
-    other _ _ _ one.1.0
+-- it adds a Read, by the frames or by a picture
+pub read_adds : (h : History) (viewer : ℕ) (answer : ReadAnswer) (added : List Entry) → Gave answer → Step h (read_as viewer) (was_read (Ok answer)) added → (how : How) × (added ≡ Read viewer how ∷ [])
+read_adds h viewer answer added gave s =
+    let one = adding h (read_as viewer) (was_read (Ok answer)) added (λ e. no_stop answer gave (read_stops h viewer answer e)) s in
+    (one.1.0, one.2 ∙ ap (λ (e : Entry). e ∷ []) one.1.3)
   where
-    no_stop : (Fresh stamp closed ≡ Ended) ⊎ (Fresh stamp closed ≡ Empty) → ⊥
-    no_stop (inl e) = cc
-    no_stop (inr e) = cc
-
-    other : (count latest : ℕ) (shut : Bool) → was_read (Ok (Fresh stamp closed)) ≡ was_read (Ok (Frames count latest shut)) → ⊥
-    other count latest shut e = cc
+    no_stop : (answer : ReadAnswer) → Gave answer → (answer ≡ Ended) ⊎ (answer ≡ Empty) → ⊥
+    no_stop (Frames count stamp closed) gave (inl e) = cc
+    no_stop (Frames count stamp closed) gave (inr e) = cc
+    no_stop (Fresh stamp closed) gave (inl e) = cc
+    no_stop (Fresh stamp closed) gave (inr e) = cc
+    no_stop Ended gave e = gave
+    no_stop Empty gave e = gave
+    no_stop (Hold waiting) gave e = gave
 
 -- ---- calls that add nothing
 
@@ -150,22 +150,26 @@ feed_stopped h bytes now r added s = stopped h (feed bytes now) (fed (Err r)) ad
     no stamp e = cc
 
 pub join_stopped : (h : History) (asked : Asked) (r : JoinRefusal) (added : List Entry) → Step h (join_in asked) (joined_as (Err r)) added → added ≡ []
-join_stopped h asked r added s = stopped h (join_in asked) (joined_as (Err r)) added (λ e a. no _ a.2) s
+join_stopped h asked r added s = stopped h (join_in asked) (joined_as (Err r)) added (λ e a. no _ a.4) s
   where
     no : (given : Joined) → joined_as (Err r) ≡ joined_as (Ok given) → ⊥
     no given e = cc
 
 -- a read that gave something
-abbrev pub IsFrames : Result ReadAnswer ReadRefusal → Type 0
-IsFrames (Ok (Frames count stamp closed)) = Unit {0}
-IsFrames r = ⊥
+abbrev pub IsGiven : Result ReadAnswer ReadRefusal → Type 0
+IsGiven (Ok answer) = Gave answer
+IsGiven (Err refusal) = ⊥
 
-pub read_stopped : (h : History) (viewer : ℕ) (r : Result ReadAnswer ReadRefusal) (added : List Entry) → (IsFrames r → ⊥) → Step h (read_as viewer) (was_read r) added → added ≡ []
+pub read_stopped : (h : History) (viewer : ℕ) (r : Result ReadAnswer ReadRefusal) (added : List Entry) → (IsGiven r → ⊥) → Step h (read_as viewer) (was_read r) added → added ≡ []
 read_stopped h viewer r added other s =
-    stopped h (read_as viewer) (was_read r) added (λ e a. other (subst IsFrames (sym (same (Ok (Frames (min (lacked h viewer) (2 ^ 32 - 1)) (newest h) (is_closed h))) a.0)) tt)) s
+    stopped h (read_as viewer) (was_read r) added (λ e a. other (subst IsGiven (sym (same (Ok (updated_as h viewer a.0)) a.2)) (gives a.0))) s
   where
     same : (q : Result ReadAnswer ReadRefusal) → was_read r ≡ was_read q → r ≡ q
     same q e = cc
+
+    gives : (how : How) → Gave (updated_as h viewer how)
+    gives Suffix = tt
+    gives (Picture is) = tt
 
 pub write_stopped : (h : History) (viewer : ℕ) (acts : List Act) (r : WriteRefusal) (added : List Entry) → Step h (write_acts viewer acts) (was_written (Err r)) added → added ≡ []
 write_stopped h viewer acts r added s = stopped h (write_acts viewer acts) (was_written (Err r)) added (λ e a. no _ a.0) s

@@ -5,7 +5,7 @@ use Rattle.std.proofs.Math.Nat.{div-add-mod}
 use Rattle.std.proofs.Math.Seq.{take-add}
 use Rattle.std.proofs.lemmas.List.{append_cancel_left, take-append-le, take_min}
 use Rattle.std.proofs.lemmas.Bool.Decides.{nat_tests}
-use Rattle.gate_model.specs.declared.act.Act.TheVariants.{Sync as act_sync}
+use Rattle.gate_model.specs.declared.act.Act.{Act}
 use Rattle.gate_model.specs.declared.cause.Cause.TheVariants.{Stopped}
 use Rattle.gate_model.specs.declared.answer.Answer.{Answer}
 use Rattle.gate_model.specs.declared.answer.Answer.TheVariants.{Write as was_written, Take as was_taken}
@@ -18,13 +18,16 @@ use Rattle.gate_model.specs.session.Entries.{taken_by}
 use Rattle.gate_model.specs.session.History.{History, newest, is_closed}
 use Rattle.gate_model.specs.session.Output.{out, sent, taken, untaken}
 use Rattle.gate_model.specs.session.Calls.{Step, take_entry}
-use Rattle.gate_script.specs.declared.reading.Reading.{Reading}
-use Rattle.gate_script.specs.declared.reading.Reading.TheVariants.{Whole, Cut, Bad, TooMany}
-use Rattle.gate_script.specs.Hexadecimal.{digits_of, lower_digit}
-use Rattle.gate_script.specs.Lines.{Line, blank, bad, moment, start, server, join, read, write, take_up_to, leave, close, pixel, same, read_untold, acknowledge, done}
+use Rattle.script_lines.specs.declared.reading.Reading.{Reading}
+use Rattle.script_lines.specs.declared.reading.Reading.TheVariants.{Whole, Cut, Bad, TooMany}
+use Rattle.script_lines.specs.Hexadecimal.{digits_of, lower_digit}
+use Rattle.script_lines.specs.declared.line.Line.{Line}
+use Rattle.script_lines.specs.declared.line.Line.TheVariants.{Blank as blank, Bad as bad, At as moment, Start as start, Server as server, Join as join, Read as read, Write as write, Take as take_up_to, Leave as leave, Close as close, Pixel as pixel, Same as same, Acknowledge as acknowledge, Done as done}
+use Rattle.script_lines.specs.declared.order.Order.{Order}
+use Rattle.script_lines.specs.Lines.{line_in}
 use Rattle.gate_script.specs.Told.{answer_to, taken_text, took_line}
 use Rattle.gate_script.proofs.StepLaws.{take_is}
-use Rattle.gate_script.specs.Plays.{Play, Plays, Does, DoesReading, Begins, Calls, Answers, Prints, IsLawful, Tells}
+use Rattle.gate_script.specs.Plays.{Play, Plays, Does, DoesReading, Begins, Calls, Answers, Writes, Prints, IsLawful, Tells, acknowledgement}
 
 both : {A : Type 0} (x y : A) (xs ys : List A) → x ∷ xs ≡ y ∷ ys → (x ≡ y) × (xs ≡ ys)
 both x y xs ys e = (cc, cc)
@@ -121,8 +124,8 @@ IsNoTake event = Unit {0}
 takes_none : (h : History) (event : Event) (r : Answer) (added : List Entry) → IsNoTake event → Step h event r added → TakesNone added
 takes_none h event r [] other s = inl refl
 takes_none h (feed bytes now) r (e ∷ []) other s = inr (e, refl, ap taken_by s.1.1.4)
-takes_none h (join_in asked) r (e ∷ []) other s = inr (e, refl, ap taken_by s.1.1.3)
-takes_none h (read_as viewer) r (e ∷ []) other s = inr (e, refl, ap taken_by s.1.1.1)
+takes_none h (join_in asked) r (e ∷ []) other s = inr (e, refl, ap taken_by s.1.1.5)
+takes_none h (read_as viewer) r (e ∷ []) other s = inr (e, refl, ap taken_by s.1.1.3)
 takes_none h (write_acts viewer acts) r (e ∷ []) other s = inr (e, refl, ap taken_by s.1.1.1)
 takes_none h (leave_as viewer) r (e ∷ []) other s = inr (e, refl, ap taken_by s.1.1.1)
 takes_none h (close_for cause) r (e ∷ []) other s = inr (e, refl, ap taken_by s.1.1.1)
@@ -151,10 +154,13 @@ module _ (bytes own : List ℕ) where
       subst (λ (k : Play). AreSent k.history (bytes ++ own)) (sym begins.after_it)
       (none_printed (begins.entry ∷ []) none (sent_still [] begins.entry bytes (ap taken_by begins.step.4) before))
 
-  writes_send : (reading : Reading) (viewer : ℕ) (p q : Play) (a f : List ℕ) → DoesReading reading viewer p q a f → own ≡ [] → AreSent p.history bytes → AreSent q.history (bytes ++ own)
-  writes_send (Whole acts passed) viewer p q a f writes none s =
+  acts_send : (viewer : ℕ) (acts : List Act) (passed : ℕ) (p q : Play) (a f : List ℕ) → Writes viewer acts passed p q a f → own ≡ [] → AreSent p.history bytes → AreSent q.history (bytes ++ own)
+  acts_send viewer acts passed p q a f writes none s =
       subst (λ (k : Play). AreSent k.history (bytes ++ own)) (sym writes.after_it)
       (none_printed (writes.added ++ p.history) none (none_added p.history writes.added bytes (takes_none p.history (write_acts viewer acts) (was_written writes.result) writes.added tt writes.step) s))
+
+  writes_send : (reading : Reading) (viewer : ℕ) (p q : Play) (a f : List ℕ) → DoesReading reading viewer p q a f → own ≡ [] → AreSent p.history bytes → AreSent q.history (bytes ++ own)
+  writes_send (Whole acts passed) viewer p q a f writes none s = acts_send viewer acts passed p q a f writes none s
   writes_send (Cut place) viewer p q a f answers none s = subst (λ (k : Play). AreSent k.history (bytes ++ own)) (sym answers.same) (none_printed p.history none s)
   writes_send (Bad at) viewer p q a f answers none s = subst (λ (k : Play). AreSent k.history (bytes ++ own)) (sym answers.same) (none_printed p.history none s)
   writes_send TooMany viewer p q a f no_line none s = absurd no_line
@@ -184,15 +190,14 @@ module _ (bytes own : List ℕ) where
   line_sends close p q a f does none s = calls_send (close_for Stopped) p q a f tt does none s
   line_sends (pixel viewer x y) p q a f does none s = subst (λ (k : Play). AreSent k.history (bytes ++ own)) (sym does.same) (none_printed p.history none s)
   line_sends (same one other) p q a f does none s = answers_send p q does.0 a f does.2 none s
-  line_sends (read_untold viewer) p q a f does none s = calls_send (read_as viewer) p q does.answer f tt does.calls none s
-  line_sends (acknowledge viewer) p q a f does none s = calls_send (write_acts viewer (act_sync (newest p.history) ∷ [])) p q does.answer f tt does.calls none s
+  line_sends (acknowledge viewer) p q a f does none s = acts_send viewer (acknowledgement p.history) 0 p q a f does none s
   line_sends done p q a f does none s = subst (λ (k : Play). AreSent k.history (bytes ++ own)) (sym does.same) (none_printed p.history none s)
 
-sends : (lines : List Line) (q : Play) (a f bytes : List ℕ) → Plays lines q a f bytes → AreSent q.history bytes
+sends : (orders : List Order) (q : Play) (a f bytes : List ℕ) → Plays orders q a f bytes → AreSent q.history bytes
 sends [] q a f bytes w = subst (λ (k : Play). AreSent k.history bytes) (sym w.0) (record { first = w.3; there = omega arith })
-sends (line ∷ lines) q a f bytes w =
-    subst (AreSent q.history) (sym w.5.joined) (line_sends w.3 w.5.own_bytes line w.0 q w.5.own_a w.5.own_f w.5.does w.5.prints (sends lines w.0 w.1 w.2 w.3 w.4))
+sends (order ∷ orders) q a f bytes w =
+    subst (AreSent q.history) (sym w.5.joined) (line_sends w.3 w.5.own_bytes (line_in order) w.0 q w.5.answer w.5.own_f w.5.does w.5.prints (sends orders w.0 w.1 w.2 w.3 w.4))
 
--- the lines tell what they told, where the history is legal and true
-pub tells : (lines : List Line) (p : Play) (a f bytes : List ℕ) → Plays lines p a f bytes → IsLawful p.history → Tells lines p a f
-tells lines p a f bytes plays lawful = record { bytes = bytes; plays = plays; lawful = lawful; sent_on = (sends lines p a f bytes plays).first }
+-- the orders tell what they told, where the history is legal and true
+pub tells : (orders : List Order) (p : Play) (a f bytes : List ℕ) → Plays orders p a f bytes → IsLawful p.history → Tells orders p a f
+tells orders p a f bytes plays lawful = record { bytes = bytes; plays = plays; lawful = lawful; sent_on = (sends orders p a f bytes plays).first }

@@ -1,4 +1,4 @@
--- What lines do: from the moment and the history before to those after, with what they tell (this
+-- What the lines of orders do: from the moment and the history before to those after, with what they tell (this
 -- project's own). The history has the newest entry first, and is empty before `start`.
 use Rattle.std.specs.Prelude.{◌≡◌, ℕ, List, [], ◌∷◌, ◌++◌, take, true, false, ◌&&◌, if◌then◌else◌, ◌⊎◌, codes, Option, Some, None, Result}
 use Rattle.gate_model.specs.declared.act.Act.TheVariants.{Sync as act_sync}
@@ -19,16 +19,20 @@ use Rattle.gate_model.specs.session.Delivered.{delivered}
 use Rattle.gate_model.specs.session.Output.{out, taken}
 use Rattle.gate_model.specs.session.Rights.{is_live}
 use Rattle.canvas.specs.Standing.{dot_at}
-use Rattle.gate_script.specs.declared.reading.Reading.{Reading}
-use Rattle.gate_script.specs.declared.reading.Reading.TheVariants.{Whole, Cut, Bad, TooMany}
-use Rattle.gate_script.specs.Acts.{IsReading}
+use Rattle.script_lines.specs.declared.reading.Reading.{Reading}
+use Rattle.script_lines.specs.declared.reading.Reading.TheVariants.{Whole, Cut, Bad, TooMany}
+use Rattle.script_lines.specs.Acts.{IsReading}
 use Rattle.gate_model.specs.text.Statuses.{not_found}
 use Rattle.gate_model.specs.session.Steps.{Legal, StartStep}
 use Rattle.gate_model.specs.session.Calls.{Step}
 use Rattle.gate_model.specs.session.Truth.{Faithful}
-use Rattle.gate_script.specs.declared.size.Size.{Size}
-use Rattle.gate_script.specs.Lines.{Line, blank, bad, moment, start, server, join, read, write, take_up_to, leave, close, pixel, same, read_untold, acknowledge, done}
-use Rattle.gate_script.specs.Told.{answer_line, answer_to, framings, refused_line, text_answer, cut_line, bad_text_line, pixel_line, same_line, differ_line, took_line}
+use Rattle.gate_model.specs.session.Whole.{Whole as IsWholeHistory}
+use Rattle.script_lines.specs.declared.size.Size.{Size}
+use Rattle.script_lines.specs.declared.line.Line.{Line}
+use Rattle.script_lines.specs.declared.line.Line.TheVariants.{Blank, Bad as Outside, At, Start, Server, Join, Read, Write, Take, Leave, Close, Pixel, Same as Alike, Acknowledge, Done}
+use Rattle.script_lines.specs.declared.order.Order.{Order}
+use Rattle.script_lines.specs.Lines.{line_in, told_by}
+use Rattle.gate_script.specs.Told.{answer_line, answer_to, framings, refused_line, write_answer, cut_line, bad_text_line, pixel_line, same_line, differ_line, took_line}
 
 pub record Play : Type 0 where
   pub now : ℕ
@@ -85,7 +89,7 @@ pub record Writes (viewer : ℕ) (acts : List Act) (passed : ℕ) (p q : Play) (
   pub result : Result Written WriteRefusal
   pub added : List Entry
   pub step : Step p.history (write_acts viewer acts) (was_written result) added
-  pub told : text_answer result passed ≡ Some a
+  pub told : write_answer result passed ≡ Some a
   pub after_it : q ≡ record { now = p.now; history = added ++ p.history }
   pub framed : f ≡ framings p.history added
 
@@ -96,72 +100,69 @@ DoesReading (Cut place) viewer p q a f = Answers p q (cut_line place) a f
 DoesReading (Bad at) viewer p q a f = Answers p q (bad_text_line at) a f
 DoesReading TooMany viewer p q a f = ⊥
 
+-- the acknowledgement of the newest stamp
+abbrev pub acknowledgement : History → List Act
+acknowledgement h = act_sync (newest h) ∷ []
+
 -- the call that a line makes
 abbrev pub event_of : Line → Play → Option Event
-event_of (server bytes) p = Some (feed bytes p.now)
-event_of (join asked) p = Some (join_in asked)
-event_of (read viewer) p = Some (read_as viewer)
-event_of (take_up_to most) p = Some (take_most most)
-event_of (leave viewer) p = Some (leave_as viewer)
-event_of close p = Some (close_for Stopped)
-event_of (read_untold viewer) p = Some (read_as viewer)
-event_of (acknowledge viewer) p = Some (write_acts viewer (act_sync (newest p.history) ∷ []))
+event_of (Server bytes) p = Some (feed bytes p.now)
+event_of (Join asked) p = Some (join_in asked)
+event_of (Read viewer) p = Some (read_as viewer)
+event_of (Take most) p = Some (take_most most)
+event_of (Leave viewer) p = Some (leave_as viewer)
+event_of Close p = Some (close_for Stopped)
+event_of (Acknowledge viewer) p = Some (write_acts viewer (acknowledgement p.history))
 event_of line p = None
-
--- the answer to a call that isn't told
-pub record Untold (event : Event) (p q : Play) (a f : List ℕ) : Type 0 where
-  pub answer : List ℕ
-  pub calls : Calls event p q answer f
-  pub nothing_told : a ≡ []
 
 -- one line
 abbrev pub Does : Line → Play → Play → List ℕ → List ℕ → Type 0
-Does blank p q a f = Answers p q [] a f
-Does bad p q a f = ⊥
-Does (moment now) p q a f = Answers record { now = now; history = p.history } q (answer_line (codes "now") (now ∷ [])) a f
-Does (start size mode entries) p q a f = Begins (setup_of size mode entries) p q a f
-Does (server bytes) p q a f = Calls (feed bytes p.now) p q a f
-Does (join asked) p q a f = Calls (join_in asked) p q a f
-Does (read viewer) p q a f = Calls (read_as viewer) p q a f
-Does (write viewer text) p q a f = (reading : Reading) × IsReading text reading × DoesReading reading viewer p q a f
-Does (take_up_to most) p q a f = Calls (take_most most) p q a f
-Does (leave viewer) p q a f = Calls (leave_as viewer) p q a f
-Does close p q a f = Calls (close_for Stopped) p q a f
-Does (pixel viewer x y) p q a f = Answers p q (pixel_answer p.history viewer x y) a f
-Does (same one other) p q a f = (answer : List ℕ) × Compares p.history one other answer × Answers p q answer a f
-Does (read_untold viewer) p q a f = Untold (read_as viewer) p q a f
-Does (acknowledge viewer) p q a f = Untold (write_acts viewer (act_sync (newest p.history) ∷ [])) p q a f
-Does done p q a f = Answers p q (answer_line (codes "done") (newest p.history ∷ [])) a f
+Does Blank p q a f = Answers p q [] a f
+Does Outside p q a f = ⊥
+Does (At now) p q a f = Answers record { now = now; history = p.history } q (answer_line (codes "now") (now ∷ [])) a f
+Does (Start size mode entries) p q a f = Begins (setup_of size mode entries) p q a f
+Does (Server bytes) p q a f = Calls (feed bytes p.now) p q a f
+Does (Join asked) p q a f = Calls (join_in asked) p q a f
+Does (Read viewer) p q a f = Calls (read_as viewer) p q a f
+Does (Write viewer text) p q a f = (reading : Reading) × IsReading text reading × DoesReading reading viewer p q a f
+Does (Take most) p q a f = Calls (take_most most) p q a f
+Does (Leave viewer) p q a f = Calls (leave_as viewer) p q a f
+Does Close p q a f = Calls (close_for Stopped) p q a f
+Does (Pixel viewer x y) p q a f = Answers p q (pixel_answer p.history viewer x y) a f
+Does (Alike one other) p q a f = (answer : List ℕ) × Compares p.history one other answer × Answers p q answer a f
+Does (Acknowledge viewer) p q a f = Writes viewer (acknowledgement p.history) 0 p q a f
+Does Done p q a f = Answers p q (answer_line (codes "done") (newest p.history ∷ [])) a f
 
--- the bytes that an answer prints, where it is that of a take
+-- the bytes that an answer names, where it is that of a take
 abbrev pub Prints : Line → List ℕ → List ℕ → Type 0
-Prints (take_up_to most) a bytes = a ≡ took_line bytes
+Prints (Take most) a bytes = a ≡ took_line bytes
 Prints line a bytes = bytes ≡ []
 
--- a line after some lines, which led to p, told `before_a` and `before_f`, and printed `before_bytes`
-pub record Then (line : Line) (p q : Play) (before_a before_f before_bytes a f bytes : List ℕ) : Type 0 where
-  pub own_a : List ℕ
+-- an order after some orders, which led to p, told `before_a` and `before_f`, and took `before_bytes`. Its
+-- frames are told, and its answer where the order says so.
+pub record Then (order : Order) (p q : Play) (before_a before_f before_bytes a f bytes : List ℕ) : Type 0 where
+  pub answer : List ℕ
   pub own_f : List ℕ
   pub own_bytes : List ℕ
-  pub does : Does line p q own_a own_f
-  pub prints : Prints line own_a own_bytes
-  pub answered : a ≡ before_a ++ own_a
+  pub does : Does (line_in order) p q answer own_f
+  pub prints : Prints (line_in order) answer own_bytes
+  pub answered : a ≡ before_a ++ told_by order answer
   pub framed : f ≡ before_f ++ own_f
   pub joined : bytes ≡ before_bytes ++ own_bytes
 
--- lines, the newest first, from the opening on: what they tell, and the bytes that their takes print
-abbrev pub Plays : List Line → Play → List ℕ → List ℕ → List ℕ → Type 0
+-- orders, the newest first, from the opening on: what they tell, and the bytes that their takes name
+abbrev pub Plays : List Order → Play → List ℕ → List ℕ → List ℕ → Type 0
 Plays [] q a f bytes = (q ≡ opening) × (a ≡ []) × (f ≡ []) × (bytes ≡ [])
-Plays (line ∷ lines) q a f bytes = (p : Play) × (before_a before_f before_bytes : List ℕ) × Plays lines p before_a before_f before_bytes × Then line p q before_a before_f before_bytes a f bytes
+Plays (order ∷ orders) q a f bytes = (p : Play) × (before_a before_f before_bytes : List ℕ) × Plays orders p before_a before_f before_bytes × Then order p q before_a before_f before_bytes a f bytes
 
--- a history that is legal and true; before `start` it is empty
+-- a history that is legal, true and whole; before `start` it is empty
 abbrev pub IsLawful : History → Type 0
 IsLawful [] = Unit {0}
-IsLawful (e ∷ g) = Legal (e ∷ g) × Faithful (e ∷ g)
+IsLawful (e ∷ g) = Legal (e ∷ g) × Faithful (e ∷ g) × IsWholeHistory (e ∷ g)
 
--- the lines were done, and told a and f; the history is legal and true; and the bytes that the takes
--- print are, joined, the first ones that the history sends to the host, as many as it took
-pub record Tells (lines : List Line) (p : Play) (a f : List ℕ) : Type 0 where
+-- the orders were done, and told a and f; the history is legal, true and whole; and the bytes that the takes
+-- name are, joined, the first ones that the history sends to the host, as many as it took
+pub record Tells (lines : List Order) (p : Play) (a f : List ℕ) : Type 0 where
   pub bytes : List ℕ
   pub plays : Plays lines p a f bytes
   pub lawful : IsLawful p.history

@@ -29,7 +29,7 @@ use Rattle.canvas.specs.declared.dot.Dot.{Dot}
 use Rattle.canvas.specs.declared.dot.Dot.TheVariants.{Outside, Clear, Painted}
 use Rattle.gate_model.specs.session.History.{History}
 use Rattle.gate_model.specs.session.Delivered.{delivered, given}
-use Rattle.gate_script.specs.Hexadecimal.{digits_of}
+use Rattle.script_lines.specs.Hexadecimal.{digits_of}
 
 abbrev pub blank_and : ℕ → List ℕ
 blank_and n = 32 ∷ decimal n
@@ -77,11 +77,15 @@ read_answer (Ok answer) = Some (read_told answer)
 read_answer (Err read_no_viewer) = Some (refused_line not_found)
 read_answer (Err refusal) = None
 
-abbrev pub write_answer : Result Written WriteRefusal → Option (List ℕ)
-write_answer (Ok counts) = Some (answer_line (codes "written") (counts.keys ∷ counts.denied ∷ []))
-write_answer (Err write_no_viewer) = Some (refused_line not_found)
-write_answer (Err (write_closed cause)) = Some (refused_line session_closed)
-write_answer (Err refusal) = None
+-- the answer to a write of a text in which so many instructions have no meaning
+abbrev pub written_line : Written → ℕ → List ℕ
+written_line counts passed = answer_line (codes "written") (counts.keys ∷ counts.denied ∷ passed ∷ [])
+
+abbrev pub write_answer : Result Written WriteRefusal → ℕ → Option (List ℕ)
+write_answer (Ok counts) passed = Some (written_line counts passed)
+write_answer (Err write_no_viewer) passed = Some (refused_line not_found)
+write_answer (Err (write_closed cause)) passed = Some (refused_line session_closed)
+write_answer (Err refusal) passed = None
 
 -- the bytes that a take handed out, or a dash where there were none
 abbrev pub taken_text : List ℕ → List ℕ
@@ -103,7 +107,7 @@ abbrev pub answer_to : Answer → Event → Option (List ℕ)
 answer_to (fed result) event = feed_answer result
 answer_to (joined_as result) event = join_answer result
 answer_to (was_read result) event = read_answer result
-answer_to (was_written result) event = write_answer result
+answer_to (was_written result) event = write_answer result 0
 answer_to (was_taken bytes closed) event = Some (took_line bytes)
 answer_to (was_left result) (leave_as viewer) = leave_answer viewer result
 answer_to (was_closed result) event = close_answer result
@@ -129,11 +133,7 @@ framing g e = []
 abbrev pub framings : History → List Entry → List ℕ
 framings g added = flat_map (framing g) added
 
--- what a text of instructions is told as: how many keys were written, were denied, and how many
--- instructions have no meaning; where the text is cut, or is bad and why
-abbrev pub written_line : Written → ℕ → List ℕ
-written_line counts passed = answer_line (codes "written") (counts.keys ∷ counts.denied ∷ passed ∷ [])
-
+-- where a text is bad, and why; where it is cut
 abbrev pub kind_word : BadKind → List ℕ
 kind_word Digit = codes "digit"
 kind_word Length = codes "length"
@@ -147,11 +147,6 @@ cut_line place = answer_line (codes "cut") (place ∷ [])
 
 abbrev pub bad_text_line : BadAt → List ℕ
 bad_text_line at = codes "bad" ++ 32 ∷ decimal at.place ++ 32 ∷ kind_word at.kind ++ 10 ∷ []
-
--- the answer to a write of a script; there is none where the run ends with it
-abbrev pub text_answer : Result Written WriteRefusal → ℕ → Option (List ℕ)
-text_answer (Ok counts) passed = Some (written_line counts passed)
-text_answer (Err refusal) passed = write_answer (Err refusal)
 
 -- what a place shows
 abbrev pub pixel_line : Dot → List ℕ

@@ -1,20 +1,21 @@
 //! The words, and the status that a run ends with.
 
-ghost use Rattle.std.specs.Prelude.{◌≡◌, ◌≤◌, ◌↔◌, ◌⊎◌, [], Option, List, ℕ, map, string_bytes, IfErr, None, Some};
+ghost use Rattle.std.specs.Prelude.{◌≡◌, ◌≤◌, ◌↔◌, ◌⊎◌, [], Option, List, ℕ, map, string_bytes, IfErr, IfOk, None, Some};
 ghost use Rattle.gate_outside.specs.Edge.{Rose};
-ghost use Rattle.gate_script.specs.declared.form.Form.{Form as Forms};
-ghost use Rattle.gate_script.specs.Words.{IsForm, form_of};
+ghost use Rattle.script_lines.specs.declared.form.Form.{Form as Forms};
+ghost use Rattle.script_lines.specs.Words.{IsForm, form_of};
 ghost use Rattle.gate_script.specs.Outcomes.{Outcome, Ran, last_line};
+ghost use Rattle.gate_script.specs.Sinks.{held};
 ghost use Rattle.gate_script.specs.Running.{Ended, HasCause, HasRead, Put, RunEnds, refused_status, status_after};
 
-use crate::form::Form;
+use crate::halt::Halt;
 use crate::input::Input;
 use crate::refused::Refused;
-use crate::report::say;
+use crate::reply::Reply;
 use crate::run::Run;
 use crate::stop::Stop;
-use crate::words::form_of;
-use gate_outside::{Sink, Source};
+use gate_outside::{Sink, Source, write_all};
+use script_lines::{Form, form_of};
 use std::alloc::Global;
 
 /// Does what the words say, and answers the status. The words are those after the program's name, in
@@ -65,11 +66,9 @@ fn run<S: Source, A: Sink, F: Sink>(
     frames: &mut F,
 ) -> Result<(), Stop>
     requires { IsForm form }
-    ensures ran { HasRead (S.left source.old) (S.left source.new) (λ bytes. RunEnds form bytes (S.left source.new) result (A.written answers.old) (F.written frames.old) (A.written answers.new) (F.written frames.new)) }
-    ensures later_source { S.faults source.old ≤ S.faults source.new }
-    ensures later_answers { A.faults answers.old ≤ A.faults answers.new }
-    ensures later_frames { F.faults frames.old ≤ F.faults frames.new }
-    ensures cause { IfErr result (λ stop. HasCause stop (Rose (S.faults source.old) (S.faults source.new)) (Rose (A.faults answers.old) (A.faults answers.new) ⊎ Rose (F.faults frames.old) (F.faults frames.new))) }
+    ensures ran { HasRead (S.left source.old) (S.left source.new) (λ bytes. RunEnds form bytes (S.left source.new) (Rose (S.faults source.old) (S.faults source.new)) result
+        (held (A.written answers.old) (A.faults answers.old) (F.written frames.old) (F.faults frames.old)) (held (A.written answers.new) (A.faults answers.new) (F.written frames.new) (F.faults frames.new))) }
+    ensures later { S.faults source.old ≤ S.faults source.new }
 {
     let mut input = Input {
         run: Run::new(alloc, form),
@@ -99,13 +98,27 @@ fn status<A: Sink>(alloc: Global, ended: Result<(), Stop>, answers: &mut A) -> u
 fn say_last<A: Sink>(alloc: Global, refused: Refused, answers: &mut A) -> Result<(), Stop>
     ensures put { Put result (last_line refused) (A.written answers.old) (A.written answers.new) }
     ensures later { A.faults answers.old ≤ A.faults answers.new }
-    ensures cause { IfErr result (λ stop. HasCause stop ⊥ (Rose (A.faults answers.old) (A.faults answers.new))) }
+    ensures cause { IfErr result (λ stop. HasCause stop (Rose (A.faults answers.old) (A.faults answers.new))) }
 {
-    let mut line = Vec::new(alloc);
-    match refused {
-        Refused::BadLine(number) => say(&mut line, "bad script line", &[number], answers),
-        Refused::Worn(entries) => say(&mut line, "worn", &[entries], answers),
+    let Ok(line) = last_line(alloc, refused) else {
+        return Err(Stop::NoMemory);
+    };
+    match write_all(answers, &line.answer) {
+        Ok(()) => Ok(()),
+        Err(_) => Err(Stop::WriteFault),
     }
+}
+
+// The last answer.
+fn last_line(alloc: Global, refused: Refused) -> Result<Reply, Halt>
+    ensures { IfOk result (λ reply. reply.answer.items ≡ last_line refused) }
+{
+    let mut reply = Reply::new(alloc);
+    match refused {
+        Refused::BadLine(number) => reply.say("bad script line", &[number])?,
+        Refused::Worn(entries) => reply.say("worn", &[entries])?,
+    }
+    Ok(reply)
 }
 
 // The status of a refused line.

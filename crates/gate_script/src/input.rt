@@ -2,12 +2,12 @@
 
 ghost use Rattle.std.specs.Prelude.{◌≡◌, ◌++◌, ◌+◌, ◌^◌, ◌<◌, ◌≤◌, ◌⊎◌, [], ℕ, List, Option, length, take, true, None, IfOk, IfErr, OnOk};
 ghost use Rattle.gate_outside.specs.Edge.{Rose, came};
-ghost use Rattle.gate_script.specs.Pieces.{first_piece};
+ghost use Rattle.script_lines.specs.Pieces.{first_piece};
 
-use crate::pieces::next_part;
 use crate::run::Run;
 use crate::stop::Stop;
 use gate_outside::{Sink, Source};
+use script_lines::{most_of, next_part};
 use std::alloc::Global;
 
 /// How many bytes are read at once.
@@ -21,8 +21,9 @@ pub(crate) struct Input {
 }
 
 impl Input {
-    ghost use Rattle.gate_script.specs.Grammar.{all_lines, most_of};
-    ghost use Rattle.gate_script.specs.Running.{BytesEnd, HasCause, HasCut, HasRead, IsReady, LastEnds, PartEnds, RunEnds, StepEnds};
+    ghost use Rattle.script_lines.specs.Grammar.{all_lines, most_of};
+    ghost use Rattle.gate_script.specs.Sinks.{Sinks, held};
+    ghost use Rattle.gate_script.specs.Running.{BytesEnd, HasCut, HasRead, IsReady, LastEnds, PartEnds, RunEnds, StepEnds};
 
     // Takes more bytes of the input, and does the pieces that are whole.
     fn take<A: Sink, F: Sink>(
@@ -34,16 +35,13 @@ impl Input {
     ) -> Result<(), Stop>
         requires ready { IsReady self.old.run }
         requires begun { first_piece (most_of self.old.run.form) self.old.piece.items ≡ None }
-        ensures step { (before : List ℕ) (a0 f0 : Option (List ℕ)) →
-            HasCut self.old.run.form before self.old.piece.items self.old.run a0 f0 (A.written answers.old) (F.written frames.old) →
-            BytesEnd self.old.run.form (before ++ bytes.now) result self.new.piece.items self.new.run a0 f0 (A.written answers.new) (F.written frames.new) }
+        ensures step { (before : List ℕ) (began : Sinks) →
+            HasCut self.old.run.form before self.old.piece.items self.old.run began (held (A.written answers.old) (A.faults answers.old) (F.written frames.old) (F.faults frames.old)) →
+            BytesEnd self.old.run.form (before ++ bytes.now) result self.new.piece.items self.new.run began (held (A.written answers.new) (A.faults answers.new) (F.written frames.new) (F.faults frames.new)) }
         ensures ready { OnOk result (IsReady self.new.run) }
         ensures form { self.new.run.form ≡ self.old.run.form }
         ensures begun { OnOk result (first_piece (most_of self.old.run.form) self.new.piece.items ≡ None) }
         ensures grows { OnOk result (self.new.run.read + length self.new.piece.items ≡ self.old.run.read + length self.old.piece.items + length bytes.now) }
-        ensures later_answers { A.faults answers.old ≤ A.faults answers.new }
-        ensures later_frames { F.faults frames.old ≤ F.faults frames.new }
-        ensures cause { IfErr result (λ stop. HasCause stop ⊥ (Rose (A.faults answers.old) (A.faults answers.new) ⊎ Rose (F.faults frames.old) (F.faults frames.new))) }
     {
         let mut at = 0;
         while at < bytes.len() {
@@ -63,20 +61,17 @@ impl Input {
         requires ready { IsReady self.old.run }
         requires begun { first_piece (most_of self.old.run.form) self.old.piece.items ≡ None }
         requires some { 0 < length bytes.now }
-        ensures step { (before : List ℕ) (a0 f0 : Option (List ℕ)) →
-            HasCut self.old.run.form before self.old.piece.items self.old.run a0 f0 (A.written answers.old) (F.written frames.old) →
-            PartEnds self.old.run.form before bytes.now result self.new.piece.items self.new.run a0 f0 (A.written answers.new) (F.written frames.new) }
+        ensures step { (before : List ℕ) (began : Sinks) →
+            HasCut self.old.run.form before self.old.piece.items self.old.run began (held (A.written answers.old) (A.faults answers.old) (F.written frames.old) (F.faults frames.old)) →
+            PartEnds self.old.run.form before bytes.now result self.new.piece.items self.new.run began (held (A.written answers.new) (A.faults answers.new) (F.written frames.new) (F.faults frames.new)) }
         ensures some { IfOk result (λ n. 0 < n) }
         ensures within { IfOk result (λ n. n ≤ length bytes.now) }
         ensures ready { OnOk result (IsReady self.new.run) }
         ensures form { self.new.run.form ≡ self.old.run.form }
         ensures begun { OnOk result (first_piece (most_of self.old.run.form) self.new.piece.items ≡ None) }
         ensures grows { IfOk result (λ n. self.new.run.read + length self.new.piece.items ≡ self.old.run.read + length self.old.piece.items + n) }
-        ensures later_answers { A.faults answers.old ≤ A.faults answers.new }
-        ensures later_frames { F.faults frames.old ≤ F.faults frames.new }
-        ensures cause { IfErr result (λ stop. HasCause stop ⊥ (Rose (A.faults answers.old) (A.faults answers.new) ⊎ Rose (F.faults frames.old) (F.faults frames.new))) }
     {
-        let part = next_part(self.run.most(), &self.piece, bytes);
+        let part = next_part(most_of(self.run.form), &self.piece, bytes);
         self.piece.extend_from_slice(&bytes[..part.count])?;
         if part.whole {
             self.run.piece(alloc, &self.piece, answers, frames)?;
@@ -94,19 +89,16 @@ impl Input {
     ) -> Result<(), Stop>
         requires ready { IsReady self.old.run }
         requires begun { first_piece (most_of self.old.run.form) self.old.piece.items ≡ None }
-        ensures step { (bytes : List ℕ) (a0 f0 : Option (List ℕ)) →
-            HasCut self.old.run.form bytes self.old.piece.items self.old.run a0 f0 (A.written answers.old) (F.written frames.old) →
-            LastEnds (all_lines self.old.run.form bytes) result a0 f0 (A.written answers.new) (F.written frames.new) }
-        ensures later_answers { A.faults answers.old ≤ A.faults answers.new }
-        ensures later_frames { F.faults frames.old ≤ F.faults frames.new }
-        ensures cause { IfErr result (λ stop. HasCause stop ⊥ (Rose (A.faults answers.old) (A.faults answers.new) ⊎ Rose (F.faults frames.old) (F.faults frames.new))) }
+        ensures { (bytes : List ℕ) (began : Sinks) →
+            HasCut self.old.run.form bytes self.old.piece.items self.old.run began (held (A.written answers.old) (A.faults answers.old) (F.written frames.old) (F.faults frames.old)) →
+            LastEnds (all_lines self.old.run.form bytes) result began (held (A.written answers.new) (A.faults answers.new) (F.written frames.new) (F.faults frames.new)) }
     {
         let piece: &[u8] = &self.piece;
         if piece.is_empty() {
-            return self.run.finish(answers);
+            return self.run.finish(alloc, answers, frames);
         }
         self.run.piece(alloc, piece, answers, frames)?;
-        self.run.finish(answers)
+        self.run.finish(alloc, answers, frames)
     }
 
     /// Reads the input to its end, and does it.
@@ -120,13 +112,10 @@ impl Input {
         requires ready { IsReady self.old.run }
         requires empty { self.old.piece.items ≡ [] }
         requires read { self.old.run.read ≡ 0 }
-        ensures step { (a0 f0 : Option (List ℕ)) →
-            HasCut self.old.run.form [] [] self.old.run a0 f0 (A.written answers.old) (F.written frames.old) →
-            HasRead (S.left source.old) (S.left source.new) (λ bytes. RunEnds self.old.run.form bytes (S.left source.new) result a0 f0 (A.written answers.new) (F.written frames.new)) }
-        ensures later_source { S.faults source.old ≤ S.faults source.new }
-        ensures later_answers { A.faults answers.old ≤ A.faults answers.new }
-        ensures later_frames { F.faults frames.old ≤ F.faults frames.new }
-        ensures cause { IfErr result (λ stop. HasCause stop (Rose (S.faults source.old) (S.faults source.new)) (Rose (A.faults answers.old) (A.faults answers.new) ⊎ Rose (F.faults frames.old) (F.faults frames.new))) }
+        ensures later { S.faults source.old ≤ S.faults source.new }
+        ensures step { (began : Sinks) →
+            HasCut self.old.run.form [] [] self.old.run began (held (A.written answers.old) (A.faults answers.old) (F.written frames.old) (F.faults frames.old)) →
+            HasRead (S.left source.old) (S.left source.new) (λ bytes. RunEnds self.old.run.form bytes (S.left source.new) (Rose (S.faults source.old) (S.faults source.new)) result began (held (A.written answers.new) (A.faults answers.new) (F.written frames.new) (F.faults frames.new))) }
     {
         let mut buffer = vec![in alloc; 0u8; READ_SIZE]?;
         'input: for _ in 0..u64::MAX {
@@ -149,17 +138,14 @@ impl Input {
         requires ready { IsReady self.old.run }
         requires begun { first_piece (most_of self.old.run.form) self.old.piece.items ≡ None }
         requires room { 0 < length buffer.old }
-        ensures step { (left0 : Option (List ℕ)) (bytes : List ℕ) (a0 f0 : Option (List ℕ)) → left0 ≡ came bytes (S.left source.old) →
-            HasCut self.old.run.form bytes self.old.piece.items self.old.run a0 f0 (A.written answers.old) (F.written frames.old) →
-            HasRead left0 (S.left source.new) (λ bytes. StepEnds self.old.run.form bytes (S.left source.new) result self.new.piece.items self.new.run a0 f0 (A.written answers.new) (F.written frames.new)) }
+        ensures step { (left0 : Option (List ℕ)) (bytes : List ℕ) (began : Sinks) → left0 ≡ came bytes (S.left source.old) →
+            HasCut self.old.run.form bytes self.old.piece.items self.old.run began (held (A.written answers.old) (A.faults answers.old) (F.written frames.old) (F.faults frames.old)) →
+            HasRead left0 (S.left source.new) (λ bytes. StepEnds self.old.run.form bytes (S.left source.new) (Rose (S.faults source.old) (S.faults source.new)) result self.new.piece.items self.new.run began (held (A.written answers.new) (A.faults answers.new) (F.written frames.new) (F.faults frames.new))) }
+        ensures later { S.faults source.old ≤ S.faults source.new }
         ensures ready { OnOk result (IsReady self.new.run) }
         ensures form { self.new.run.form ≡ self.old.run.form }
         ensures begun { OnOk result (first_piece (most_of self.old.run.form) self.new.piece.items ≡ None) }
         ensures grows { IfOk result (λ came. came ≡ true → self.old.run.read + length self.old.piece.items < self.new.run.read + length self.new.piece.items) }
-        ensures later_source { S.faults source.old ≤ S.faults source.new }
-        ensures later_answers { A.faults answers.old ≤ A.faults answers.new }
-        ensures later_frames { F.faults frames.old ≤ F.faults frames.new }
-        ensures cause { IfErr result (λ stop. HasCause stop (Rose (S.faults source.old) (S.faults source.new)) (Rose (A.faults answers.old) (A.faults answers.new) ⊎ Rose (F.faults frames.old) (F.faults frames.new))) }
     {
         match source.read(buffer) {
             Ok(count) => {

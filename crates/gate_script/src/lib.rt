@@ -2,29 +2,24 @@
 //! which does the lines of a script.
 //!
 //! `command` is the public call. Its contract says for each status what was read and written: the
-//! answers and the frames are just what the lines that the input makes (`specs/Grammar.antt`) tell of a
-//! legal and true history, and the bytes that the lines `take` print are the first ones that the history
-//! sends to the Telnet host (`specs/Plays.antt`, `specs/Outcomes.antt`).
+//! answers and the frames are just what the lines that the input makes (`specs/Grammar.antt` of
+//! script_lines) tell of a legal and true history, and the bytes that the lines `take` print are the first
+//! ones that the history sends to the Telnet host (`specs/Plays.antt`, `specs/Outcomes.antt`).
+//!
+//! A session's calls are made in memory, and tell what they tell to a reply. `Run::order` writes the reply
+//! after each line: the line of the frames, and then the answer.
 #![tactic(auto)]
 
-mod acts;
 mod commands;
-mod form;
-mod grammar;
-mod hexadecimal;
+mod halt;
 mod input;
-mod line;
-mod numbers;
-mod pieces;
 mod playing;
-mod reading;
 mod refused;
-mod report;
+mod reply;
 mod run;
 mod seeing;
 mod session;
-mod size;
+mod state;
 mod stop;
-mod words;
 
 pub use commands::command;

@@ -48,6 +48,7 @@ impl Draft {
                 source: 0,
                 answers: 0,
                 frames: 0,
+                turns: 0,
             },
             input: ByteReader::new(alloc),
             status: None,
@@ -137,6 +138,7 @@ impl Draft {
             "source" => self.ends.source = number,
             "answers" => self.ends.answers = number,
             "frames" => self.ends.frames = number,
+            "turns" => self.ends.turns = number,
             _ => bail!("no such setting"),
         }
         Ok(())

@@ -9,6 +9,7 @@ mod draft;
 mod reading;
 mod row;
 mod running;
+mod turns;
 
 use crate::reading::read_rows;
 use crate::running::difference;

@@ -15,13 +15,15 @@ pub struct Wanted {
     pub bytes: Vec<u8>,
 }
 
-/// How the input is given, and which calls fail, by their numbers, counted from 1; 0 for none.
+/// How the input is given, and which calls fail, by their numbers, counted from 1; 0 for none. Where `turns`
+/// isn't 0, each read gives a line, and has to come after the answers to the lines before it.
 #[derive(Clone, Copy)]
 pub struct Ends {
     pub piece: usize,
     pub source: u64,
     pub answers: u64,
     pub frames: u64,
+    pub turns: u64,
 }
 
 #[derive(Drop)]

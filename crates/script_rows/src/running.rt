@@ -1,10 +1,13 @@
 //! A row is run over memory.
 
 use crate::row::Row;
+use crate::turns::{LineSink, LineSource};
 use anyhow::{Result, anyhow};
 use gate_outside::{MemSink, MemSource};
 use gate_script::command;
 use std::alloc::Global;
+use std::cell::Cell;
+use std::rc::Rc;
 
 const ANSWERS_ROOM: usize = 1 << 20;
 
@@ -13,6 +16,9 @@ const FRAMES_ROOM: usize = 1 << 23;
 /// What the row gives, where it isn't what it has to give.
 pub fn difference(alloc: Global, row: &Row) -> Result<Option<String>> {
     let ends = row.ends;
+    if ends.turns > 0 {
+        return late(alloc, row);
+    }
     let mut source = MemSource::new(
         row.input.to_vec(alloc)?,
         ends.piece.max(1),
@@ -37,6 +43,35 @@ pub fn difference(alloc: Global, row: &Row) -> Result<Option<String>> {
         .is_some_and(|wanted| !wanted.is_met(frames.written()))
     {
         Some(shown(alloc, "frames", frames.written())?)
+    } else {
+        None
+    })
+}
+
+// What the row gives, where a line was read before the lines before it were answered.
+fn late(alloc: Global, row: &Row) -> Result<Option<String>> {
+    let answered = Rc::new(alloc, Cell::new(0))?;
+    let mut source = LineSource {
+        text: row.input.to_vec(alloc)?,
+        at: 0,
+        given: 0,
+        early: 0,
+        answered: answered.clone()?,
+    };
+    let mut answers = LineSink { answered };
+    let mut frames = sink(alloc, FRAMES_ROOM, 4096, 0)?;
+    let status = command(
+        alloc,
+        row.words.as_slice(),
+        &mut source,
+        &mut answers,
+        &mut frames,
+    );
+    Ok(if status != row.status {
+        Some(format!(in alloc; "status {status}")?)
+    } else if source.early > 0 {
+        let early = source.early;
+        Some(format!(in alloc; "{early} early reads")?)
     } else {
         None
     })

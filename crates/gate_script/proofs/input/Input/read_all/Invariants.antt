@@ -1,7 +1,8 @@
 use Rattle.std.proofs.Common.{◌≡◌, ℕ, ◌+◌, ◌≤◌, List, [], length, vec_len}
-use Rattle.std.specs.Prelude.{None, Option}
-use Rattle.gate_script.specs.Pieces.{first_piece}
-use Rattle.gate_script.specs.Grammar.{most_of}
+use Rattle.std.specs.Prelude.{None}
+use Rattle.script_lines.specs.Pieces.{first_piece}
+use Rattle.script_lines.specs.Grammar.{most_of}
+use Rattle.gate_script.specs.Sinks.{Sinks, held}
 use Rattle.gate_script.specs.Running.{HasCut, HasRead, IsReady}
 use Rattle.gate_script.proofs.input.Input.read_all.Given as goal
 
@@ -13,8 +14,6 @@ invariant-input g l = record {
   counts : l.counter ≤ l.self.run.read + length l.self.piece.items;
   room : vec_len l.buffer ≡ 65536;
   later_source : g.S.Source.faults l.fn.source ≤ g.S.Source.faults l.source;
-  later_answers : g.A.Sink.faults l.fn.answers ≤ g.A.Sink.faults l.answers;
-  later_frames : g.F.Sink.faults l.fn.frames ≤ g.F.Sink.faults l.frames;
-  step : (a0 f0 : Option (List ℕ)) → HasCut l.fn.self.run.form [] [] l.fn.self.run a0 f0 (g.A.Sink.written l.fn.answers) (g.F.Sink.written l.fn.frames)
-      → HasRead (g.S.Source.left l.fn.source) (g.S.Source.left l.source) (λ bytes. HasCut l.fn.self.run.form bytes l.self.piece.items l.self.run a0 f0 (g.A.Sink.written l.answers) (g.F.Sink.written l.frames));
+  step : (began : Sinks) → HasCut l.fn.self.run.form [] [] l.fn.self.run began (held (g.A.Sink.written l.fn.answers) (g.A.Sink.faults l.fn.answers) (g.F.Sink.written l.fn.frames) (g.F.Sink.faults l.fn.frames))
+      → HasRead (g.S.Source.left l.fn.source) (g.S.Source.left l.source) (λ bytes. HasCut l.fn.self.run.form bytes l.self.piece.items l.self.run began (held (g.A.Sink.written l.answers) (g.A.Sink.faults l.answers) (g.F.Sink.written l.frames) (g.F.Sink.faults l.frames)));
 }

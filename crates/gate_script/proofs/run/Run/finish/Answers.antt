@@ -1,5 +1,20 @@
-use Rattle.gate_script.proofs.RunLaws.{script_ends}
+use Rattle.std.proofs.Common.{◌∷◌, List, subst}
+use Rattle.script_lines.specs.declared.line.Line.TheVariants.{Done}
+use Rattle.script_lines.specs.declared.order.Order.{Order}
+use Rattle.script_lines.specs.declared.order.Order.TheVariants.{Told}
+use Rattle.script_lines.specs.Grammar.{lines_of}
+use Rattle.gate_script.specs.Sinks.{held}
+use Rattle.gate_script.specs.Running.{AllDone, LastEnds}
+use Rattle.gate_script.proofs.RunLaws.{all_done, draw_ending, last_ends, script_ending}
 use Rattle.gate_script.proofs.run.Run.finish.Goals as goal
 
-pub returns-in-Script-clause-step : goal.returns-in-Script-clause-step
-returns-in-Script-clause-step g c = λ pieces a0 f0 f had. script_ends c.args.self.now.form c.in-Script.field-0 pieces c.args.self.now a0 f0 (g.A.Sink.written c.args.answers.now) f c.in-Script.is had
+pub returns-in-Draw : goal.returns-in-Draw
+returns-in-Draw g c = λ pieces began had.
+    let orders = lines_of c.args.self.now.form pieces in
+    subst (λ (os : List Order). LastEnds os c.order.result began (held (g.A.Sink.written c.order.new.answers) (g.A.Sink.faults c.order.new.answers) (g.F.Sink.written c.order.new.frames) (g.F.Sink.faults c.order.new.frames))) (draw_ending c.args.self.now.form c.in-Draw.field-0 orders c.in-Draw.is)
+    (last_ends (Told Done ∷ orders) c.order.new.self began (held (g.A.Sink.written c.order.new.answers) (g.A.Sink.faults c.order.new.answers) (g.F.Sink.written c.order.new.frames) (g.F.Sink.faults c.order.new.frames)) c.order.result (c.order.ensures.step orders began had.at))
+
+pub returns-in-Script : goal.returns-in-Script
+returns-in-Script g c = λ pieces began had.
+    let orders = lines_of c.args.self.now.form pieces in
+    subst (λ (os : List Order). AllDone os began (held (g.A.Sink.written c.args.answers.now) (g.A.Sink.faults c.args.answers.now) (g.F.Sink.written c.args.frames.now) (g.F.Sink.faults c.args.frames.now))) (script_ending c.args.self.now.form c.in-Script.field-0 orders c.in-Script.is) (all_done orders c.args.self.now began (held (g.A.Sink.written c.args.answers.now) (g.A.Sink.faults c.args.answers.now) (g.F.Sink.written c.args.frames.now) (g.F.Sink.faults c.args.frames.now)) had.at)

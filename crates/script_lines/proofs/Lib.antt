@@ -1,0 +1,4 @@
+pub mod HexLaws
+pub mod GrammarLaws
+pub mod PieceLaws
+pub mod ActsLaws
