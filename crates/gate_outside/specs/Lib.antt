@@ -1,6 +1,7 @@
--- In reading order: what a call at the edge moved, the ends that lie in memory, draws, and how jobs start.
+-- In reading order: what a call at the edge moved, the ends that lie in memory, draws, how jobs start, and a net in memory.
 pub mod Edge
 pub mod Memory
 pub mod Ahead
 pub mod Draws
 pub mod Starts
+pub mod Nets

@@ -72,3 +72,7 @@ links_after s =
     if links_fail s
     then record s { calls = one_more s.calls; faults = one_more s.faults }
     else record s { left = drop 1 s.left; calls = one_more s.calls }
+
+-- the moments of a clock in memory after a call: the last comes again
+abbrev pub moments_after : List ℕ → List ℕ
+moments_after moments = if nat_le (length moments) 1 then moments else drop 1 moments

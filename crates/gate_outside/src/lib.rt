@@ -7,16 +7,24 @@
 #![tactic(auto)]
 
 mod again;
+mod bell;
+mod clock;
 mod copying;
 mod counted;
 mod dialer;
 mod dice;
 mod failed;
+mod helper;
+mod mem_bell;
+mod mem_clock;
 mod mem_dialer;
 mod mem_dice;
+mod mem_helper;
+mod mem_net;
 mod mem_sink;
 mod mem_source;
 mod mem_spawner;
+mod net;
 mod sink;
 mod source;
 mod spawner;
@@ -28,15 +36,23 @@ mod tests;
 mod writing;
 
 pub use again::Again;
+pub use bell::Bell;
+pub use clock::Clock;
 pub use counted::Counted;
 pub use dialer::{DialFault, Dialer};
 pub use dice::Dice;
 pub use failed::Failed;
+pub use helper::Helper;
+pub use mem_bell::MemBell;
+pub use mem_clock::MemClock;
 pub use mem_dialer::MemDialer;
 pub use mem_dice::MemDice;
+pub use mem_helper::MemHelper;
+pub use mem_net::MemNet;
 pub use mem_sink::MemSink;
 pub use mem_source::MemSource;
 pub use mem_spawner::MemSpawner;
+pub use net::Net;
 pub use sink::Sink;
 pub use source::Source;
 pub use spawner::{Spawner, Way, start_by};

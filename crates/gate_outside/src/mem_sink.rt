@@ -83,4 +83,9 @@ impl Sink for MemSink {
         self.held.extend_from_slice(&piece[..n]).unwrap();
         Ok(n)
     }
+
+    /// Does nothing.
+    fn finish(&mut self)
+        ensures same { self.new ≡ self.old }
+    {}
 }

@@ -22,4 +22,10 @@ pub trait Sink: Drop {
         ensures later { faults self.old ≤ faults self.new }
         ensures few { faults self.old ≤ most_faults → faults self.new ≤ most_faults }
         ensures cause { OnErr result (Rose (faults self.old) (faults self.new)) };
+
+    /// Says that nothing more will be written. Over a connection both of its directions end, so that a
+    /// read that waits on the other end of it returns. It tells nothing and is no write.
+    fn finish(&mut self)
+        ensures unchanged { written self.new ≡ written self.old }
+        ensures faults { faults self.new ≡ faults self.old };
 }

@@ -35,4 +35,9 @@ impl<W: Write + Drop> Sink for StdSink<W> {
             }
         }
     }
+
+    /// Does nothing: a writer of std ends where it is dropped.
+    fn finish(&mut self)
+        ensures same { self.new ≡ self.old }
+    {}
 }

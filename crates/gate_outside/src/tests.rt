@@ -1,6 +1,6 @@
 use crate::{
-    Again, Dialer, Dice, Failed, MemDialer, MemDice, MemSink, MemSource, MemSpawner, Sink, Source,
-    Spawner, StdSink, StdSource, SureSource, write_all,
+    Again, Bell, Clock, Dialer, Dice, Failed, MemBell, MemClock, MemDialer, MemDice, MemSink,
+    MemSource, MemSpawner, Sink, Source, Spawner, StdSink, StdSource, SureSource, write_all,
 };
 use gate_model::Bytes;
 use std::alloc::Global;
@@ -117,5 +117,34 @@ fn a_spawner_in_memory_runs_its_jobs_in_the_call(rt: HostRuntime) -> Result<(), 
         let same = spawner.start(&rt, job).is_ok() == started && ran.load(Ordering::SeqCst) == runs;
         assert!(rt; same);
     }
+    Ok(())
+}
+
+#[test]
+fn a_clock_in_memory_gives_the_last_moment_again(rt: HostRuntime) -> Result<(), Fail> {
+    let mut clock = MemClock::new([5, 9].to_vec(rt.alloc())?);
+    for moment in [5u64, 9, 9] {
+        assert_eq!(rt; clock.now(), moment);
+    }
+    Ok(())
+}
+
+#[test]
+fn a_sink_keeps_what_it_took_at_its_finish(rt: HostRuntime) -> Result<(), Fail> {
+    let mut sink = StdSink::new(Vec::new(rt.alloc()));
+    let written = write_all(&mut sink, b"bye").is_ok();
+    sink.finish();
+    assert!(rt; written && sink.writer.as_slice() == b"bye".as_slice());
+    Ok(())
+}
+
+#[test]
+fn a_bell_in_memory_returns_at_once(rt: HostRuntime) -> Result<(), Fail> {
+    let bell = MemBell::new();
+    let other = bell.another(rt.alloc()).ok().ok_or("no memory")?;
+    other.ring();
+    bell.wait(&rt);
+    other.wait(&rt);
+    assert_eq!(rt; MemClock::new([7].to_vec(rt.alloc())?).now(), 7u64);
     Ok(())
 }

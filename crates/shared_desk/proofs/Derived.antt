@@ -42,7 +42,7 @@ use Rattle.shared_desk.specs.Own.{is_place, entries_at, own_entries}
 use Rattle.shared_desk.proofs.Turns.{seen_is}
 use Rattle.shared_desk.proofs.Alone.{bytes_measure, taken_measure, found, found_viewer, unmarked, longer_than}
 
-not_ok : {A E : Type 0} (f : E → Answer) (g : A → Answer) (o : Option E) (a : A) → ((e : E) (a : A) → f e ≡ g a → ⊥) → option_map f o ≡ Some (g a) → ⊥
+pub not_ok : {A E : Type 0} (f : E → Answer) (g : A → Answer) (o : Option E) (a : A) → ((e : E) (a : A) → f e ≡ g a → ⊥) → option_map f o ≡ Some (g a) → ⊥
 not_ok f g None a apart e = let w : None ≡ Some (g a) = e in cc
 not_ok f g (Some x) a apart e = apart x a (let w : Some (f x) ≡ Some (g a) = e in cc)
 
@@ -148,12 +148,12 @@ added_place g ps e =
     rw yes (ap (λ (es : List Entry). e ∷ es) (past_history (length g) ps g (omega arith)))
 
 -- none or one
-abbrev AreFew : List Entry → Type 0
+abbrev pub AreFew : List Entry → Type 0
 AreFew [] = Unit {0}
 AreFew (e ∷ []) = Unit {0}
 AreFew (e ∷ x ∷ es) = ⊥
 
-step_few : (g : History) (event : Event) (a : Answer) (added : List Entry) → Step g event a added → AreFew added
+pub step_few : (g : History) (event : Event) (a : Answer) (added : List Entry) → Step g event a added → AreFew added
 step_few g event a [] s = tt
 step_few g event a (e ∷ []) s = tt
 step_few g event a (e ∷ x ∷ es) s = s.1
@@ -164,7 +164,7 @@ own_by v w g (e ∷ []) same few is = ap own_entries is ∙ (added_place g v.min
 own_by v w g (e ∷ x ∷ es) same few is = absurd few
 
 -- a turn adds to a pass's own entries what it adds
-own_turn : (v w : View Entry) (did : History → List Entry → Type 0) → (t : Turned v w did) → AreFew t.added → own_entries w ≡ t.added ++ own_entries v
+pub own_turn : (v w : View Entry) (did : History → List Entry → Type 0) → (t : Turned v w did) → AreFew t.added → own_entries w ≡ t.added ++ own_entries v
 own_turn v w did t few = own_by v w t.before t.added (ap (λ (h : History). entries_at v.mine h) t.later.1 ∙ past_places v.mine t.later.0 v.seen t.within.within) few t.after
 
 wrote_added : (g : History) (viewer : ℕ) (acts : List Act) (r : Result Written WriteRefusal) (added : List Entry) → Step g (write viewer acts) (was_written r) added → added ≡ (if is_ok r then Write viewer acts ∷ [] else [])

@@ -153,8 +153,8 @@ record JoinAdds (g : History) (j : Joined) (added : List Entry) : Type 0 where
 join_adds : (g : History) (asked : Asked) (j : Joined) (added : List Entry) → Step g (Join asked) (joined_as (Ok j)) added → JoinAdds g j added
 join_adds g asked j [] s = absurd (not_joined (join_refusal g asked) j s.1)
 join_adds g asked j (e ∷ []) s =
-    let is : j ≡ record { viewer = joined g + 1; role = s.1.1.0; stamp = newest g } = let w = s.1.1.2 in cc in
-    record { first = all_frames g; adds = rw is (ap (λ (x : Entry). x ∷ []) s.1.1.3); next = ap (λ (x : Joined). x.viewer) is }
+    let is : j ≡ record { viewer = joined g + 1; role = s.1.1.0; stamp = newest g } = let w = s.1.1.4 in cc in
+    record { first = s.1.1.1; adds = rw is (ap (λ (x : Entry). x ∷ []) s.1.1.5); next = ap (λ (x : Joined). x.viewer) is }
 join_adds g asked j (e ∷ f ∷ es) s = absurd s.1
 
 -- what a Join leaves of what the host has seen

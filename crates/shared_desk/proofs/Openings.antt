@@ -87,5 +87,7 @@ begun_with h old new role place l o view linked out p session same more given = 
   same ∙ linked,
   more ∙ ap (λ (n : ℕ). n + 2) out,
   p.sessions.0 ∙ sym session,
+  p.viewers.0,
+  (o.0, o.1, o.2 ∙ ap (λ (r : Role). Join 1 r o.1 ∷ o.0 ∷ []) (sym p.role)),
   fresh_of old 1 role place o.1 (o.0 ∷ []) (texts (delivered h 1)) p (ap (λ (v : View Entry). v.seen) view ∙ o.2) (ap (λ (v : View Entry). texts (delivered v.seen 1)) (sym view)),
 )

@@ -30,8 +30,8 @@ use Rattle.shared_desk.specs.Members.{HasMark}
 
 pub mark_added : (g : History) (event : Event) (answer : Answer) (e : Entry) → Adds g event answer e → mark_of e ≡ mark_for event
 mark_added g (Feed bytes now) answer e a = ap mark_of a.4
-mark_added g (Join asked) answer e a = ap mark_of a.3
-mark_added g (Read viewer) answer e a = ap mark_of a.1
+mark_added g (Join asked) answer e a = ap mark_of a.5
+mark_added g (Read viewer) answer e a = ap mark_of a.3
 mark_added g (Write viewer acts) answer e a = ap mark_of a.1
 mark_added g (Take most) answer e a = ap mark_of a.1
 mark_added g (Leave viewer) answer e a = ap mark_of a.1

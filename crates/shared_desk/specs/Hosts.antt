@@ -77,11 +77,12 @@ abbrev pub HasOwner : History → Option Role → Type 0
 HasOwner h None = joined h ≡ 0
 HasOwner h (Some role) = (e : Entry) × (first : List Instr) × (h ≡ Join 1 role first ∷ e ∷ [])
 
--- a host that has seen just this, and has given the place of viewer 1 exactly where it has joined
+-- a host that has seen just this, and has given the place of viewer 1, with the role of its Join, exactly where it has
+-- joined
 abbrev pub HasBegun : History → HostState → Option Place → Type 0
 HasBegun h host None = (joined h ≡ 0) × (host.view ≡ beginning mark_of h) × (host.linked ≡ false) × (host.out ≡ 0)
 HasBegun h host (Some place) = (joined h ≡ 1) × (host.view ≡ with_place 1 (beginning mark_of h)) × (host.linked ≡ false) × (host.out ≡ 2)
-    × (place.reader.session ≡ host.session) × IsFresh place (texts (delivered h 1))
+    × (place.reader.session ≡ host.session) × (place.reader.viewer ≡ 1) × HasOwner h (Some place.role) × IsFresh place (texts (delivered h 1))
 
 -- a viewer has joined in a turn that left w, and its place is fresh for what was appended
 pub record HasJoined (v : View Entry) (asked : Asked) (place : Place) (w : View Entry) (before after : List ℕ) : Type 0 where

@@ -1,4 +1,4 @@
-//! Sessions that are shared, called through their passes, and end.
+//! Sessions that are shared, called through their passes in one thread and in two, and end.
 
 ghost use Rattle.std.specs.Prelude.{◌≡◌, IfOk};
 ghost use Rattle.gate_model.specs.session.Steps.{IsSetup};
@@ -11,6 +11,7 @@ use std::alloc::Global;
 use std::marker::Brand;
 use std::sync::Wait;
 use std::test::Fail;
+use std::thread::{Threads, join_mut};
 
 // What a session of 2 by 1 is opened with that others may control.
 fn setup(alloc: Global) -> Result<Setup, NoMemory>
@@ -32,25 +33,40 @@ fn opened(alloc: Global) -> Result<HostPass, NoMemory> {
     Ok(host)
 }
 
-// The two type 100 keys each, in turns.
-fn type_often<R: Wait>(rt: &R, alloc: Global, one: &mut WriterPass, two: &mut WriterPass)
+// Types 100 keys.
+fn type_often<R: Wait>(rt: &R, alloc: Global, pass: &mut WriterPass, keysym: u32)
+    ensures { pass.new.session ≡ pass.old.session }
+{
+    for _ in 0..100 {
+        let _ = pass.write(
+            rt,
+            alloc,
+            &[Act::Key {
+                keysym,
+                pressed: true,
+            }],
+        );
+    }
+}
+
+// Types 100 keys at each pass, in two threads.
+fn type_at_once<R: Threads + Wait + Sync>(
+    rt: &R,
+    alloc: Global,
+    one: &mut WriterPass,
+    two: &mut WriterPass,
+)
     ensures one { one.new.session ≡ one.old.session }
     ensures two { two.new.session ≡ two.old.session }
 {
-    for _ in 0..100 {
-        let _ = one.write(rt, alloc, &[press(97)]);
-        let _ = two.write(rt, alloc, &[press(98)]);
-    }
+    join_mut(
+        rt,
+        &mut || type_often(rt, alloc, one, 97),
+        &mut || type_often(rt, alloc, two, 98),
+    );
 }
 
-fn press(keysym: u32) -> Act {
-    Act::Key {
-        keysym,
-        pressed: true,
-    }
-}
-
-// Row "Two writers": two viewers type 100 keys each, at one desk, and each key stands once in its history.
+// Row "Two writers": two threads type 100 keys each, at one desk, and each key stands once in its history.
 #[test]
 fn two_writers(rt: HostRuntime) -> Result<(), Fail> {
     let alloc = rt.alloc();
@@ -58,7 +74,7 @@ fn two_writers(rt: HostRuntime) -> Result<(), Fail> {
     let mut text = Vec::new(alloc);
     let mut one = host.join(&rt, Asked::Owner, &mut text)?;
     let mut two = host.join(&rt, Asked::Control, &mut text)?;
-    type_often(&rt, alloc, &mut one.writer, &mut two.writer);
+    type_at_once(&rt, alloc, &mut one.writer, &mut two.writer);
     host.give(AnyPass::Reader(one.reader));
     host.give(AnyPass::Writer(one.writer));
     host.give(AnyPass::Reader(two.reader));

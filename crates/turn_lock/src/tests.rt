@@ -6,10 +6,13 @@ ghost use Rattle.turn_lock.specs.Turns.{lock_in, pass_in, view_in, value_in};
 ghost use Rattle.turn_lock.specs.Views.{passed, gained};
 
 use crate::{Adds, Kept, Pass, Turn, TurnLock};
+use std::hint::spin_loop;
 use std::marker::Brand;
 use std::sync::Wait;
+use std::sync::atomic::AtomicU64;
+use std::sync::atomic::Ordering::SeqCst;
 use std::test::Fail;
-use std::thread::join_mut;
+use std::thread::{Threads, join_mut};
 
 // An entry is `true`, which has mark 1, or `false`, which has none.
 #[derive(Drop)]
@@ -109,6 +112,129 @@ fn catch_up<R: Wait>(
     let count = turn.meet(other);
     end_turn::<Brand>(turn, false, false);
     count
+}
+
+// Waits until the count has this value.
+fn wait_for<R: Wait>(rt: &R, count: &AtomicU64, wanted: u64) {
+    for _ in rt.forever() {
+        if count.load(SeqCst) == wanted {
+            return;
+        }
+        spin_loop();
+    }
+    unreachable!()
+}
+
+// Keeps its turn until two passes sleep. `held` is 1 from when it has the turn on.
+fn hold_until_two_sleep<R: Wait>(
+    rt: &R,
+    lock: &TurnLock<Tally>,
+    pass: &mut Pass<Tally>,
+    held: &AtomicU64,
+)
+    requires outside { IsOutside lock.now pass.old }
+    ensures outside { IsOutside lock.now pass.new }
+{
+    let turn = lock.turn(rt, pass);
+    held.store(1, SeqCst);
+    wait_for(rt, &lock.sleepers, 2);
+    end_turn::<Brand>(turn, false, false);
+}
+
+// Takes a turn that has to wait for another pass's.
+fn take_turn_behind<R: Wait>(
+    rt: &R,
+    lock: &TurnLock<Tally>,
+    pass: &mut Pass<Tally>,
+    held: &AtomicU64,
+)
+    requires outside { IsOutside lock.now pass.old }
+    ensures outside { IsOutside lock.now pass.new }
+{
+    wait_for(rt, held, 1);
+    take_turn(rt, lock, pass, false);
+}
+
+// Two passes take a turn each, in threads of their own, behind the one that `held` tells of.
+fn take_two_behind<R: Threads + Wait + Sync>(
+    rt: &R,
+    lock: &TurnLock<Tally>,
+    one: &mut Pass<Tally>,
+    other: &mut Pass<Tally>,
+    held: &AtomicU64,
+)
+    requires one { IsOutside lock.now one.old }
+    requires other { IsOutside lock.now other.old }
+    ensures one { IsOutside lock.now one.new }
+    ensures other { IsOutside lock.now other.new }
+{
+    join_mut(
+        rt,
+        &mut || take_turn_behind(rt, lock, one, held),
+        &mut || take_turn_behind(rt, lock, other, held),
+    );
+}
+
+// One pass keeps its turn until the two others sleep. When it hands on, both go on.
+fn wake_two<R: Threads + Wait + Sync>(
+    rt: &R,
+    lock: &TurnLock<Tally>,
+    holder: &mut Pass<Tally>,
+    one: &mut Pass<Tally>,
+    other: &mut Pass<Tally>,
+)
+    requires holder { IsOutside lock.now holder.old }
+    requires one { IsOutside lock.now one.old }
+    requires other { IsOutside lock.now other.old }
+    ensures holder { IsOutside lock.now holder.new }
+    ensures one { IsOutside lock.now one.new }
+    ensures other { IsOutside lock.now other.new }
+{
+    let held = AtomicU64::new(0);
+    let sign = &held;
+    join_mut(
+        rt,
+        &mut || hold_until_two_sleep(rt, lock, holder, sign),
+        &mut ||
+            requires one { IsOutside lock.now one.now }
+            requires other { IsOutside lock.now other.now }
+        { take_two_behind(rt, lock, one, other, sign) },
+    );
+}
+
+// The same a hundred times.
+fn wake_often<R: Threads + Wait + Sync>(
+    rt: &R,
+    lock: &TurnLock<Tally>,
+    holder: &mut Pass<Tally>,
+    one: &mut Pass<Tally>,
+    other: &mut Pass<Tally>,
+)
+    requires holder { IsOutside lock.now holder.old }
+    requires one { IsOutside lock.now one.old }
+    requires other { IsOutside lock.now other.old }
+    ensures holder { IsOutside lock.now holder.new }
+    ensures one { IsOutside lock.now one.new }
+    ensures other { IsOutside lock.now other.new }
+{
+    for _ in 0..100 {
+        wake_two(rt, lock, holder, one, other);
+    }
+}
+
+// No wake is lost: a hundred times two passes sleep, and both get their turn.
+#[test]
+fn sleepers_are_woken(rt: HostRuntime) -> Result<(), Fail> {
+    let tally = Tally {
+        trues: 0,
+        falses: 0,
+    };
+    let (lock, mut holder) = TurnLock::new::<Brand>(rt.alloc(), tally)?;
+    let mut one = lock.split(&mut holder, None);
+    let mut other = lock.split(&mut holder, None);
+    wake_often(&rt, &lock, &mut holder, &mut one, &mut other);
+    assert_eq!(rt; lock.newest(&mut holder), 200);
+    Ok(())
 }
 
 // Two threads take 1,000 turns each, at the same time. The value counts every turn, in whatever order they came.

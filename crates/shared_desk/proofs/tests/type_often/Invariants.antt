@@ -2,4 +2,4 @@ use Rattle.std.proofs.Common.{◌≡◌}
 use Rattle.shared_desk.proofs.tests.type_often.Given as goal
 
 abbrev pub invariant-loop : goal.invariant-loop
-invariant-loop g l = record { one : l.one.session ≡ l.initial.one.session; two : l.two.session ≡ l.initial.two.session }
+invariant-loop g l = record { session : l.pass.session ≡ l.initial.pass.session }

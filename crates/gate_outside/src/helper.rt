@@ -1,0 +1,14 @@
+ghost use Rattle.std.specs.Prelude.{◌≡◌};
+
+use crate::{Clock, Dialer, Dice, Spawner};
+use gate_model::NoMemory;
+use std::alloc::Global;
+
+/// All that a service asks of its surroundings while it serves one connection (this project's own).
+pub trait Helper: Dialer + Spawner + Clock + Dice + Sized + Send + 'static {
+    /// A helper with counts, a clock and dice of its own.
+    fn another(&mut self, alloc: Global) -> Result<Self, NoMemory>
+        ensures dials { Self.dial_faults self.new ≡ Self.dial_faults self.old }
+        ensures starts { Self.start_faults self.new ≡ Self.start_faults self.old }
+        ensures draws { Self.draws self.new ≡ Self.draws self.old };
+}

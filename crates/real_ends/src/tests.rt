@@ -1,0 +1,108 @@
+use crate::{ChaChaDice, CountClock, ParkBell, TcpNet, ThreadSpawner};
+use gate_outside::{
+    Bell, Clock, Dialer, Dice, Failed, Helper, Net, Sink, Source, Spawner, write_all,
+};
+use std::net::{IpAddr, Ipv4Addr};
+use std::sync::Arc;
+use std::sync::atomic::{AtomicU64, Ordering};
+use std::test::Fail;
+use std::thread;
+
+// The first bytes under the key of zeroes: of the nonce of zeroes (the ChaCha authors' vectors, draft-agl-tls-
+// chacha20poly1305-04, section 7), and of the nonce 01 00 00 00 00 00 00 00 of the same.
+const FIRST: [u8; 16] = [
+    0x76, 0xb8, 0xe0, 0xad, 0xa0, 0xf1, 0x3d, 0x90, 0x40, 0x5d, 0x6a, 0xe5, 0x53, 0x86, 0xbd, 0x28,
+];
+
+const SECOND: [u8; 16] = [
+    0xbd, 0xd2, 0x19, 0xb8, 0xa0, 0x8d, 0xed, 0x1a, 0xa8, 0x36, 0xef, 0xcc, 0x8b, 0x77, 0x0d, 0xc7,
+];
+
+const OTHER_STREAM: [u8; 16] = [
+    0xef, 0x3f, 0xdf, 0xd6, 0xc6, 0x15, 0x78, 0xfb, 0xf5, 0xcf, 0x35, 0xbd, 0x3d, 0xd3, 0x3b, 0x80,
+];
+
+#[test]
+fn dice_give_the_words_of_their_stream(rt: HostRuntime) -> Result<(), Fail> {
+    let mut dice = ChaChaDice::new([0; 32], 0);
+    assert_eq!(rt; dice.bytes(), FIRST);
+    assert_eq!(rt; dice.bytes(), SECOND);
+    assert_eq!(rt; ChaChaDice::new([0; 32], 1).bytes(), OTHER_STREAM);
+    Ok(())
+}
+
+#[test]
+fn a_clock_counts_its_looks(rt: HostRuntime) -> Result<(), Fail> {
+    let mut clock = CountClock::new();
+    for moment in [0u64, 1, 2] {
+        assert_eq!(rt; clock.now(), moment);
+    }
+    Ok(())
+}
+
+#[test]
+fn a_ring_between_a_look_and_a_wait_is_not_missed(rt: HostRuntime) -> Result<(), Fail> {
+    let alloc = rt.alloc();
+    let bell = ParkBell::new(alloc).ok().ok_or("no memory")?;
+    let other = bell.another(alloc).ok().ok_or("no memory")?;
+    bell.ring();
+    other.wait(&rt);
+    bell.wait(&rt);
+    let rung = Arc::new(alloc, AtomicU64::new(0))?;
+    let seen = Arc::try_clone(&rung)?;
+    let inner = rt;
+    let waiting = thread::spawn(&rt, move || {
+        other.wait(&inner);
+        seen.load(Ordering::SeqCst)
+    })
+    .ok()
+    .ok_or("no thread")?;
+    rung.store(7, Ordering::SeqCst);
+    bell.ring();
+    assert_eq!(rt; waiting.join(&rt), 7);
+    Ok(())
+}
+
+#[test]
+fn a_job_runs_in_a_thread(rt: HostRuntime) -> Result<(), Fail> {
+    let alloc = rt.alloc();
+    let bell = ParkBell::new(alloc).ok().ok_or("no memory")?;
+    let other = bell.another(alloc).ok().ok_or("no memory")?;
+    let mut spawner = ThreadSpawner::new();
+    let started = spawner.start(&rt, move || other.ring()).is_ok();
+    bell.wait(&rt);
+    assert!(rt; started);
+    Ok(())
+}
+
+// A link is dialed and accepted, its bytes come, and its reader sees the end once the other side is finished.
+#[test]
+fn a_finished_sink_ends_both_reads(rt: HostRuntime) -> Result<(), Fail> {
+    let alloc = rt.alloc();
+    let mut net = TcpNet::new(rt, IpAddr::V4(Ipv4Addr::LOCALHOST));
+    net.listen(alloc, 48_231, [7; 32])
+        .ok()
+        .ok_or("not listening")?;
+    let mut helper = net.helper(alloc).ok().ok_or("no helper")?;
+    let mut second = helper.another(alloc).ok().ok_or("no helper")?;
+    let (mut near, mut near_sink) = helper
+        .dial(alloc, "localhost", 48_231)
+        .ok()
+        .ok_or("not dialed")?;
+    let (mut far, mut far_sink) = net.accept(&rt).ok().ok_or("not accepted")?;
+    let written = write_all(&mut far_sink, b"login: ").is_ok();
+    let mut heard = [0u8; 7];
+    let mut count = 0usize;
+    for _ in 0..7 {
+        if count < 7 {
+            count += near.read(&mut heard[count..]).unwrap_or(0);
+        }
+    }
+    far_sink.finish();
+    let ended = (near.read(&mut [0; 4]), far.read(&mut [0; 4]));
+    let drawn = helper.bytes() != second.bytes();
+    assert!(rt; written && &heard == b"login: " && ended == (Ok(0), Ok(0)) && drawn);
+    near_sink.finish();
+    assert!(rt; write_all(&mut far_sink, b"late") == Err(Failed));
+    Ok(())
+}

@@ -1,0 +1,109 @@
+-- What a pump gains, step by step.
+use Rattle.std.proofs.Common.{◌≡◌, ℕ, ◌≤◌, ◌⊎◌, inl, inr, List, [], ◌∷◌, ◌++◌, length, true, refl, ap, sym, ◌∙◌, subst, append_assoc, append-nil, arith}
+use Rattle.std.specs.Prelude.{Contains, Result, Ok, Err}
+use Rattle.gate_model.specs.declared.cause.Cause.{Cause}
+use Rattle.gate_model.specs.declared.cause.Cause.TheVariants as cause
+use Rattle.gate_model.specs.declared.entry.Entry.{Entry}
+use Rattle.gate_model.specs.declared.entry.Entry.TheVariants.{Feed, Close}
+use Rattle.gate_model.specs.declared.event.Event.TheVariants.{Feed as feed}
+use Rattle.gate_model.specs.declared.feed_refusal.FeedRefusal.{FeedRefusal}
+use Rattle.gate_model.specs.declared.feed_refusal.FeedRefusal.TheVariants.{Closed as feed_closed, Worn as feed_worn, NoMemory as feed_no_memory}
+use Rattle.gate_model.specs.Limits.{most_piece}
+use Rattle.gate_model.specs.session.Calls.{IsPiece}
+use Rattle.gate_model.specs.session.History.{bytes, is_full}
+use Rattle.desk_core.specs.Calls.{feed_answer}
+use Rattle.turn_lock.proofs.Elements.{later_refl, later_trans}
+use Rattle.turn_lock.specs.declared.view.View.{View}
+use Rattle.shared_desk.specs.Called.{Called}
+use Rattle.shared_desk.specs.Own.{own_entries}
+use Rattle.shared_desk.proofs.Lasting.{FeedCause, closes_seen, feed_adds, feed_refused, full_stays, some_seen, turn_later, turn_legal}
+use Rattle.session_link.specs.Closings.{HasClosed, HasEnded, MayClose}
+use Rattle.session_link.specs.Pumps.{AreFeeds, HasFed, HasPumped, HasStopped, IsFed, IsStopped, MayEnd, MayLose, PumpCause, PumpRun, StopCause}
+use Rattle.session_link.specs.declared.ends.PumpEnd.{PumpEnd}
+use Rattle.session_link.specs.declared.ends.PumpEnd.TheVariants.{LinkEnded, ReadFault, Closed, Worn, NoMemory}
+
+-- ---- one piece
+
+pub fed_piece : (v w : View Entry) (piece : List ℕ) (now stamp : ℕ) → Called v (feed piece now) (feed_answer (Ok stamp)) w → IsFed v w piece
+fed_piece v w piece now stamp t =
+    let k = feed_adds v w piece now stamp t in record { later = turn_later v w _ t; stamp = k.0; frame = k.1; own = k.2 }
+
+module _ (v w : View Entry) (piece : List ℕ) (now : ℕ) (r : FeedRefusal) (is : IsPiece piece) (t : Called v (feed piece now) (feed_answer (Err r)) w) where
+  pub refused_closed : (c : Cause) → r ≡ feed_closed c → IsStopped v w piece (Closed c)
+  refused_closed c e =
+      let k = feed_refused v w piece now r t in record { later = turn_later v w _ t; own = k.0; loses = is.few; cause = closes_seen w.seen c (subst (λ (x : FeedRefusal). FeedCause x w.seen) e k.1) }
+
+  pub refused_worn : (n : ℕ) → r ≡ feed_worn n → IsStopped v w piece Worn
+  refused_worn n e =
+      let k = feed_refused v w piece now r t in record { later = turn_later v w _ t; own = k.0; loses = is.few; cause = (subst (λ (x : FeedRefusal). FeedCause x w.seen) e k.1, turn_legal v w _ t) }
+
+  pub refused_memory : IsStopped v w piece NoMemory
+  refused_memory =
+      let k = feed_refused v w piece now r t in record { later = turn_later v w _ t; own = k.0; loses = is.few; cause = tt }
+
+-- nothing came
+pub none_came : (v : View Entry) (end : PumpEnd) → MayLose end [] → StopCause end v.seen → IsStopped v v [] end
+none_came v end loses why = record { later = later_refl v.seen; own = refl; loses = loses; cause = why }
+
+-- ---- piece after piece
+
+pub pumped_none : (v : View Entry) → HasPumped v v []
+pumped_none v = record { later = later_refl v.seen; feeds = []; fed = tt; own = refl; joined = refl }
+
+pub pumped_more : (v u w : View Entry) (read piece : List ℕ) → HasPumped v u read → IsFed u w piece → HasPumped v w (read ++ piece)
+pumped_more v u w read piece p k = record {
+  later = later_trans v.seen u.seen w.seen p.later k.later;
+  feeds = Feed piece k.stamp k.frame ∷ p.feeds;
+  fed = p.fed;
+  own = k.own ∙ ap (λ (es : List Entry). Feed piece k.stamp k.frame ∷ es) p.own;
+  joined = ap (λ (bs : List ℕ). bs ++ piece) p.joined;
+}
+
+pub pumped_stop : (v u w : View Entry) (read lost : List ℕ) (end : PumpEnd) → HasPumped v u read → IsStopped u w lost end → HasStopped v w (read ++ lost) end
+pumped_stop v u w read lost end p k = record {
+  later = later_trans v.seen u.seen w.seen p.later k.later;
+  feeds = p.feeds;
+  fed = p.fed;
+  own = k.own ∙ p.own;
+  lost = lost;
+  joined = ap (λ (bs : List ℕ). bs ++ lost) p.joined;
+  loses = k.loses;
+  cause = k.cause;
+}
+
+-- ---- the end
+
+ran_closed : (v u w : View Entry) (read : List ℕ) (end : PumpEnd) (c : Cause) → HasStopped v u read end → (k : HasClosed c u w) → MayEnd end k.closes → PumpCause end w.seen → PumpRun v w read end
+ran_closed v u w read end c s k last why = record {
+  later = later_trans v.seen u.seen w.seen s.later k.later;
+  feeds = s.feeds;
+  closes = k.closes;
+  fed = s.fed;
+  last = last;
+  own = k.own ∙ ap (λ (es : List Entry). k.closes ++ es) s.own;
+  lost = s.lost;
+  joined = s.joined;
+  loses = s.loses;
+  cause = why;
+}
+
+ran_open : (v u w : View Entry) (read : List ℕ) (end : PumpEnd) → HasStopped v u read end → w ≡ u → MayEnd end [] → PumpCause end u.seen → PumpRun v w read end
+ran_open v u w read end s is last why = subst (λ (z : View Entry). PumpRun v z read end) (sym is) record {
+  later = s.later;
+  feeds = s.feeds;
+  closes = [];
+  fed = s.fed;
+  last = last;
+  own = s.own;
+  lost = s.lost;
+  joined = s.joined;
+  loses = s.loses;
+  cause = why;
+}
+
+pub pump_ran : (v u w : View Entry) (read : List ℕ) (end : PumpEnd) → HasStopped v u read end → HasEnded end u w → PumpRun v w read end
+pump_ran v u w read LinkEnded s k = ran_closed v u w read LinkEnded cause.ServerEnd s k k.few k.closed
+pump_ran v u w read ReadFault s k = ran_closed v u w read ReadFault cause.LinkFault s k k.few k.closed
+pump_ran v u w read Worn s k = ran_closed v u w read Worn cause.Worn s k k.few (full_stays u.seen w.seen k.later (some_seen u.seen s.cause.1) k.legal s.cause.0, k.closed)
+pump_ran v u w read (Closed c) s is = ran_open v u w read (Closed c) s is refl s.cause
+pump_ran v u w read NoMemory s is = ran_open v u w read NoMemory s is refl tt

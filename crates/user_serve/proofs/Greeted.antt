@@ -1,0 +1,50 @@
+-- What a greeting read and wrote, in bytes alone.
+use Rattle.std.proofs.Common.{◌≡◌, ℕ, List, [], ◌++◌, take, drop, Option, refl, sym}
+use Rattle.std.proofs.lemmas.List.{take-append-drop}
+use Rattle.gate_model.specs.Sequences.{BeginsWith}
+use Rattle.gate_outside.specs.Edge.{GainedFront, came, gained}
+use Rattle.gate_outside.proofs.Moved.{came-none, gained-none}
+use Rattle.guac_handshake.specs.Asks.{Wish, asks, selected}
+use Rattle.guac_handshake.specs.Doors.{MayRefuse, Sessions}
+use Rattle.guac_handshake.specs.Greetings.{Ends, IsGreeting}
+use Rattle.guac_handshake.specs.Texts.{args_for}
+use Rattle.guac_handshake.specs.declared.greeted.Greeted.{Greeted}
+use Rattle.guac_handshake.specs.declared.greeted.Greeted.TheVariants.{Ready, Refused, Ended, ReadFault, WriteFault, NoMemory}
+use Rattle.guac_handshake.specs.declared.refused.Refused as door
+use Rattle.guac_handshake.specs.declared.request.Request.{Request}
+use Rattle.user_serve.specs.Greets.{GreetRun, HasReplied}
+
+-- a sink gained bytes of which this is told
+abbrev pub Gains : Option (List ℕ) → Option (List ℕ) → (List ℕ → Type 0) → Type 0
+Gains old new told = (written : List ℕ) × (new ≡ gained old written) × told written
+
+front_gained : (old new : Option (List ℕ)) (text : List ℕ) → GainedFront old new text → Gains old new (λ written. BeginsWith text written)
+front_gained old new text front = (take front.0 text, front.2, (drop front.0 text, sym (take-append-drop front.0 text)))
+
+module _ {P : Type 0} (May : Request → door.Refused → Type 0) (wish : Wish) (args rest : List ℕ) (left before now : Option (List ℕ)) (asked_before asked_now : Option (List Request)) where
+  replied : (end : Greeted P) → Ends May wish args rest left before now asked_before asked_now end → Gains before now (HasReplied wish args rest end)
+  replied (Ready welcome) e = (_, e.2, (e.0, e.1, refl))
+  replied (Refused status) e = (_, e.0, refl)
+  replied Ended e = (args, e.3, (e.0, e.1, refl))
+  replied ReadFault e = (args, e.1, (e.0, refl))
+  replied WriteFault e = let f = front_gained before now (args ++ e.0) e.2 in (f.0, f.1, (e.0, e.1, f.2))
+  replied NoMemory e = let f = front_gained before now (args ++ e.0) e.2 in (f.0, f.1, (e.0, e.1, f.2))
+
+-- the bytes of a greeting
+pub record Greeted_by {P : Type 0} (left_old left_new written_old written_new : Option (List ℕ)) (rest : List ℕ) (end : Greeted P) : Type 0 where
+  pub read : List ℕ
+  pub written : List ℕ
+  pub came_is : left_old ≡ came read left_new
+  pub gained_is : written_new ≡ gained written_old written
+  pub ran : GreetRun read rest written end
+
+pub greeted : {P : Type 0} (id_of : List ℕ → Option (List ℕ)) (sessions sessions_new : Option Sessions) (draws : Option (ℕ → List ℕ)) (left_old left_new written_old written_new : Option (List ℕ)) (asked_old asked_new : Option (List Request)) (rest : List ℕ) (end : Greeted P)
+    → IsGreeting id_of sessions sessions_new draws left_old left_new written_old written_new asked_old asked_new rest end → Greeted_by left_old left_new written_old written_new rest end
+greeted id_of sessions sessions_new draws left_old left_new written_old written_new asked_old asked_new rest end g =
+    let r = replied (MayRefuse id_of sessions draws sessions_new) (asks g.known g.instructions) (args_for (selected g.known g.instructions)) rest left_new written_old written_new asked_old asked_new end g.ends in record {
+      read = g.bytes;
+      written = r.0;
+      came_is = g.came_is;
+      gained_is = r.1;
+      ran = record { instructions = g.instructions; known = g.known; splits = g.split; replied = r.2 };
+    }

@@ -1,0 +1,14 @@
+use Rattle.std.proofs.Common.{◌≡◌, ◌≤◌, ℕ, List, drop, length}
+use Rattle.user_serve.proofs.Heard.{SoFar}
+use Rattle.user_serve.proofs.hearing.hear_all.Given as goal
+
+abbrev pub invariant-loop : goal.invariant-loop
+invariant-loop g l =
+    let left = g.S.Source.left in
+    record {
+      session : l.pass.session ≡ l.fn.pass.session;
+      viewer : l.pass.viewer ≡ l.fn.pass.viewer;
+      within : l.at ≤ length l.rest.items;
+      so_far : SoFar l.fn.pass.viewer l.fn.pass.view l.pass.view (left l.fn.source) (left l.source) l.fn.rest.items (drop l.at l.rest.items);
+      later : g.S.Source.faults l.fn.source ≤ g.S.Source.faults l.source;
+    }

@@ -1,0 +1,66 @@
+-- What one viewer's connection read and wrote, by its end (this project's own).
+use Rattle.std.specs.Prelude.{◌≡◌, ◌⊎◌, ℕ, List, [], ◌++◌, Option}
+use Rattle.guac_handshake.specs.declared.greeted.Greeted.{Greeted}
+use Rattle.guac_handshake.specs.declared.greeted.Greeted.TheVariants as greeted
+use Rattle.guac_handshake.specs.declared.request.Request.{Request}
+use Rattle.guac_handshake.specs.declared.welcome.Welcome.{Welcome}
+use Rattle.guac_handshake.specs.Doors.{Sessions}
+use Rattle.guac_handshake.specs.Greetings.{IsGreeting}
+use Rattle.shared_desk.specs.declared.place.Place.{Place}
+use Rattle.shared_desk.specs.Hosts.{IsFresh}
+use Rattle.user_serve.specs.Greets.{GreetRun}
+use Rattle.user_serve.specs.Intakes.{IntakeRun}
+use Rattle.user_serve.specs.Outlets.{OutletRun}
+use Rattle.user_serve.specs.declared.ends.UserEnd.{UserEnd}
+use Rattle.user_serve.specs.declared.ends.UserEnd.TheVariants.{Served, Refused, Ended, ReadFault, WriteFault, NoMemory}
+use Rattle.user_serve.specs.declared.ends.Visit.{Visit}
+
+-- a place that was fresh was served: its passes stay of one session and of one viewer, and its two loops ran
+-- on them. The bytes behind the greeting begin with those that it left unread
+pub record VisitRun (welcome : Welcome Place) (visit : Visit) (heard shown : List ℕ) (left : Option (List ℕ)) : Type 0 where
+  pub id : visit.id ≡ welcome.id
+  pub fresh : IsFresh welcome.place welcome.first
+  pub sessions : (visit.place.reader.session ≡ welcome.place.reader.session) × (visit.place.writer.session ≡ welcome.place.reader.session)
+  pub viewers : (visit.place.reader.viewer ≡ welcome.place.reader.viewer) × (visit.place.writer.viewer ≡ welcome.place.reader.viewer)
+  pub unread : List ℕ
+  pub intake : IntakeRun welcome.place.reader.viewer welcome.place.writer.view visit.place.writer.view heard unread left visit.intake
+  pub outlet : OutletRun welcome.place.reader.viewer welcome.place.reader.view visit.place.reader.view shown visit.outlet
+
+-- the greeting let the viewer in, and what follows it is the visit's
+pub record IsServed (visit : Visit) (read written : List ℕ) (left : Option (List ℕ)) : Type 0 where
+  pub welcome : Welcome Place
+  pub greeting : List ℕ
+  pub behind : List ℕ
+  pub rest : List ℕ
+  pub replies : List ℕ
+  pub shown : List ℕ
+  pub reads : read ≡ greeting ++ behind
+  pub writes : written ≡ replies ++ shown
+  pub greets : GreetRun greeting rest replies (greeted.Ready welcome)
+  pub visits : VisitRun welcome visit (rest ++ behind) shown left
+
+-- at every other end the bytes are those of one greeting; or none, where memory was wanting before it
+abbrev pub Greets : Greeted Place → List ℕ → List ℕ → Type 0
+Greets end read written = (rest : List ℕ) × GreetRun read rest written end
+
+abbrev pub UserRun : Option (List ℕ) → UserEnd → List ℕ → List ℕ → Type 0
+UserRun left (Served visit) read written = IsServed visit read written left
+UserRun left (Refused status) read written = Greets (greeted.Refused status) read written
+UserRun left Ended read written = Greets greeted.Ended read written
+UserRun left ReadFault read written = Greets greeted.ReadFault read written
+UserRun left WriteFault read written = Greets greeted.WriteFault read written
+UserRun left NoMemory read written = ((read ≡ []) × (written ≡ [])) ⊎ Greets greeted.NoMemory read written
+
+-- at every other end a greeting ended so, with all that its call says of it; or memory was wanting before it
+abbrev pub Greeting : (Greeted Place → Type 0) → UserEnd → Type 0
+Greeting is_greeting (Served visit) = Unit {0}
+Greeting is_greeting (Refused status) = is_greeting (greeted.Refused status)
+Greeting is_greeting Ended = is_greeting greeted.Ended
+Greeting is_greeting ReadFault = is_greeting greeted.ReadFault
+Greeting is_greeting WriteFault = is_greeting greeted.WriteFault
+Greeting is_greeting NoMemory = Unit {0}
+
+-- .. by the words of the greeting's own contract
+abbrev pub HasGreeted : (List ℕ → Option (List ℕ)) → Option Sessions → Option Sessions → Option (ℕ → List ℕ) → Option (List ℕ) → Option (List ℕ) → Option (List ℕ) → Option (List ℕ) → Option (List Request) → Option (List Request) → UserEnd → Type 0
+HasGreeted id_of sessions sessions_new draws left_old left_new written_old written_new asked_old asked_new end =
+    Greeting (λ g. (rest : List ℕ) × IsGreeting id_of sessions sessions_new draws left_old left_new written_old written_new asked_old asked_new rest g) end

@@ -1,0 +1,114 @@
+//! What a viewer is given goes out to it.
+
+ghost use Rattle.std.specs.Prelude.{◌≡◌, ◌≤◌, ℕ, List};
+ghost use Rattle.gate_model.specs.session.Delivered.{delivered};
+ghost use Rattle.gate_model.specs.text.Text.{texts};
+ghost use Rattle.gate_outside.specs.Edge.{Rose, gained};
+ghost use Rattle.user_serve.specs.Outlets.{IfFault, OutletRun, StepRun, step_of};
+ghost use Rattle.user_serve.specs.declared.ends.OutletEnd.TheVariants as ends;
+
+use crate::OutletEnd;
+use gate_model::Bytes;
+use gate_outside::{Bell, Failed, Sink, write_all};
+use shared_desk::{ReadAnswer, ReadRefusal, ReaderPass};
+use std::alloc::Global;
+use std::sync::Wait;
+
+/// Writes what the viewer is given, as it is given: first `first`, the text of what it was given so far, and then
+/// what its reads give. Where a read gives nothing, or the viewer is to catch up first, it waits for the bell and
+/// reads again. At each end it finishes the sink (this project's own).
+pub fn outlet<R: Wait, K: Sink, B: Bell>(
+    rt: &R,
+    alloc: Global,
+    pass: &mut ReaderPass,
+    first: &Bytes,
+    sink: &mut K,
+    bell: &B,
+) -> OutletEnd
+    requires fresh { first.now ≡ texts (delivered pass.old.view.seen pass.old.viewer) }
+    ensures session { pass.new.session ≡ pass.old.session }
+    ensures viewer { pass.new.viewer ≡ pass.old.viewer }
+    ensures ran { (written : List ℕ) × (K.written sink.new ≡ gained (K.written sink.old) written) × OutletRun pass.old.viewer pass.old.view pass.new.view written result }
+    ensures write_fault { result ≡ ends.WriteFault → Rose (K.faults sink.old) (K.faults sink.new) }
+    ensures later { K.faults sink.old ≤ K.faults sink.new }
+{
+    let end = show_all(rt, alloc, pass, first, sink, bell);
+    sink.finish();
+    end
+}
+
+// Writes what the viewer is given, up to the end.
+fn show_all<R: Wait, K: Sink, B: Bell>(
+    rt: &R,
+    alloc: Global,
+    pass: &mut ReaderPass,
+    first: &Bytes,
+    sink: &mut K,
+    bell: &B,
+) -> OutletEnd
+    requires fresh { first.now ≡ texts (delivered pass.old.view.seen pass.old.viewer) }
+    ensures session { pass.new.session ≡ pass.old.session }
+    ensures viewer { pass.new.viewer ≡ pass.old.viewer }
+    ensures ran { (written : List ℕ) × (K.written sink.new ≡ gained (K.written sink.old) written) × OutletRun pass.old.viewer pass.old.view pass.new.view written result }
+    ensures write_fault { result ≡ ends.WriteFault → Rose (K.faults sink.old) (K.faults sink.new) }
+    ensures later { K.faults sink.old ≤ K.faults sink.new }
+{
+    match write_all(sink, first.as_slice()) {
+        Ok(()) => {}
+        Err(Failed) => return OutletEnd::WriteFault,
+    }
+    let mut text = Vec::new(alloc);
+    for _ in rt.forever() {
+        match show_next(rt, pass, &mut text, sink) {
+            Ok(Step::Gave) => {}
+            Ok(Step::Waits) => bell.wait(rt),
+            Err(end) => return end,
+        }
+    }
+    unreachable!()
+}
+
+// What one read came to.
+#[derive(Clone, Copy)]
+pub(crate) enum Step {
+    Gave,
+    Waits,
+}
+
+// Reads once, and writes what that gave. `text` is where it is put.
+fn show_next<R: Wait, K: Sink>(
+    rt: &R,
+    pass: &mut ReaderPass,
+    text: &mut Vec<u8>,
+    sink: &mut K,
+) -> Result<Step, OutletEnd>
+    ensures session { pass.new.session ≡ pass.old.session }
+    ensures viewer { pass.new.viewer ≡ pass.old.viewer }
+    ensures step { (written : List ℕ) × (K.written sink.new ≡ gained (K.written sink.old) written) × StepRun pass.old.viewer pass.old.view pass.new.view written result }
+    ensures write_fault { IfFault result (Rose (K.faults sink.old) (K.faults sink.new)) }
+    ensures later { K.faults sink.old ≤ K.faults sink.new }
+{
+    text.clear();
+    let answer = pass.read(rt, text);
+    match write_all(sink, text.as_slice()) {
+        Ok(()) => step_of(answer),
+        Err(Failed) => Err(OutletEnd::WriteFault),
+    }
+}
+
+// Whether the outlet goes on.
+fn step_of(answer: Result<ReadAnswer, ReadRefusal>) -> Result<Step, OutletEnd>
+    ensures { result ≡ step_of answer }
+{
+    match answer {
+        Ok(ReadAnswer::Frames { closed: true, .. } | ReadAnswer::Fresh { closed: true, .. }) => {
+            Err(OutletEnd::Ended)
+        }
+        Ok(ReadAnswer::Frames { .. } | ReadAnswer::Fresh { .. }) => Ok(Step::Gave),
+        Ok(ReadAnswer::Ended) => Err(OutletEnd::Ended),
+        Ok(ReadAnswer::Empty | ReadAnswer::Hold { .. }) => Ok(Step::Waits),
+        Err(ReadRefusal::NoViewer) => Err(OutletEnd::Left),
+        Err(ReadRefusal::Worn { .. }) => Err(OutletEnd::Worn),
+        Err(ReadRefusal::NoMemory) => Err(OutletEnd::NoMemory),
+    }
+}
