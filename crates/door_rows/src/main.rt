@@ -9,6 +9,7 @@
 
 mod calls;
 mod topics;
+mod web;
 mod words;
 
 use crate::topics::value;

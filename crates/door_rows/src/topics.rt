@@ -1,9 +1,10 @@
 //! Which door the clients of a file call at, and what is looked at.
 
 use crate::calls::{Call, Done, door, greeted};
+use crate::web;
+use crate::web::{ask_of, form, request, response, undialed};
 use crate::words::{bytes_of, push_escaped};
 use anyhow::{Context, Result, bail};
-use gate_model::Share;
 use guac_handshake::Greeted;
 use guac_handshake::memory::{MemDoor, MemPlace};
 use std::alloc::Global;
@@ -27,6 +28,11 @@ pub fn value<R: Threads + Wait + Copy + Send + 'static>(
         "members" => member(rt, alloc, input),
         "asks" => asked(rt, alloc, input),
         "ends" => end(rt, alloc, input),
+        "requests" => request(alloc, input),
+        "responses" => response(alloc, input),
+        "forms" => form(rt, alloc, input),
+        "undialed_forms" => undialed(rt, alloc, input),
+        "member_forms" => web::member(rt, alloc, input),
         _ => bail!("no such topic"),
     }
 }
@@ -63,18 +69,7 @@ fn asked<R: Threads + Wait + Copy + Send + 'static>(
 ) -> Result<String> {
     let mut door = door(alloc, 1)?;
     answer(rt, alloc, &mut door, input)?;
-    let Some(ask) = door.last_ask() else {
-        return Ok("nothing".to_string(alloc)?);
-    };
-    let host = ask.host.as_str();
-    let term = ask.term.as_str();
-    let mode = match ask.mode {
-        Share::Nobody => "none",
-        Share::View => "view",
-        Share::Control => "control",
-    };
-    let (port, read_only, cols, rows) = (ask.port, ask.read_only, ask.cols, ask.rows);
-    Ok(format!(in alloc; "{host} {port} {term} {mode} {read_only} {cols} {rows}")?)
+    ask_of(alloc, &door)
 }
 
 // How a call ended, how many places went back to the door under an ID that is there, and what was read and

@@ -12,7 +12,8 @@ use Rattle.id_table.specs.declared.add_refusal.AddRefusal.TheVariants.{Conflict}
 use Rattle.uuid.specs.Text.{parsed}
 use Rattle.guac_handshake.specs.declared.refused.Refused.{Refused}
 use Rattle.guac_handshake.specs.Doors.{AreAllThere, HasConflict, MeetsHistory, RemovedOne, at_name}
-use Rattle.guac_handshake.specs.Memory.{id_of_name, untold, untold_at}
+use Rattle.guac_handshake.specs.Memory.{untold, untold_at}
+use Rattle.guac_handshake.specs.Names.{id_of_name}
 
 none_some : {A : Type 0} (x : A) → None ≡ Some x → ⊥
 none_some x e = true≢false (sym (ap is_some e))

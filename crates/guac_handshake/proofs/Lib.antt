@@ -10,3 +10,4 @@ pub mod Touching
 pub mod Telling
 pub mod InMemory
 mod AskFacts
+pub mod Pairs

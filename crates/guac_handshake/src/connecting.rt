@@ -1,17 +1,15 @@
 //! The values of `connect`.
 
 ghost use Rattle.std.specs.Prelude.{◌≡◌, ◌≤◌, drop, IfOk, length, true};
-ghost use Rattle.std.specs.Char.{is_ascii_digit};
 ghost use Rattle.std.specs.Int.{is_in_range};
 ghost use Rattle.std.specs.List.{list_all};
 ghost use Rattle.std.specs.Option.{option_map};
-ghost use Rattle.guac_handshake.specs.Asks.{beginning, cols_of, is_read_only, is_term, joining, mode_of, port_of, role_asked, rows_of, term_of};
-ghost use Rattle.gate_model.specs.text.Numerals.{is_number, number_within};
-ghost use Rattle.gate_model.specs.text.Spelling.{number_of};
+ghost use Rattle.guac_handshake.specs.Asks.{ask_of, beginning, cols_of, is_read_only, is_term, joining, mode_of, port_of, role_asked, rows_of, term_of};
 
 use crate::Ask;
 use gate_model::{Asked, NoMemory, Share, Text};
 use guac_framing::Frame;
+use guac_instr::number_within;
 use std::alloc::Global;
 
 /// The most characters of a terminal type (this project's own rule).
@@ -29,18 +27,42 @@ pub(crate) fn read_begin(
     if frame.count() != 7 {
         return Ok(None);
     }
-    let port = read_port(frame.element(3));
-    let term = read_term(frame.element(4));
-    let mode = read_mode(frame.element(6));
-    let (Some(port), Some(term), Some(mode)) = (port, term, mode) else {
+    read_ask(
+        alloc,
+        frame.element(2),
+        frame.element(3),
+        frame.element(4),
+        frame.element(5),
+        frame.element(6),
+        size,
+    )
+}
+
+/// What these values ask of a session that is to begin, or None where one is out of form.
+pub(crate) fn read_ask(
+    alloc: Global,
+    host: &str,
+    port: &str,
+    term: &str,
+    read_only: &str,
+    sharing: &str,
+    size: Option<(u32, u32)>,
+) -> Result<Option<Ask>, NoMemory>
+    ensures { IfOk result (λ ask. ask ≡ ask_of host.now (port_of port.now) (term_of term.now) (mode_of sharing.now) (is_read_only read_only.now) size) }
+{
+    let (Some(port), Some(term), Some(mode)) = (
+        read_port(port),
+        read_term(term),
+        read_mode(sharing),
+    ) else {
         return Ok(None);
     };
     Ok(Some(Ask {
-        host: owned(alloc, frame.element(2))?,
+        host: owned(alloc, host)?,
         port,
         term: owned(alloc, term)?,
         mode,
-        read_only: read_flag(frame.element(5)),
+        read_only: read_flag(read_only),
         cols: columns(size),
         rows: rows(size),
     }))
@@ -116,49 +138,9 @@ fn read_port(value: &str) -> Option<u16>
     if value.is_empty() {
         Some(23)
     } else {
-        number(value.as_bytes())
+        let port = number_within(value.as_bytes(), 1, 65535)?;
+        Some(port as u16)
     }
-}
-
-// The number of the digits, where there are 1 to 20 and it is 1 to 65535.
-fn number(digits: &[u8]) -> Option<u16>
-    ensures { result ≡ number_within 1 65535 digits.now }
-{
-    if !is_number(digits) {
-        return None;
-    }
-    let number = number_of(digits);
-    if 1 <= number && number <= 65535 {
-        Some(number as u16)
-    } else {
-        None
-    }
-}
-
-// Whether these are 1 to 20 digits.
-fn is_number(digits: &[u8]) -> bool
-    ensures { result ≡ is_number digits.now }
-{
-    (1..=20).contains(&digits.len()) && all_digits(digits)
-}
-
-// Whether each byte is a digit.
-fn all_digits(bytes: &[u8]) -> bool
-    ensures { result ≡ list_all is_ascii_digit bytes.now }
-{
-    bytes.iter().all(|byte| byte.is_ascii_digit())
-}
-
-// The number of the digits.
-fn number_of(digits: &[u8]) -> u128
-    requires { is_number digits.now ≡ true }
-    ensures { result ≡ number_of digits.now }
-{
-    let mut number: u128 = 0;
-    for digit in digits {
-        number = 10 * number + u128::from(*digit - b'0');
-    }
-    number
 }
 
 fn columns(size: Option<(u32, u32)>) -> u16

@@ -3,8 +3,10 @@ ghost use Rattle.gate_outside.specs.Edge.{Rose};
 ghost use Rattle.id_table.specs.Maps.{Map, Same, Told};
 ghost use Rattle.gate_model.specs.session.History.{History};
 ghost use Rattle.guac_handshake.specs.Doors.{AddedOne, HasConflict, IsAbsent, IsBeginRefusal, IsBusy, IsConflict, IsDial, IsJoinRefusal, IsOpenRefusal, KeepsIds, MeetsHistory, RemovedOne, TellsConflict, at_name, logged, one_more_out, option_less};
+ghost use Rattle.guac_handshake.specs.declared.ask.Ask.{Ask};
 ghost use Rattle.guac_handshake.specs.declared.request.Request.{Request};
 ghost use Rattle.guac_handshake.specs.declared.request.Request.TheVariants.{Begin as begin_request, Join as join_request};
+ghost use Rattle.guac_handshake.specs.declared.welcome.Welcome.{Welcome};
 
 use crate::{Ask, Begun, Job, Refused, Seat, Welcome};
 use gate_model::{Asked, Text};
@@ -37,6 +39,9 @@ pub trait Door: Counted {
     /// What the door was asked, oldest first, where it tells; but for what it refused for want of memory.
     ghost asked: { Self → Option (List Request) };
 
+    /// What the door says of itself once it has begun the session of this welcome, as the ask wants it.
+    ghost begun: { Self → Ask → Welcome Self.Place → Type 0 };
+
     /// Whether there is a session of the ID that the name gives.
     fn known<R: Wait>(&mut self, rt: &R, name: &str) -> bool
         ensures known { Told (sessions self.old) (sessions self.new) (λ m n. (result ≡ is_some (at_name (id_of name.now) m)) × Same m n) }
@@ -63,10 +68,12 @@ pub trait Door: Counted {
         ensures conflict { IsConflict result → HasConflict (sessions self.old) }
         ensures exact { TellsConflict (sessions self.old) (Self.draws self.old) result }
         ensures out { out self.new ≡ one_more_out result (out self.old) }
-        ensures asked { asked self.new ≡ logged (asked self.old) (begin_request ask.now) result };
+        ensures asked { asked self.new ≡ logged (asked self.old) (begin_request ask.now) result }
+        ensures begun { IfOk result (λ made. begun self.new ask.now made.welcome) };
 
     /// Says how the next job starts.
     fn way(&mut self) -> Way
+        ensures begun { (wanted : Ask) (welcome : Welcome Self.Place) → begun self.old wanted welcome → begun self.new wanted welcome }
         ensures dials { Self.dial_faults self.new ≡ Self.dial_faults self.old }
         ensures starts { Self.start_faults self.new ≡ Self.start_faults self.old }
         ensures sessions { sessions self.new ≡ sessions self.old }
@@ -110,6 +117,7 @@ pub trait Door: Counted {
         ensures exact { TellsConflict (sessions self.old) (Self.draws self.old) result }
         ensures out { out self.new ≡ one_more_out result (out self.old) }
         ensures asked { asked self.new ≡ logged (asked self.old) (begin_request ask.now) result }
+        ensures begun { IfOk result (λ welcome. begun self.new ask.now welcome) }
     {
         let Begun {
             welcome,

@@ -8,6 +8,7 @@ ghost use Rattle.id_table.specs.Maps.{Same, Told};
 ghost use Rattle.guac_handshake.specs.declared.refused.Refused.TheVariants.{Closed, Forbidden, TooMany, Worn};
 ghost use Rattle.guac_handshake.specs.Greetings.{HasAnswered, HasAsked, HasConnected, HasKept, HasOut, HasSelected, HasTouched, IfReady, IsFound, IsGreeting, IsServed, IsToldError, IsToldReady, stopped_as};
 
+use crate::asking::ask;
 use crate::expected::{Expected, Said};
 use crate::hearing::hear;
 use crate::replies::{write_args, write_error, write_ready};
@@ -108,29 +109,6 @@ fn look<R: Wait, D: Door>(rt: &R, door: &mut D, name: Text) -> Result<Selected, 
         Ok(Selected::Known(name))
     } else {
         Err(Stop::Refused(NOT_FOUND))
-    }
-}
-
-// Asks the door.
-fn ask<R: Threads + Wait + Copy + Send + 'static, D: Door>(
-    rt: &R,
-    alloc: Global,
-    door: &mut D,
-    request: &Request,
-) -> Result<Welcome<D::Place>, Refused>
-    ensures asked { D.asked door.new ≡ logged (D.asked door.old) request.now result }
-    ensures out { D.out door.new ≡ one_more_out result (D.out door.old) }
-    ensures kind { IfErr result (MayRefuse D.id_of (D.sessions door.old) (D.draws door.old) (D.sessions door.new) request.now) }
-    ensures sessions { Told (D.sessions door.old) (D.sessions door.new) (HasAnswered D.id_of result) }
-    ensures dial { IsDial result → Rose (D.dial_faults door.old) (D.dial_faults door.new) }
-    ensures busy { IsBusy result → Rose (D.start_faults door.old) (D.start_faults door.new) }
-    ensures later_dials { D.dial_faults door.old ≤ D.dial_faults door.new }
-    ensures later_starts { D.start_faults door.old ≤ D.start_faults door.new }
-    ensures fresh { IfOk result (λ welcome. D.Place.fresh welcome.place welcome.first) }
-{
-    match request {
-        Request::Begin(ask) => door.begin(rt, alloc, ask),
-        Request::Join { id, asked } => door.join(rt, alloc, id.as_str(), *asked),
     }
 }
 

@@ -3,16 +3,22 @@
 //!
 //! `greet` reads instructions up to `connect`, asks a [`Door`] what they ask (`asks` of `specs/Asks.antt`) and
 //! writes the answer. `IsGreeting` of `specs/Greetings.antt` says what it read, asked and wrote at each end.
+//! `open_form` asks a door what the form of an HTTP request asks (`IsForm` of `specs/Forms.antt`).
 #![tactic(auto)]
 
 mod ask;
+mod asking;
 mod connecting;
 mod door;
 mod expected;
+mod form;
+mod form_refusal;
 mod greeted;
 mod greeting;
 mod hearing;
 pub mod memory;
+mod names;
+mod opening;
 mod refused;
 mod replies;
 mod request;
@@ -24,8 +30,11 @@ mod welcome;
 
 pub use ask::Ask;
 pub use door::Door;
+pub use form_refusal::FormRefusal;
 pub use greeted::Greeted;
 pub use greeting::greet;
+pub use names::{NAME_BYTES, id_named, name_in, name_of};
+pub use opening::open_form;
 pub use refused::Refused;
 pub use request::Request;
 pub use seat::{Job, Seat};

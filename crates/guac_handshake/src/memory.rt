@@ -4,11 +4,12 @@ ghost use Rattle.std.specs.Prelude.{◌≡◌, ◌≤◌, ℕ, [], IfOk, IfSome,
 ghost use Rattle.gate_outside.specs.Edge.{Rose};
 ghost use Rattle.gate_outside.specs.Starts.{IsDialFailed};
 ghost use Rattle.guac_handshake.specs.Doors.{RemovedOne, at_name};
-ghost use Rattle.guac_handshake.specs.Memory.{id_of_name, untold};
+ghost use Rattle.guac_handshake.specs.Memory.{untold};
+ghost use Rattle.guac_handshake.specs.Names.{id_of_name};
 ghost use Rattle.id_table.specs.Tables.{held};
-ghost use Rattle.uuid.specs.Text.{parsed};
 
 use crate::connecting::owned;
+use crate::names::{id_named, name_of};
 use crate::{Ask, Begun, Door, Job, Refused, Seat, Welcome};
 use gate_model::{Asked, Bytes, NoMemory, Text};
 use gate_outside::{Counted, DialFault, Dialer, MemDialer, MemDice, Way};
@@ -92,7 +93,8 @@ impl Counted for MemDoor {
 
 impl Door for MemDoor {
     ghost use Rattle.std.specs.Prelude.{None, Some};
-    ghost use Rattle.guac_handshake.specs.Memory.{id_of_name, untold};
+    ghost use Rattle.guac_handshake.specs.Memory.{untold};
+    ghost use Rattle.guac_handshake.specs.Names.{id_of_name};
     ghost use Rattle.id_table.specs.Tables.{held};
 
     type Place = MemPlace;
@@ -108,6 +110,8 @@ impl Door for MemDoor {
     ghost out = { λ s. Some s.out };
 
     ghost asked = { λ _. None };
+
+    ghost begun = { λ _ _ _. Unit {0} };
 
     fn known<R: Wait>(&mut self, _rt: &R, name: &str) -> bool {
         id_of(&self.ids, name).is_some()
@@ -247,37 +251,6 @@ fn remove_named(ids: &mut IdTable<()>, name: &str)
         None => return,
     };
     ids.remove(&id);
-}
-
-// The ID that the name gives: `$` and an ID in any form (RFC 9562, section 4).
-fn id_named(name: &str) -> Option<Uuid>
-    ensures { result ≡ id_of_name name.now }
-{
-    match name.strip_prefix('$') {
-        Some(rest) => id_in(rest),
-        None => None,
-    }
-}
-
-fn id_in(text: &str) -> Option<Uuid>
-    ensures { result ≡ parsed text.now }
-{
-    match Uuid::parse_str(text) {
-        Ok(id) => Some(id),
-        Err(_) => None,
-    }
-}
-
-// The name of the ID, in the form with hyphens.
-fn name_of(alloc: Global, id: Uuid) -> Result<Text, NoMemory>
-    ensures { IfOk result (λ name. id_of_name name ≡ Some id) }
-{
-    let mut buffer = Uuid::encode_buffer();
-    let hyphenated = id.hyphenated().encode_lower(&mut buffer);
-    let mut name = String::new(alloc);
-    name.push('$')?;
-    name.push_str(hyphenated)?;
-    Ok(Text::of(name))
 }
 
 fn copy_of(alloc: Global, ask: &Ask) -> Result<Ask, NoMemory>

@@ -1,5 +1,5 @@
 use Rattle.id_table.specs.Tables.{held}
-use Rattle.guac_handshake.specs.Memory.{id_of_name}
+use Rattle.guac_handshake.specs.Names.{id_of_name}
 use Rattle.guac_handshake.proofs.InMemory.{meets}
 use Rattle.guac_handshake.proofs.memory.MemDoorDoor.join.Goals as goal
 

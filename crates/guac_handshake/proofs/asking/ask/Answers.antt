@@ -1,5 +1,5 @@
 use Rattle.guac_handshake.proofs.Touching.{begin_answered, join_answered, join_may, join_refuses}
-use Rattle.guac_handshake.proofs.greeting.ask.Goals as goal
+use Rattle.guac_handshake.proofs.asking.ask.Goals as goal
 
 pub returns-in-Begin-clause-sessions : goal.returns-in-Begin-clause-sessions
 returns-in-Begin-clause-sessions g c = begin_answered g.D.Door.id_of _ _ _ c.begin.ensures.added c.begin.ensures.refused

@@ -1,0 +1,15 @@
+use Rattle.std.proofs.Common.{◌∙◌, ap, inl, inr, List, Option}
+use Rattle.guac_handshake.specs.Doors.{logged_for}
+use Rattle.guac_handshake.specs.declared.request.Request.{Request}
+use Rattle.guac_handshake.proofs.Refusing.{may_before}
+use Rattle.guac_handshake.proofs.opening.open_form.Goals as goal
+
+pub returns-clause-opened : goal.returns-clause-opened
+returns-clause-opened g c = (
+  c.in_ok-request.request,
+  c.in_ok-request.ensures.form,
+  inr (
+    may_before g.D.Door.id_of _ _ _ _ _ c.is_there.ensures.sessions c.is_there.ensures.draws c.in_ok-request.request c.in-Err.refused c.in-Err.ensures.kind,
+    c.in-Err.ensures.asked ∙ ap (λ (l : Option (List Request)). logged_for l c.in_ok-request.request c.in-Err.refused) c.is_there.ensures.asked,
+  ),
+)

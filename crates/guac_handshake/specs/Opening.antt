@@ -1,0 +1,43 @@
+-- What a door was asked by a form, and what it answered (this project's own).
+use Rattle.std.specs.Prelude.{◌≡◌, ◌⊎◌, ◌+◌, ℕ, List, Bool, true, false, Option, IfSome, Result, Ok, Err, is_some}
+use Rattle.std.specs.Option.{option_map}
+use Rattle.guac_handshake.specs.Doors.{KeepsIds, MayRefuse, Sessions, TouchesOne, asked_more, at_name, logged_for}
+use Rattle.guac_handshake.specs.Forms.{IsForm, IsNoForm}
+use Rattle.guac_handshake.specs.declared.form_refusal.FormRefusal.{FormRefusal}
+use Rattle.guac_handshake.specs.declared.form_refusal.FormRefusal.TheVariants as refusal
+use Rattle.guac_handshake.specs.declared.refused.Refused.{Refused}
+use Rattle.guac_handshake.specs.declared.refused.Refused.TheVariants.{Absent}
+use Rattle.guac_handshake.specs.declared.request.Request.{Request}
+use Rattle.guac_handshake.specs.declared.request.Request.TheVariants.{Begin, Join}
+use Rattle.guac_handshake.specs.declared.welcome.Welcome.{Welcome}
+
+-- whether the session that is asked for is there, where the door tells; one that is to begin is asked for anyhow
+abbrev pub IsThere : (List ℕ → Option (List ℕ)) → Option Sessions → Request → Bool → Type 0
+IsThere id_of sessions (Begin ask) there = there ≡ true
+IsThere id_of sessions (Join name role) there = IfSome sessions (λ m. there ≡ is_some (at_name (id_of name) m))
+
+-- why the door gave no place: it doesn't have the session of that ID, and wasn't asked; or it was asked and refused
+abbrev pub IsRefusedBy : (List ℕ → Option (List ℕ)) → Option Sessions → (Request → Refused → Type 0) → Option (List Request) → Option (List Request) → Request → Refused → Type 0
+IsRefusedBy id_of sessions May before now request refused =
+    (IsThere id_of sessions request false × (refused ≡ Absent) × (now ≡ before)) ⊎ (May request refused × (now ≡ logged_for before request refused))
+
+-- the form asks something of the door, which answered so; or it is out of form, or memory was wanting, and the door
+-- wasn't asked
+abbrev pub HasOpened : {P : Type 0} → (List ℕ → Option (List ℕ)) → Option Sessions → Option Sessions → Option (ℕ → List ℕ) → Option (List Request) → Option (List Request) → List ℕ → Result (Welcome P) FormRefusal → Type 0
+HasOpened id_of sessions sessions_new draws before now body (Ok welcome) = (request : Request) × IsForm body request × (now ≡ asked_more before request)
+HasOpened id_of sessions sessions_new draws before now body (Err refusal.Form) = IsNoForm body × (now ≡ before)
+HasOpened id_of sessions sessions_new draws before now body (Err refusal.NoMemory) = now ≡ before
+HasOpened id_of sessions sessions_new draws before now body (Err (refusal.Door refused)) = (request : Request) × IsForm body request × IsRefusedBy id_of sessions (MayRefuse id_of sessions draws sessions_new) before now request refused
+
+-- the sessions that it touched: that of the welcome; without one, no session is there that wasn't
+abbrev pub HasMoved : {P : Type 0} → (List ℕ → Option (List ℕ)) → Result (Welcome P) FormRefusal → Sessions → Sessions → Type 0
+HasMoved id_of (Ok welcome) m n = TouchesOne (id_of welcome.id) m n
+HasMoved id_of (Err refused) m n = (name : Option (List ℕ)) × KeepsIds name m n
+
+-- a place more is out where one was given
+abbrev pub with_opened : {P : Type 0} → Result (Welcome P) FormRefusal → Option ℕ → Option ℕ
+with_opened (Ok welcome) out = option_map (λ n. n + 1) out
+with_opened (Err refused) out = out
+
+abbrev pub IsDoor : {P : Type 0} → Refused → Result (Welcome P) FormRefusal → Type 0
+IsDoor refused r = r ≡ Err (refusal.Door refused)

@@ -1,0 +1,6 @@
+-- In reading order: what a head's fields say of the body, the requests that bytes make, what came of a source, the
+-- text of a response.
+pub mod Fields
+pub mod Requests
+pub mod Moved
+pub mod Responses
