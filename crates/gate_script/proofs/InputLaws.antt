@@ -8,7 +8,7 @@ use Rattle.std.proofs.Math.Seq.{take-add}
 use Rattle.gate_model.specs.Sequences.{IsLater}
 use Rattle.gate_model.specs.text.Reading.{read as read_stream, after}
 use Rattle.gate_model.proofs.Cutting.{resumes, read-whole, read-unfinished}
-use Rattle.std.specs.Prelude.{◌⊎◌, ◌^◌}
+use Rattle.std.specs.Prelude.{◌^◌}
 use Rattle.gate_outside.specs.Edge.{AtEnd, came, Rose}
 use Rattle.gate_script.specs.declared.session.Session.{Session}
 use Rattle.gate_outside.proofs.Moved.{came-none}
@@ -69,7 +69,7 @@ lines-later form ps qs p = subst (λ (l : List (List ℕ)). IsLater (lines_of fo
     more (Script entries) ms = scripts entries ms
 
 -- the lines at the end of the input go on with the others
-ending-later : (form : Form) (lines : List Order) → IsLater lines (ending form lines)
+pub ending-later : (form : Form) (lines : List Order) → IsLater lines (ending form lines)
 ending-later (Draw size) lines = (told Done ∷ [], refl)
 ending-later (Script entries) lines = ([], refl)
 

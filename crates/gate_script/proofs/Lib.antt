@@ -7,3 +7,9 @@ pub mod PlayingLaws
 pub mod RunLaws
 pub mod InputLaws
 pub mod CommandLaws
+pub mod OneText
+pub mod OneStep
+pub mod OneReading
+pub mod OnePlay
+pub mod OneAnswer
+pub mod OneRun

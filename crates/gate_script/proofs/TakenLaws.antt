@@ -15,7 +15,7 @@ use Rattle.gate_model.specs.declared.event.Event.{Event}
 use Rattle.gate_model.specs.declared.event.Event.TheVariants.{Feed as feed, Join as join_in, Read as read_as, Write as write_acts, Take as take_most, Leave as leave_as, Close as close_for}
 use Rattle.gate_model.specs.declared.setup.Setup.{Setup}
 use Rattle.gate_model.specs.session.Entries.{taken_by}
-use Rattle.gate_model.specs.session.History.{History, newest, is_closed}
+use Rattle.gate_model.specs.session.History.{History, is_closed}
 use Rattle.gate_model.specs.session.Output.{out, sent, taken, untaken}
 use Rattle.gate_model.specs.session.Calls.{Step, take_entry}
 use Rattle.script_lines.specs.declared.reading.Reading.{Reading}
@@ -198,6 +198,10 @@ sends [] q a f bytes w = subst (λ (k : Play). AreSent k.history bytes) (sym w.0
 sends (order ∷ orders) q a f bytes w =
     subst (AreSent q.history) (sym w.5.joined) (line_sends w.3 w.5.own_bytes (line_in order) w.0 q w.5.answer w.5.own_f w.5.does w.5.prints (sends orders w.0 w.1 w.2 w.3 w.4))
 
+-- so the history fixes them
+pub taken_first : (orders : List Order) (q : Play) (a f bytes : List ℕ) → Plays orders q a f bytes → bytes ≡ take (taken q.history) (out q.history)
+taken_first orders q a f bytes plays = (sends orders q a f bytes plays).first
+
 -- the orders tell what they told, where the history is legal and true
 pub tells : (orders : List Order) (p : Play) (a f bytes : List ℕ) → Plays orders p a f bytes → IsLawful p.history → Tells orders p a f
-tells orders p a f bytes plays lawful = record { bytes = bytes; plays = plays; lawful = lawful; sent_on = (sends orders p a f bytes plays).first }
+tells orders p a f bytes plays lawful = record { bytes = bytes; plays = plays; lawful = lawful; sent_on = taken_first orders p a f bytes plays }

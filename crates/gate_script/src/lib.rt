@@ -13,6 +13,7 @@
 mod commands;
 mod halt;
 mod input;
+pub mod laws;
 mod playing;
 mod refused;
 mod reply;
