@@ -1,7 +1,6 @@
 -- What each status says, from how the run ended and what its last answer wrote.
-use Rattle.std.proofs.Common.{◌≡◌, ℕ, ◌≤◌, List, [], ◌∷◌, ◌++◌, ◌⊎◌, inl, inr, take, drop, refl, ap, sym, ◌∙◌, subst, append_assoc, append-nil, arith}
+use Rattle.std.proofs.Common.{◌≡◌, ℕ, ◌≤◌, List, [], ◌∷◌, ◌++◌, ◌⊎◌, inl, inr, take, refl, ap, sym, ◌∙◌, subst, append_assoc, arith}
 use Rattle.std.specs.Prelude.{Option, Some, None, Result, Ok, Err}
-use Rattle.std.proofs.lemmas.List.{take-append-drop}
 use Rattle.gate_model.specs.Sequences.{IsLater}
 use Rattle.gate_outside.specs.Edge.{AtEnd, Rose, came, gained}
 use Rattle.gate_outside.proofs.Moved.{gained-gained, came-none}
@@ -13,13 +12,14 @@ use Rattle.gate_script.specs.declared.stop.Stop.{Stop}
 use Rattle.gate_script.specs.declared.stop.Stop.TheVariants.{ReadFault, WriteFault, NoMemory, Refused}
 use Rattle.script_lines.specs.declared.order.Order.{Order}
 use Rattle.script_lines.specs.Grammar.{lines_of, whole_lines, all_lines}
-use Rattle.gate_script.specs.Outcomes.{AreFirst, Finished, Interrupted, Refuses, Ends, Halted, CutShort, Ran, LinesOutcome, Outcome, last_line}
+use Rattle.gate_script.specs.Outcomes.{AreFirst, Finished, Interrupted, Refuses, Ends, Halted, Ran, LinesOutcome, Outcome, last_line}
 use Rattle.gate_script.specs.Outcomes.{WriteFault as write_fault}
 use Rattle.gate_script.specs.Plays.{Tells}
 use Rattle.gate_script.specs.Sinks.{Sinks, Gains, HaveFailed}
-use Rattle.gate_script.specs.Running.{AllDone, SomeDone, StoppedIn, ShortOf, RefusedOf, HasRead, RunEnds, LastSaid, Ended, refused_status}
+use Rattle.gate_script.specs.Running.{AllDone, StoppedIn, RefusedOf, HasRead, RunEnds, LastSaid, Ended, refused_status}
 use Rattle.gate_script.proofs.TakenLaws.{tells}
 use Rattle.gate_script.proofs.InputLaws.{no_pieces, run_stopped}
+use Rattle.gate_script.proofs.RunLaws.{front}
 
 module _ (form : Form) (left : Option (List ℕ)) (bytes a f : List ℕ) where
   at_done : AtEnd left × Finished form bytes a f → LinesOutcome 0 form left bytes a f
@@ -89,7 +89,9 @@ module _ (form : Form) (k : ℕ) (left0 left : Option (List ℕ)) (b n : Sinks) 
         refused = refused;
         written = t.answers;
         refuses = refuses bytes all are refused s;
-        answers_begin = (drop w.2.0 (last_line refused), ap (λ (l : List ℕ). t.answers ++ l) (sym (take-append-drop w.2.0 (last_line refused))) ∙ sym (append_assoc t.answers (take w.2.0 (last_line refused)) (drop w.2.0 (last_line refused))));
+        own_a = take w.2.0 (last_line refused);
+        answer_begins = front (last_line refused) w.2.0;
+        answered = refl;
       })))
   last_said Fault bytes all are came_is refused s (inr (inr w)) =
       let t = s.done.told in

@@ -13,3 +13,4 @@ pub mod OneReading
 pub mod OnePlay
 pub mod OneAnswer
 pub mod OneRun
+pub mod OneFault

@@ -94,12 +94,12 @@ whole_are_first form bytes =
     (lines-later form (reverse whole) (reverse (whole ++ last)) (reverse last, reverse-append whole last))
     (ending-later form (lines_of form (reverse (whole ++ last))))
 
-first_of_all : (form : Form) (bytes : List ℕ) (left : Option (List ℕ)) (orders : List Order) → AreFirst form bytes left orders → IsLater orders (all_lines form bytes)
+pub first_of_all : (form : Form) (bytes : List ℕ) (left : Option (List ℕ)) (orders : List Order) → AreFirst form bytes left orders → IsLater orders (all_lines form bytes)
 first_of_all form bytes left orders (inl first) = later_still orders (whole_lines form bytes) (all_lines form bytes) first (whole_are_first form bytes)
 first_of_all form bytes left orders (inr first) = first.1
 
 -- of two lists that end the same list one ends the other
-one_ends_the_other : (more others xs ys : List Order) → more ++ xs ≡ others ++ ys → IsLater xs ys ⊎ IsLater ys xs
+pub one_ends_the_other : (more others xs ys : List Order) → more ++ xs ≡ others ++ ys → IsLater xs ys ⊎ IsLater ys xs
 one_ends_the_other [] others xs ys e = inr (others, e)
 one_ends_the_other (m ∷ more) [] xs ys e = inl (m ∷ more, sym e)
 one_ends_the_other (m ∷ more) (o ∷ others) xs ys e = one_ends_the_other more others xs ys (rest m o (more ++ xs) (others ++ ys) e)
@@ -108,29 +108,29 @@ one_ends_the_other (m ∷ more) (o ∷ others) xs ys e = one_ends_the_other more
     rest x y ls ks e = cc
 
 -- each order's answer is told
-abbrev AreTold : List Order → Type 0
+abbrev pub AreTold : List Order → Type 0
 AreTold [] = Unit {0}
 AreTold (told line ∷ orders) = AreTold orders
 AreTold (untold line ∷ orders) = ⊥
 
 -- what the first of some orders did and told; where the others answered nothing, they did nothing
-record Began (more orders : List Order) (q : Play) (a f : List ℕ) : Type 0 where
-  play : Play
-  told_a : List ℕ
-  told_f : List ℕ
-  bytes : List ℕ
-  plays : Plays orders play told_a told_f bytes
-  rest_a : List ℕ
-  rest_f : List ℕ
-  answered : a ≡ told_a ++ rest_a
-  framed : f ≡ told_f ++ rest_f
-  still : AreTold more → rest_a ≡ [] → play ≡ q
+pub record Began (more orders : List Order) (q : Play) (a f : List ℕ) : Type 0 where
+  pub play : Play
+  pub told_a : List ℕ
+  pub told_f : List ℕ
+  pub bytes : List ℕ
+  pub plays : Plays orders play told_a told_f bytes
+  pub rest_a : List ℕ
+  pub rest_f : List ℕ
+  pub answered : a ≡ told_a ++ rest_a
+  pub framed : f ≡ told_f ++ rest_f
+  pub still : AreTold more → rest_a ≡ [] → play ≡ q
 
-both_none : (xs ys : List ℕ) → xs ++ ys ≡ [] → (xs ≡ []) × (ys ≡ [])
+pub both_none : (xs ys : List ℕ) → xs ++ ys ≡ [] → (xs ≡ []) × (ys ≡ [])
 both_none [] ys e = (refl, e)
 both_none (x ∷ xs) ys e = absurd cc
 
-began : (more orders : List Order) (q : Play) (a f bytes : List ℕ) → Plays (more ++ orders) q a f bytes → Began more orders q a f
+pub began : (more orders : List Order) (q : Play) (a f bytes : List ℕ) → Plays (more ++ orders) q a f bytes → Began more orders q a f
 began [] orders q a f bytes w = record { play = q; told_a = a; told_f = f; bytes = bytes; plays = w; rest_a = []; rest_f = []; answered = sym (append-nil a); framed = sym (append-nil f); still = λ t e. refl }
 began (order ∷ more) orders q a f bytes w =
     let so_far = began more orders w.0 w.1 w.2 w.3 w.4 in
@@ -262,7 +262,7 @@ module _ (p q : Play) (a f : List ℕ) where
   bad_not_done line (inr long) does = too_long_not_done line long does
 
   -- a refused order wasn't done
-  refused_not_done : {A : Type 0} → (refused : Refused) (order : Order) (orders : List Order) → IsRefused refused order orders p → Does (line_in order) p q a f → A
+  pub refused_not_done : {A : Type 0} → (refused : Refused) (order : Order) (orders : List Order) → IsRefused refused order orders p → Does (line_in order) p q a f → A
   refused_not_done (BadLine number) order orders w does = bad_not_done (line_in order) w.0 does
   refused_not_done (Worn entries) order orders w does = worn_not_done (line_in order) w.0 entries w.1 w.2 does
 
@@ -371,21 +371,21 @@ refuses_once form bytes a b f left refused again one other = refused_runs form b
 
 -- ---- want of memory
 
-told_scripts : (entries : ℕ) (pieces : List (List ℕ)) → AreTold (script_lines entries pieces)
+pub told_scripts : (entries : ℕ) (pieces : List (List ℕ)) → AreTold (script_lines entries pieces)
 told_scripts entries [] = tt
 told_scripts entries (piece ∷ pieces) = told_scripts entries pieces
 
-told_front : (more orders : List Order) → AreTold (more ++ orders) → AreTold more
+pub told_front : (more orders : List Order) → AreTold (more ++ orders) → AreTold more
 told_front [] orders t = tt
 told_front (told line ∷ more) orders t = told_front more orders t
 told_front (untold line ∷ more) orders t = absurd t
 
-told_rest : (more orders : List Order) → AreTold (more ++ orders) → AreTold orders
+pub told_rest : (more orders : List Order) → AreTold (more ++ orders) → AreTold orders
 told_rest [] orders t = t
 told_rest (told line ∷ more) orders t = told_rest more orders t
 told_rest (untold line ∷ more) orders t = absurd t
 
-none_behind : (xs ys : List ℕ) → xs ++ ys ≡ xs → ys ≡ []
+pub none_behind : (xs ys : List ℕ) → xs ++ ys ≡ xs → ys ≡ []
 none_behind xs ys e = append_cancel_left xs ys [] (e ∙ sym (append-nil xs))
 
 -- more orders that answered nothing more

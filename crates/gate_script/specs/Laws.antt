@@ -1,10 +1,12 @@
 -- The lines and the frames fix the history (this project's own). Public functions of `laws` prove each law.
-use Rattle.std.specs.Prelude.{◌≡◌, ℕ, List, Option}
+use Rattle.std.specs.Prelude.{◌≡◌, ℕ, List, ◌∷◌, ◌⊎◌, Option}
+use Rattle.gate_model.specs.declared.entry.Entry.{Entry}
+use Rattle.gate_model.specs.session.History.{History}
 use Rattle.script_lines.specs.declared.form.Form.{Form}
 use Rattle.script_lines.specs.declared.form.Form.TheVariants.{Script}
 use Rattle.script_lines.specs.declared.order.Order.{Order}
 use Rattle.gate_script.specs.declared.refused.Refused.{Refused}
-use Rattle.gate_script.specs.Outcomes.{CutInNewest, Finished, Halted, Interrupted, Refuses}
+use Rattle.gate_script.specs.Outcomes.{CutInNewest, CutShort, Finished, Halted, Interrupted, LastCutShort, Refuses}
 use Rattle.gate_script.specs.Plays.{Play, Plays}
 
 -- ---- given orders
@@ -39,3 +41,22 @@ RefusesIsOnePlay = (form : Form) (bytes a b f : List ℕ) (left : Option (List �
 -- so are two runs of a script that want of memory ended, where they wrote the same answers too
 abbrev pub HaltedIsOnePlay : Type 0
 HaltedIsOnePlay = (entries : ℕ) (bytes a f : List ℕ) (left : Option (List ℕ)) (one other : Halted (Script entries) bytes a f left) → one.play ≡ other.play
+
+-- ---- runs that a fault of a sink ended
+
+-- one entry more, or none
+abbrev pub HasOneMore : History → History → Type 0
+HasOneMore g h = (h ≡ g) ⊎ ((e : Entry) × (h ≡ e ∷ g))
+
+-- the same entries, but for the newest of each
+abbrev pub AgreeButForTheNewest : History → History → Type 0
+AgreeButForTheNewest h k = (g : History) × HasOneMore g h × HasOneMore g k
+
+-- in this play a fault of a sink came: its newest order was cut short, or the last answer behind all its orders
+abbrev pub EndsByFault : Form → List ℕ → List ℕ → List ℕ → Option (List ℕ) → Play → Type 0
+EndsByFault form bytes a f left p = ((cut : CutShort form bytes a f left) × (cut.play ≡ p)) ⊎ ((last : LastCutShort form bytes a f left) × (last.refuses.play ≡ p))
+
+-- the histories of two runs of a script that wrote the same answers and frames agree but for the newest entry
+abbrev pub WriteFaultFixesAllButTheNewest : Type 0
+WriteFaultFixesAllButTheNewest = (entries : ℕ) (bytes a f : List ℕ) (left : Option (List ℕ)) (p q : Play)
+    → EndsByFault (Script entries) bytes a f left p → EndsByFault (Script entries) bytes a f left q → AgreeButForTheNewest p.history q.history

@@ -122,12 +122,15 @@ pub record CutShort (form : Form) (bytes a f : List ℕ) (left : Option (List �
   pub framings_begin : BeginsWith framings f
   pub newest : EndsInNewest lines play a f
 
--- a fault of the answers' sink in the last answer of the run
+-- a fault of the answers' sink in the last answer of the run: all that the orders tell was written, and then a
+-- front of that answer
 pub record LastCutShort (form : Form) (bytes a f : List ℕ) (left : Option (List ℕ)) : Type 0 where
   pub refused : Refused
   pub written : List ℕ
   pub refuses : Refuses form bytes written f left refused
-  pub answers_begin : BeginsWith (written ++ last_line refused) a
+  pub own_a : List ℕ
+  pub answer_begins : BeginsWith (last_line refused) own_a
+  pub answered : a ≡ written ++ own_a
 
 abbrev pub WriteFault : Form → List ℕ → List ℕ → List ℕ → Option (List ℕ) → Type 0
 WriteFault form bytes a f left = CutShort form bytes a f left ⊎ LastCutShort form bytes a f left

@@ -1,4 +1,5 @@
 use Rattle.gate_script.proofs.OneRun.{finished_once, interrupted_once, refuses_once, halted_once}
+use Rattle.gate_script.proofs.OneFault.{faults_once}
 use Rattle.gate_script.proofs.laws.runs_are_one_play.Goals as goal
 
 pub returns-clause-finished : goal.returns-clause-finished
@@ -12,3 +13,6 @@ returns-clause-refused c = refuses_once
 
 pub returns-clause-halted : goal.returns-clause-halted
 returns-clause-halted c = halted_once
+
+pub returns-clause-write_fault : goal.returns-clause-write_fault
+returns-clause-write_fault c = faults_once
