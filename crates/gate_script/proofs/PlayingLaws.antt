@@ -1,26 +1,20 @@
 -- What is read of a text of instructions, and what has been played of it.
-use Rattle.std.proofs.Common.{◌≡◌, ℕ, zero, suc, ◌+◌, ◌-◌, ◌<◌, ◌≤◌, List, [], ◌∷◌, ◌++◌, length, take, drop, Bool, true, false, ◌⊎◌, inl, inr, ap, sym, ◌∙◌, subst, ℤ, pos, neg_ℤ, arith, lit≤, append_assoc, append-nil, length-append}
-use Rattle.std.specs.Prelude.{⊤, Result, Ok, Err, OnErr, Option, Some, None, option_map, option_and_then, slice_get, codes, bytes_eq, if◌then◌else◌, ◌&&◌, nat_le}
-use Rattle.std.specs.Int.{is_in_range}
-use Rattle.std.proofs.lemmas.Bool.{leb-true, and_parts, cases_Bool}
+use Rattle.std.proofs.Common.{◌≡◌, ℕ, ◌+◌, ◌-◌, ◌<◌, ◌≤◌, List, [], ◌∷◌, ◌++◌, length, take, drop, ◌⊎◌, inl, inr, ap, sym, ◌∙◌, subst, arith, append_assoc, append-nil, length-append}
+use Rattle.std.specs.Prelude.{Result, Ok, Err, OnErr, Some}
 use Rattle.std.proofs.lemmas.List.{drop-drop, length-drop, length-take-le, take-append-drop, take_all}
 use Rattle.std.proofs.Math.Seq.{take-append_seam, drop-append_seam}
-use Rattle.std.proofs.Math.Dec.{le→leb}
 use Rattle.gate_model.specs.declared.instr.Instr.{Instr}
-use Rattle.gate_model.specs.declared.instr.Instr.TheVariants.{Sync, Disconnect}
 use Rattle.gate_model.specs.picture.Layers.{Layers, play, draw}
-use Rattle.gate_model.specs.picture.Shape.{IsLayer}
-use Rattle.gate_model.specs.text.Spelling.{SpellsElements, Spells, number_of}
+use Rattle.gate_model.specs.text.Spelling.{SpellsElements, Spells}
 use Rattle.gate_model.specs.text.Text.{elements_of, text, texts}
-use Rattle.gate_model.specs.text.Numerals.{value_at, is_number, number_within, number_of_bits, layer_of}
-use Rattle.gate_model.specs.text.ServerMeaning.{extent_of, over_of, opaque_of, size_instr, rect_instr, cfill_instr, copy_instr, error_instr, instr_named, instr_of}
+use Rattle.gate_model.specs.text.ServerMeaning.{instr_of}
 use Rattle.gate_model.specs.picture.Shape.{IsInRange}
 use Rattle.gate_model.proofs.Drawing.{draw-append}
 use Rattle.gate_model.proofs.Spelt.{prefix_free}
 use Rattle.gate_model.proofs.TextLaws.{text_spells}
 use Rattle.gate_model.proofs.MeaningLaws.{read_back, instr_in_utf8}
 use Rattle.canvas.specs.Kept.{KeptLayer}
-use Rattle.canvas.specs.Standing.{IsPlayable, Stands}
+use Rattle.canvas.specs.Standing.{Stands}
 use Rattle.guac_framing.specs.declared.next.BadAt.{BadAt}
 use Rattle.guac_framing.specs.declared.next.Next.{Next}
 use Rattle.guac_framing.specs.declared.next.Next.TheVariants.{More, Bad}

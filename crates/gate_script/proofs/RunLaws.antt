@@ -1,5 +1,5 @@
 -- How an order is told, and how the orders of a piece end.
-use Rattle.std.proofs.Common.{◌≡◌, ◌≢◌, ℕ, suc, ◌+◌, ◌*◌, ◌≤◌, ◌<◌, ◌⊎◌, inl, inr, List, [], ◌∷◌, ◌++◌, length, take, drop, Bool, true, false, refl, ap, sym, ◌∙◌, subst, append_assoc, append-nil, arith}
+use Rattle.std.proofs.Common.{◌≡◌, ℕ, ◌+◌, ◌≤◌, inl, inr, List, [], ◌∷◌, ◌++◌, length, take, drop, Bool, true, false, refl, ap, sym, ◌∙◌, subst, append_assoc, append-nil, arith}
 use Rattle.std.specs.Prelude.{Result, Ok, Err, Option, Some, None, OnOk, ◌||◌, codes}
 use Rattle.std.specs.List.{list_any}
 use Rattle.std.specs.Option.{is_some}
@@ -14,7 +14,7 @@ use Rattle.script_lines.specs.declared.line.Line.TheVariants.{Blank, Bad, At as 
 use Rattle.script_lines.specs.declared.order.Order.{Order}
 use Rattle.script_lines.specs.declared.order.Order.TheVariants.{Told as told, Untold as untold}
 use Rattle.script_lines.specs.Lines.{line_in, told_by}
-use Rattle.script_lines.specs.Grammar.{ending, starts, judged, in_place, lines_of, script_lines, total}
+use Rattle.script_lines.specs.Grammar.{ending, starts, judged, in_place, lines_of, total}
 use Rattle.gate_script.specs.declared.halt.Halt.{Halt}
 use Rattle.gate_script.specs.declared.halt.Halt.TheVariants.{NoMemory as no_memory, OutsideGrammar, Worn as is_worn}
 use Rattle.gate_script.specs.declared.reply.Reply.{Reply}
@@ -24,7 +24,7 @@ use Rattle.gate_script.specs.declared.state.State.{State}
 use Rattle.gate_script.specs.declared.stop.Stop.{Stop}
 use Rattle.gate_script.specs.declared.stop.Stop.TheVariants.{ReadFault, WriteFault, NoMemory, Refused}
 use Rattle.gate_script.specs.Plays.{Play, Plays, Does, IsLawful}
-use Rattle.gate_script.specs.Calls.{Adds, Appends, CallEnds, Halts, IsAt, IsCall, LineDone, StartEnds, play}
+use Rattle.gate_script.specs.Calls.{Adds, CallEnds, Halts, IsAt, IsCall, LineDone, StartEnds, play}
 use Rattle.gate_script.specs.Calls.{LeavesOpen as CallLeavesOpen}
 use Rattle.gate_script.specs.Told.{answer_line}
 use Rattle.gate_model.specs.session.History.{History}

@@ -1,11 +1,10 @@
 -- What each call of a session does.
-use Rattle.std.proofs.Common.{◌≡◌, ℕ, List, [], ◌∷◌, ◌++◌, length, take, arith, length-take, length-drop, ◌-◌, ◌+◌, ◌≤◌, Bool, true, false, inl, inr, refl, ap, sym, ◌∙◌, subst, append_assoc, append-nil}
-use Rattle.std.specs.Prelude.{Result, Ok, Err, Option, Some, IfSome, min, codes, ◌&&◌, ◌==◌, if◌then◌else◌, IsTrue, ◌↔◌}
+use Rattle.std.proofs.Common.{◌≡◌, ℕ, List, [], ◌∷◌, ◌++◌, length, take, arith, length-take, length-drop, ◌-◌, ◌≤◌, Bool, true, false, inl, inr, refl, ap, sym, ◌∙◌, subst, append-nil}
+use Rattle.std.specs.Prelude.{Result, Ok, Err, Some, IfSome, min, codes, ◌&&◌, ◌==◌, if◌then◌else◌, IsTrue, ◌↔◌}
 use Rattle.std.specs.Option.{is_some}
 use Rattle.std.proofs.lemmas.List.{take_min}
 use Rattle.std.proofs.Math.Seq.{take-length}
 use Rattle.gate_model.specs.declared.act.Act.{Act}
-use Rattle.gate_model.specs.declared.act.Act.TheVariants.{Sync as act_sync}
 use Rattle.gate_model.specs.declared.answer.Answer.{Answer}
 use Rattle.gate_model.specs.declared.answer.Answer.TheVariants.{Feed as fed, Join as joined_as, Read as was_read, Write as was_written, Take as was_taken, Leave as was_left, Close as was_closed}
 use Rattle.gate_model.specs.declared.how.How.{How}
@@ -32,7 +31,6 @@ use Rattle.gate_model.specs.declared.read_refusal.ReadRefusal.{ReadRefusal}
 use Rattle.gate_model.specs.declared.read_refusal.ReadRefusal.TheVariants.{Worn as read_worn}
 use Rattle.gate_model.specs.declared.write_refusal.WriteRefusal.{WriteRefusal}
 use Rattle.gate_model.specs.declared.write_refusal.WriteRefusal.TheVariants.{Worn as write_worn}
-use Rattle.gate_model.specs.Sequences.{BeginsWith}
 use Rattle.gate_model.specs.text.Text.{texts}
 use Rattle.gate_model.specs.session.History.{History, joined, newest, newest_frame, next_stamp, is_closed}
 use Rattle.gate_model.specs.session.Delivered.{delivered, given}
@@ -52,15 +50,14 @@ use Rattle.script_lines.specs.declared.line.Line.{Line}
 use Rattle.script_lines.specs.declared.line.Line.TheVariants.{Start as start, Server as server, Join as join, Read as read, Write as write, Take as take_up_to, Leave as leave, Close as close, Acknowledge as acknowledge, Done as done}
 use Rattle.gate_script.specs.Told.{answer_line, answer_to, frames_line, framings, joined_line, read_told, refused_line, written_line, write_answer, pixel_line, same_line, differ_line, took_line}
 use Rattle.gate_script.specs.Plays.{Play, Does, Calls, Answers, Writes, acknowledgement, setup_of, seen, pixel_answer, Compares}
-use Rattle.gate_script.specs.Outcomes.{Answered as WasAnswered}
 use Rattle.gate_script.specs.Seeing.{Canvases, AreShown, PlaysOn, TakesAway, canvas_at}
-use Rattle.gate_script.specs.Calls.{Adds, Appends, ActsDone, CallEnds, Halts, IsAt, LineDone, StartEnds, WriteEnds, play, read_shown}
+use Rattle.gate_script.specs.Calls.{Adds, Appends, CallEnds, Halts, IsAt, LineDone, StartEnds, WriteEnds, play, read_shown}
 use Rattle.gate_script.proofs.StepLaws.{Gave, IsGiven, feed_adds, feed_stopped, join_adds, join_stopped, read_adds, read_stopped, write_adds, write_stopped, leave_adds, leave_stopped, close_adds, close_stopped, take_is}
 use Rattle.gate_script.proofs.ShownLaws.{shown_none, shown_plain, shown_join, shown_read, shown_still, shown_leave, given_by_join}
 use Rattle.canvas.specs.Kept.{KeptLayer}
 use Rattle.canvas.specs.Standing.{Stands as stands_for, dot_at}
 use Rattle.canvas.specs.declared.dot.Dot.{Dot}
-use Rattle.script_lines.specs.declared.reading.Reading.TheVariants.{Whole, TooMany}
+use Rattle.script_lines.specs.declared.reading.Reading.TheVariants.{Whole}
 use Rattle.script_lines.specs.Acts.{IsReading}
 use Rattle.gate_model.specs.picture.Shape.{AreReadable}
 use Rattle.gate_model.specs.picture.Layers.{Layers, Same, draw, nothing, visible}

@@ -1,5 +1,5 @@
 -- What each call of a session does, in memory: the line is done, and what it tells is appended to a reply.
-use Rattle.std.specs.Prelude.{◌≡◌, ℕ, ◌+◌, ◌≤◌, List, [], ◌∷◌, ◌++◌, true, false, Bool, ◌⊎◌, Result, Ok, Err, Option, Some, None}
+use Rattle.std.specs.Prelude.{◌≡◌, ℕ, ◌+◌, ◌≤◌, List, [], ◌++◌, ◌⊎◌, Result, Ok, Err, Some, None}
 use Rattle.gate_model.specs.Limits.{most_entries}
 use Rattle.gate_model.specs.declared.act.Act.{Act}
 use Rattle.gate_model.specs.declared.answer.Answer.{Answer}
@@ -7,14 +7,12 @@ use Rattle.gate_model.specs.declared.answer.Answer.TheVariants.{Write as was_wri
 use Rattle.gate_model.specs.declared.event.Event.TheVariants.{Write as write_acts}
 use Rattle.gate_model.specs.declared.read_answer.ReadAnswer.{ReadAnswer}
 use Rattle.gate_model.specs.declared.read_answer.ReadAnswer.TheVariants.{Frames, Fresh}
-use Rattle.gate_model.specs.declared.sharing.Share.{Share}
 use Rattle.gate_model.specs.declared.write_refusal.WriteRefusal.TheVariants.{Worn as write_worn}
 use Rattle.gate_model.specs.session.Calls.{Step}
 use Rattle.gate_model.specs.session.History.{History}
 use Rattle.desk_core.specs.Desk.{DeskState, IsKept, Stands}
 use Rattle.script_lines.specs.declared.line.Line.{Line}
 use Rattle.script_lines.specs.declared.line.Line.TheVariants.{Blank, Bad, At, Start, Server, Join, Read, Acknowledge}
-use Rattle.script_lines.specs.declared.size.Size.{Size}
 use Rattle.gate_script.specs.declared.halt.Halt.{Halt}
 use Rattle.gate_script.specs.declared.halt.Halt.TheVariants.{NoMemory, OutsideGrammar, Worn}
 use Rattle.gate_script.specs.declared.reply.Reply.{Reply}

@@ -5,7 +5,7 @@ use Rattle.std.specs.List.{list_any}
 use Rattle.std.specs.Option.{is_some}
 use Rattle.gate_model.specs.Sequences.{IsLater, BeginsWith}
 use Rattle.gate_model.specs.text.Reading.{read as read_stream}
-use Rattle.gate_outside.specs.Edge.{AtEnd, came, gained, GainedFront, Rose}
+use Rattle.gate_outside.specs.Edge.{AtEnd, came, gained, GainedFront}
 use Rattle.script_lines.specs.declared.form.Form.{Form}
 use Rattle.script_lines.specs.declared.form.Form.TheVariants.{Draw, Script}
 use Rattle.script_lines.specs.declared.line.Line.{Line}
@@ -27,7 +27,7 @@ use Rattle.gate_script.specs.declared.state.State.{State}
 use Rattle.gate_script.specs.declared.run.Run.{Run}
 use Rattle.gate_script.specs.Plays.{Play, Does, Plays, IsLawful, Tells}
 use Rattle.gate_script.specs.Outcomes.{EndsInNewest, IsRefused, last_line}
-use Rattle.gate_script.specs.Calls.{play, IsAt, Appends, Halts, IsOpenDesk, StaysOpen}
+use Rattle.gate_script.specs.Calls.{play, IsAt, Appends, Halts, IsOpenDesk}
 use Rattle.gate_script.specs.Sinks.{Sinks, Gains, HaveFailed}
 
 -- ---- in memory

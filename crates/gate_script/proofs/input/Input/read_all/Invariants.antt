@@ -1,4 +1,4 @@
-use Rattle.std.proofs.Common.{◌≡◌, ℕ, ◌+◌, ◌≤◌, List, [], length, vec_len}
+use Rattle.std.proofs.Common.{◌≡◌, ◌+◌, ◌≤◌, [], length, vec_len}
 use Rattle.std.specs.Prelude.{None}
 use Rattle.script_lines.specs.Pieces.{first_piece}
 use Rattle.script_lines.specs.Grammar.{most_of}

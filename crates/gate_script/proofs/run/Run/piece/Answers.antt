@@ -1,4 +1,4 @@
-use Rattle.std.proofs.Common.{◌≡◌, ◌+◌, ◌∷◌, ◌∙◌, length, ap, refl, sym, subst}
+use Rattle.std.proofs.Common.{◌≡◌, ◌+◌, ◌∷◌, ◌∙◌, length, ap, refl}
 use Rattle.std.specs.Prelude.{Err}
 use Rattle.std.specs.Option.{is_some}
 use Rattle.std.proofs.lemmas.Result.{err_from_is_err_and}

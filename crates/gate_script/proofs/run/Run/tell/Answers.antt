@@ -1,4 +1,4 @@
-use Rattle.std.proofs.Common.{◌≡◌, ◌∙◌, List, ℕ, ap, subst}
+use Rattle.std.proofs.Common.{◌∙◌, List, ℕ, ap, subst}
 use Rattle.gate_outside.specs.Edge.{GainedFront, gained}
 use Rattle.gate_script.specs.Sinks.{held}
 use Rattle.gate_script.proofs.RunLaws.{answer_cut, frames_cut}

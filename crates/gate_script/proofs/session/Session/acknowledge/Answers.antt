@@ -1,4 +1,4 @@
-use Rattle.std.proofs.Common.{◌∷◌, [], ap, refl}
+use Rattle.std.proofs.Common.{◌∷◌, [], ap}
 use Rattle.gate_model.specs.declared.act.Act.TheVariants.{Sync as act_sync}
 use Rattle.gate_script.proofs.SessionLaws.{acknowledges}
 use Rattle.gate_script.proofs.session.Session.acknowledge.Goals as goal

@@ -1,4 +1,4 @@
-use Rattle.std.proofs.Common.{Bool, ℕ, List, ◌≡◌, ◌∷◌, [], ◌++◌, ◌∙◌, ap, subst, sym, refl}
+use Rattle.std.proofs.Common.{Bool, ℕ, List, ◌≡◌, ◌∷◌, [], ◌++◌, ◌∙◌, ap, subst, refl}
 use Rattle.std.specs.Prelude.{Err, Some, if◌then◌else◌, codes}
 use Rattle.std.proofs.lemmas.Result.{err_from_is_err_and}
 use Rattle.gate_model.specs.declared.event.Event.TheVariants.{Join as join_in}

@@ -1,11 +1,9 @@
-use Rattle.std.proofs.Common.{◌≡◌, ◌∷◌, [], ◌∙◌, ap, refl, subst}
-use Rattle.std.specs.Prelude.{Err, Result}
+use Rattle.std.proofs.Common.{◌∷◌, [], ◌∙◌, ap, subst}
+use Rattle.std.specs.Prelude.{Err}
 use Rattle.std.proofs.lemmas.Result.{err_from_is_err_and}
 use Rattle.gate_model.specs.declared.setup.Setup.{Setup}
 use Rattle.desk_core.specs.Calls.{Opened}
 use Rattle.gate_script.specs.declared.halt.Halt.{Halt}
-use Rattle.gate_script.specs.declared.session.Session.{Session}
-use Rattle.gate_script.specs.Told.{answer_line, frames_line}
 use Rattle.gate_script.proofs.SessionLaws.{started, not_started}
 use Rattle.gate_script.proofs.session.Session.start.Goals as goal
 
