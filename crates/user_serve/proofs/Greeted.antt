@@ -1,9 +1,8 @@
 -- What a greeting read and wrote, in bytes alone.
-use Rattle.std.proofs.Common.{◌≡◌, ℕ, List, [], ◌++◌, take, drop, Option, refl, sym}
+use Rattle.std.proofs.Common.{◌≡◌, ℕ, List, ◌++◌, take, drop, Option, refl, sym}
 use Rattle.std.proofs.lemmas.List.{take-append-drop}
 use Rattle.gate_model.specs.Sequences.{BeginsWith}
 use Rattle.gate_outside.specs.Edge.{GainedFront, came, gained}
-use Rattle.gate_outside.proofs.Moved.{came-none, gained-none}
 use Rattle.guac_handshake.specs.Asks.{Wish, asks, selected}
 use Rattle.guac_handshake.specs.Doors.{MayRefuse, Sessions}
 use Rattle.guac_handshake.specs.Greetings.{Ends, IsGreeting}

@@ -1,6 +1,6 @@
 -- What an intake hears and writes, step by step.
-use Rattle.std.proofs.Common.{◌≡◌, ℕ, ◌+◌, ◌≤◌, ◌⊎◌, inl, inr, ⊎_elim, List, [], ◌∷◌, ◌++◌, length, Bool, true, false, Option, Some, None, refl, ap, sym, ◌∙◌, subst, take, drop, append_assoc, append-nil, arith}
-use Rattle.std.specs.Prelude.{Contains, Result, Ok, Err, ◌||◌, is_ok, if◌then◌else◌}
+use Rattle.std.proofs.Common.{◌≡◌, ℕ, ◌+◌, ◌⊎◌, inl, inr, ⊎_elim, List, [], ◌∷◌, ◌++◌, Bool, true, false, Option, Some, None, refl, ap, sym, ◌∙◌, subst, take, drop, append_assoc, append-nil, arith}
+use Rattle.std.specs.Prelude.{Result, Ok, Err, ◌||◌, is_ok, if◌then◌else◌}
 use Rattle.std.proofs.lemmas.List.{drop-drop, take-append-drop}
 use Rattle.gate_model.specs.declared.act.Act.{Act}
 use Rattle.gate_model.specs.declared.act.Act.TheVariants.{Key, Mouse, Sync, Size, Nop, Disconnect}
@@ -12,10 +12,9 @@ use Rattle.gate_model.specs.declared.event.Event.TheVariants.{Write as write, Le
 use Rattle.gate_model.specs.declared.no_viewer.NoViewer.{NoViewer}
 use Rattle.gate_model.specs.declared.write_refusal.WriteRefusal.{WriteRefusal}
 use Rattle.gate_model.specs.declared.write_refusal.WriteRefusal.TheVariants.{NoViewer as write_no_viewer, Closed as write_closed, Worn as write_worn}
-use Rattle.gate_model.specs.session.History.{History, is_full, joined}
+use Rattle.gate_model.specs.session.History.{History}
 use Rattle.gate_model.specs.session.Rights.{is_live}
 use Rattle.gate_model.specs.session.Steps.{Legal}
-use Rattle.gate_model.specs.Sequences.{IsLater}
 use Rattle.gate_model.specs.text.ClientMeaning.{act_of}
 use Rattle.gate_outside.specs.Edge.{AtEnd, came}
 use Rattle.gate_outside.proofs.Moved.{came-came, came-none}
@@ -29,7 +28,7 @@ use Rattle.turn_lock.specs.declared.view.View.{View}
 use Rattle.shared_desk.specs.Called.{Called}
 use Rattle.shared_desk.specs.Own.{own_entries}
 use Rattle.shared_desk.proofs.Lasting.{WriteCause, closes_seen, full_stays, later_contains, leave_gone, left_seen, some_seen, turn_later, turn_legal, write_refused}
-use Rattle.user_serve.specs.Intakes.{AreWrites, FoundBad, HasHeard, HasLeft, HasRead, HasTaken, HasWritten, HasWrittenAll, HearStop, Hears, IntakeCause, IntakeRun, IsRefused, IsWritten, Leaves, LeftNow, MayEnd, MayLeave, MayLose, ReadMore, ReadStop, RefusalCause, StopCause, TookUp, Whole, More, Broken, acts_in, acts_of, acts_written, ends_in, is_disconnect}
+use Rattle.user_serve.specs.Intakes.{HasHeard, HasLeft, HasRead, HasTaken, HasWritten, HasWrittenAll, HearStop, Hears, IntakeCause, IntakeRun, IsRefused, IsWritten, Leaves, LeftNow, MayEnd, MayLose, ReadStop, RefusalCause, StopCause, Whole, More, Broken, acts_in, acts_of, acts_written, ends_in, is_disconnect}
 use Rattle.user_serve.specs.declared.ends.IntakeEnd.{IntakeEnd}
 use Rattle.user_serve.specs.declared.ends.IntakeEnd.TheVariants.{Disconnected, ReadFault, Bad, Left, Closed, Worn, NoMemory}
 

@@ -1,5 +1,5 @@
 -- What an outlet shows, step by step.
-use Rattle.std.proofs.Common.{◌≡◌, ℕ, ◌⊎◌, inl, inr, List, [], ◌∷◌, ◌++◌, take, drop, Bool, true, false, Option, Some, None, refl, ap, sym, ◌∙◌, subst, append_assoc}
+use Rattle.std.proofs.Common.{◌≡◌, ℕ, ◌⊎◌, inl, inr, List, [], ◌∷◌, ◌++◌, true, false, refl, ap, sym, ◌∙◌, subst, append_assoc}
 use Rattle.std.specs.Prelude.{Result, Ok, Err}
 use Rattle.gate_model.specs.declared.entry.Entry.{Entry}
 use Rattle.gate_model.specs.declared.entry.Entry.TheVariants.{Start, Feed, Join, Read, Write, Take, Leave, Close}
@@ -14,15 +14,14 @@ use Rattle.gate_model.specs.session.Delivered.{delivered}
 use Rattle.gate_model.specs.session.History.{History}
 use Rattle.gate_model.specs.session.Steps.{Legal}
 use Rattle.gate_model.specs.text.Text.{text, texts}
-use Rattle.gate_model.specs.Sequences.{BeginsWith, IsLater}
+use Rattle.gate_model.specs.Sequences.{BeginsWith}
 use Rattle.desk_core.specs.Calls.{read_answer}
 use Rattle.turn_lock.proofs.Elements.{later_refl, later_trans}
 use Rattle.turn_lock.specs.declared.view.View.{View}
 use Rattle.shared_desk.specs.Called.{Gives}
 use Rattle.shared_desk.specs.Own.{own_entries}
 use Rattle.shared_desk.proofs.Lasting.{ReadCause, read_adds, turn_later, turn_legal}
-use Rattle.user_serve.specs.Intakes.{HasLeft}
-use Rattle.user_serve.specs.Outlets.{AreReads, HasShown, HasWritten, OutletCause, OutletRun, StepCause, StepRun, StepWrote, step_of}
+use Rattle.user_serve.specs.Outlets.{AreReads, HasShown, HasWritten, OutletRun, StepCause, StepRun, StepWrote, step_of}
 use Rattle.user_serve.specs.declared.ends.OutletEnd.{OutletEnd}
 use Rattle.user_serve.specs.declared.ends.OutletEnd.TheVariants.{Ended, Left, WriteFault, Worn, NoMemory}
 use Rattle.user_serve.specs.declared.showing.Step.{Step}

@@ -1,11 +1,13 @@
 -- What one viewer's connection read and wrote, by its end (this project's own).
 use Rattle.std.specs.Prelude.{◌≡◌, ◌⊎◌, ℕ, List, [], ◌++◌, Option}
+use Rattle.gate_outside.specs.Edge.{came, gained}
 use Rattle.guac_handshake.specs.declared.greeted.Greeted.{Greeted}
 use Rattle.guac_handshake.specs.declared.greeted.Greeted.TheVariants as greeted
 use Rattle.guac_handshake.specs.declared.request.Request.{Request}
 use Rattle.guac_handshake.specs.declared.welcome.Welcome.{Welcome}
 use Rattle.guac_handshake.specs.Doors.{Sessions}
-use Rattle.guac_handshake.specs.Greetings.{IsGreeting}
+use Rattle.guac_handshake.specs.Greetings.{HasOut, HasTouched, IsGreeting}
+use Rattle.id_table.specs.Maps.{Told}
 use Rattle.shared_desk.specs.declared.place.Place.{Place}
 use Rattle.shared_desk.specs.Hosts.{IsFresh}
 use Rattle.user_serve.specs.Greets.{GreetRun}
@@ -51,16 +53,56 @@ UserRun left ReadFault read written = Greets greeted.ReadFault read written
 UserRun left WriteFault read written = Greets greeted.WriteFault read written
 UserRun left NoMemory read written = ((read ≡ []) × (written ≡ [])) ⊎ Greets greeted.NoMemory read written
 
--- at every other end a greeting ended so, with all that its call says of it; or memory was wanting before it
-abbrev pub Greeting : (Greeted Place → Type 0) → UserEnd → Type 0
-Greeting is_greeting (Served visit) = Unit {0}
-Greeting is_greeting (Refused status) = is_greeting (greeted.Refused status)
-Greeting is_greeting Ended = is_greeting greeted.Ended
-Greeting is_greeting ReadFault = is_greeting greeted.ReadFault
-Greeting is_greeting WriteFault = is_greeting greeted.WriteFault
-Greeting is_greeting NoMemory = Unit {0}
+-- a fact of the visit
+abbrev pub IfServed : UserEnd → (Visit → Type 0) → Type 0
+IfServed (Served visit) F = F visit
+IfServed (Refused status) F = Unit {0}
+IfServed Ended F = Unit {0}
+IfServed ReadFault F = Unit {0}
+IfServed WriteFault F = Unit {0}
+IfServed NoMemory F = Unit {0}
 
--- .. by the words of the greeting's own contract
+-- ---- by the words of the greeting's own contract
+
+-- a greeting let the viewer in under the visit's ID, and what was read and written behind it is the visit's
+pub record HasLetIn (is_greeting : Option (List ℕ) → Option (List ℕ) → Greeted Place → Type 0) (left_new written_new : Option (List ℕ)) (visit : Visit) : Type 0 where
+  pub welcome : Welcome Place
+  pub id : visit.id ≡ welcome.id
+  pub left : Option (List ℕ)
+  pub behind : List ℕ
+  pub reads : left ≡ came behind left_new
+  pub written : Option (List ℕ)
+  pub shown : List ℕ
+  pub writes : written_new ≡ gained written shown
+  pub greets : is_greeting left written (greeted.Ready welcome)
+
+-- at every other end a greeting ended so; or memory was wanting before it, and nothing was done
+abbrev pub Greeting : (Option (List ℕ) → Option (List ℕ) → Greeted Place → Type 0) → Type 0 → Option (List ℕ) → Option (List ℕ) → UserEnd → Type 0
+Greeting is_greeting nothing left written (Served visit) = HasLetIn is_greeting left written visit
+Greeting is_greeting nothing left written (Refused status) = is_greeting left written (greeted.Refused status)
+Greeting is_greeting nothing left written Ended = is_greeting left written greeted.Ended
+Greeting is_greeting nothing left written ReadFault = is_greeting left written greeted.ReadFault
+Greeting is_greeting nothing left written WriteFault = is_greeting left written greeted.WriteFault
+Greeting is_greeting nothing left written NoMemory = nothing ⊎ is_greeting left written greeted.NoMemory
+
+-- .. so the door was asked by the greeting alone
 abbrev pub HasGreeted : (List ℕ → Option (List ℕ)) → Option Sessions → Option Sessions → Option (ℕ → List ℕ) → Option (List ℕ) → Option (List ℕ) → Option (List ℕ) → Option (List ℕ) → Option (List Request) → Option (List Request) → UserEnd → Type 0
 HasGreeted id_of sessions sessions_new draws left_old left_new written_old written_new asked_old asked_new end =
-    Greeting (λ g. (rest : List ℕ) × IsGreeting id_of sessions sessions_new draws left_old left_new written_old written_new asked_old asked_new rest g) end
+    Greeting (λ left written g. (rest : List ℕ) × IsGreeting id_of sessions sessions_new draws left_old left written_old written asked_old asked_new rest g)
+    ((left_new ≡ left_old) × (written_new ≡ written_old) × (asked_new ≡ asked_old)) left_new written_new end
+
+-- the greeting that stands behind an end
+abbrev pub IsEndOf : Greeted Place → UserEnd → Type 0
+IsEndOf g (Served visit) = (welcome : Welcome Place) × (g ≡ greeted.Ready welcome) × (visit.id ≡ welcome.id)
+IsEndOf g (Refused status) = g ≡ greeted.Refused status
+IsEndOf g Ended = g ≡ greeted.Ended
+IsEndOf g ReadFault = g ≡ greeted.ReadFault
+IsEndOf g WriteFault = g ≡ greeted.WriteFault
+IsEndOf g NoMemory = g ≡ greeted.NoMemory
+
+-- the door is as that greeting left it: its places that are out, and its sessions
+pub record LeavesDoor (id_of : List ℕ → Option (List ℕ)) (out_old out_new : Option ℕ) (sessions_old sessions_new : Option Sessions) (end : UserEnd) : Type 0 where
+  pub greeting : Greeted Place
+  pub is_end : IsEndOf greeting end
+  pub out : HasOut out_old out_new greeting
+  pub sessions : Told sessions_old sessions_new (HasTouched id_of greeting)

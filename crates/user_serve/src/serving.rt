@@ -9,7 +9,7 @@ ghost use Rattle.guac_handshake.specs.declared.refused.Refused.TheVariants.{Clos
 ghost use Rattle.shared_desk.specs.Hosts.{IsFresh};
 ghost use Rattle.user_serve.specs.Intakes.{IntakeRun};
 ghost use Rattle.user_serve.specs.Outlets.{OutletRun};
-ghost use Rattle.user_serve.specs.Users.{HasGreeted, UserRun, VisitRun};
+ghost use Rattle.user_serve.specs.Users.{HasGreeted, IfServed, LeavesDoor, UserRun, VisitRun};
 ghost use Rattle.user_serve.specs.declared.ends.UserEnd.TheVariants as ends;
 ghost use Rattle.user_serve.specs.declared.ends.IntakeEnd.TheVariants as intakes;
 ghost use Rattle.user_serve.specs.declared.ends.OutletEnd.TheVariants as outlets;
@@ -28,7 +28,8 @@ use std::thread::{Threads, join_mut};
 /// Greets a viewer, and then hears it and shows it what it is given, each in a thread of its own; where no thread
 /// can be made the viewer is heard first. The bells of the two are made before the greeting. What the door gave
 /// is in the visit, for the caller to give back. An end that isn't Served is the greeting's, with its cause; or
-/// memory was wanting before it, and nothing was read or written (this project's own).
+/// memory was wanting before it, and nothing was read or written. Behind the greeting the door isn't called (this
+/// project's own).
 pub fn serve_user<R, S, K, D, B>(
     rt: &R,
     alloc: Global,
@@ -45,6 +46,9 @@ where
     B: Bell + Send,
     ensures ran { (read : List ℕ) × (written : List ℕ) × (S.left source.old ≡ came read (S.left source.new)) × (K.written sink.new ≡ gained (K.written sink.old) written) × UserRun (S.left source.new) result read written }
     ensures greeting { HasGreeted D.id_of (D.sessions door.old) (D.sessions door.new) (D.draws door.old) (S.left source.old) (S.left source.new) (K.written sink.old) (K.written sink.new) (D.asked door.old) (D.asked door.new) result }
+    ensures door { LeavesDoor D.id_of (D.out door.old) (D.out door.new) (D.sessions door.old) (D.sessions door.new) result }
+    ensures intake_fault { IfServed result (λ visit. visit.intake ≡ intakes.ReadFault → Rose (S.faults source.old) (S.faults source.new)) }
+    ensures outlet_fault { IfServed result (λ visit. visit.outlet ≡ outlets.WriteFault → Rose (K.faults sink.old) (K.faults sink.new)) }
     ensures read_fault { result ≡ ends.ReadFault → Rose (S.faults source.old) (S.faults source.new) }
     ensures write_fault { result ≡ ends.WriteFault → Rose (K.faults sink.old) (K.faults sink.new) }
     ensures dial { result ≡ ends.Refused 519 → Rose (D.dial_faults door.old) (D.dial_faults door.new) }
@@ -101,6 +105,8 @@ where
     S: Source + Send,
     requires fresh { IsFresh welcome.place welcome.first }
     ensures ran { (read : List ℕ) × (written : List ℕ) × (S.left source.old ≡ came read (S.left source.new)) × (K.written sink.new ≡ gained (K.written sink.old) written) × VisitRun welcome result (rest.items ++ read) written (S.left source.new) }
+    ensures read_fault { result.intake ≡ intakes.ReadFault → Rose (S.faults source.old) (S.faults source.new) }
+    ensures write_fault { result.outlet ≡ outlets.WriteFault → Rose (K.faults sink.old) (K.faults sink.new) }
     ensures later_reads { S.faults source.old ≤ S.faults source.new }
     ensures later_writes { K.faults sink.old ≤ K.faults sink.new }
 {
@@ -161,6 +167,8 @@ where
     ensures writer_viewer { writer.new.viewer ≡ writer.old.viewer }
     ensures shown { (written : List ℕ) × (K.written sink.new ≡ gained (K.written sink.old) written) × OutletRun reader.old.viewer reader.old.view reader.new.view written result.0 }
     ensures heard { (read : List ℕ) × (S.left source.old ≡ came read (S.left source.new)) × IntakeRun writer.old.viewer writer.old.view writer.new.view (rest.old.items ++ read) rest.new.items (S.left source.new) result.1 }
+    ensures read_fault { result.1 ≡ intakes.ReadFault → Rose (S.faults source.old) (S.faults source.new) }
+    ensures write_fault { result.0 ≡ outlets.WriteFault → Rose (K.faults sink.old) (K.faults sink.new) }
     ensures later_reads { S.faults source.old ≤ S.faults source.new }
     ensures later_writes { K.faults sink.old ≤ K.faults sink.new }
 {

@@ -1,4 +1,4 @@
-use Rattle.std.proofs.Common.{◌≡◌, ◌≤◌, ℕ, List, drop, length}
+use Rattle.std.proofs.Common.{◌≡◌, ◌≤◌, drop, length}
 use Rattle.user_serve.proofs.Heard.{SoFar}
 use Rattle.user_serve.proofs.hearing.hear_all.Given as goal
 

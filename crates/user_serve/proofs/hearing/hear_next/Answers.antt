@@ -1,4 +1,3 @@
-use Rattle.std.proofs.Common.{◌≡◌, refl, sym, ◌∙◌}
 use Rattle.user_serve.proofs.Heard.{step_bad, step_more, step_whole}
 use Rattle.user_serve.proofs.hearing.hear_next.Goals as goal
 
