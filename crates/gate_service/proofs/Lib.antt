@@ -1,0 +1,2 @@
+-- A byte that was looked at.
+mod Looks

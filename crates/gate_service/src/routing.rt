@@ -1,0 +1,90 @@
+//! By its first byte a connection is a viewer's, or another.
+
+ghost use Rattle.std.specs.Prelude.{◌≡◌, ◌≤◌, ◌⊎◌, ◌++◌, ℕ, List};
+ghost use Rattle.gate_outside.specs.Edge.{Rose, came, gained};
+ghost use Rattle.guac_handshake.specs.Doors.{AreTaken, HasConflict, HasRefused};
+ghost use Rattle.guac_handshake.specs.declared.refused.Refused.TheVariants.{Closed, Forbidden, TooMany, Worn};
+ghost use Rattle.user_serve.specs.Users.{HasGreeted, IfServed, LeavesDoor};
+ghost use Rattle.user_serve.specs.declared.ends.IntakeEnd.TheVariants as intakes;
+ghost use Rattle.user_serve.specs.declared.ends.OutletEnd.TheVariants as outlets;
+ghost use Rattle.user_serve.specs.declared.ends.UserEnd.TheVariants as users;
+ghost use Rattle.gate_service.specs.Connections.{ConnRun, IfNoUser, IfUser};
+ghost use Rattle.gate_service.specs.Lookaheads.{left_of, source_of};
+ghost use Rattle.gate_service.specs.declared.routing.ConnEnd.TheVariants as ends;
+
+use crate::Lookahead;
+use gate_outside::{Bell, Failed, Sink, Source};
+use guac_handshake::Door;
+use shared_desk::Place;
+use std::alloc::Global;
+use std::sync::Wait;
+use std::thread::Threads;
+use user_serve::{UserEnd, serve_user};
+
+/// How a connection ended (this project's own).
+#[derive(Drop)]
+pub enum ConnEnd {
+    /// Its first byte is a digit, so it is a viewer's.
+    User(UserEnd),
+    /// Its first byte is another. Nothing is read or written.
+    Other,
+    /// Its bytes ended before the first.
+    Ended,
+    /// The read of its first byte failed.
+    ReadFault,
+    /// Want of memory, before anything is read. Looking at a byte takes none.
+    NoMemory,
+}
+
+/// Serves one connection. It looks at the first byte; where that is a digit, it serves a viewer by `serve_user`, over
+/// that byte and what comes behind it. The place of a visit is for the caller to give back to the door (this
+/// project's own).
+pub fn connection<R, S, K, D, B>(
+    rt: &R,
+    alloc: Global,
+    source: &mut Lookahead<S>,
+    sink: &mut K,
+    door: &mut D,
+    bell: &B,
+) -> ConnEnd
+where
+    R: Threads + Wait + Copy + Send + Sync + 'static,
+    S: Source + Send,
+    K: Sink + Send,
+    D: Door<Place = Place>,
+    B: Bell + Send,
+    ensures ran { (read : List ℕ) × (written : List ℕ) × (left_of S.left source.old ≡ came read (left_of S.left source.new)) × (K.written sink.new ≡ gained (K.written sink.old) written) × ConnRun (left_of S.left source.old) (left_of S.left source.new) result read written }
+    ensures read_fault { result ≡ ends.ReadFault → Rose (S.faults (source_of source.old)) (S.faults (source_of source.new)) }
+    ensures untouched { IfNoUser result ((sink.new ≡ sink.old) × (door.new ≡ door.old)) }
+
+    // What the contract of `serve_user` says of a viewer's end.
+    ensures greeting { IfUser result (HasGreeted D.id_of (D.sessions door.old) (D.sessions door.new) (D.draws door.old) (left_of S.left source.old) (left_of S.left source.new) (K.written sink.old) (K.written sink.new) (D.asked door.old) (D.asked door.new)) }
+    ensures door { IfUser result (LeavesDoor D.id_of (D.out door.old) (D.out door.new) (D.sessions door.old) (D.sessions door.new)) }
+    ensures intake_fault { IfUser result (λ end. IfServed end (λ visit. visit.intake ≡ intakes.ReadFault → Rose (S.faults (source_of source.old)) (S.faults (source_of source.new)))) }
+    ensures outlet_fault { IfUser result (λ end. IfServed end (λ visit. visit.outlet ≡ outlets.WriteFault → Rose (K.faults sink.old) (K.faults sink.new))) }
+    ensures greeting_read { result ≡ ends.User users.ReadFault → Rose (S.faults (source_of source.old)) (S.faults (source_of source.new)) }
+    ensures greeting_write { result ≡ ends.User users.WriteFault → Rose (K.faults sink.old) (K.faults sink.new) }
+    ensures dial { result ≡ ends.User (users.Refused 519) → Rose (D.dial_faults door.old) (D.dial_faults door.new) }
+    ensures busy { result ≡ ends.User (users.Refused 513) → Rose (D.start_faults door.old) (D.start_faults door.new) }
+    ensures conflict { result ≡ ends.User (users.Refused 517) → HasConflict (D.sessions door.old) }
+    ensures taken { result ≡ ends.User (users.Refused 517) → AreTaken (D.sessions door.old) (D.draws door.old) }
+    ensures closed { result ≡ ends.User (users.Refused 523) → HasRefused (D.sessions door.new) Closed ⊎ HasRefused (D.sessions door.new) Worn }
+    ensures forbidden { result ≡ ends.User (users.Refused 771) → HasRefused (D.sessions door.new) Forbidden }
+    ensures too_many { result ≡ ends.User (users.Refused 797) → HasRefused (D.sessions door.new) TooMany }
+
+    ensures later_dials { D.dial_faults door.old ≤ D.dial_faults door.new }
+    ensures later_starts { D.start_faults door.old ≤ D.start_faults door.new }
+    ensures later_reads { S.faults (source_of source.old) ≤ S.faults (source_of source.new) }
+    ensures later_writes { K.faults sink.old ≤ K.faults sink.new }
+{
+    let byte = match source.peek() {
+        Ok(Some(byte)) => byte,
+        Ok(None) => return ConnEnd::Ended,
+        Err(Failed) => return ConnEnd::ReadFault,
+    };
+    if byte.is_ascii_digit() {
+        ConnEnd::User(serve_user(rt, alloc, source, sink, door, bell))
+    } else {
+        ConnEnd::Other
+    }
+}
