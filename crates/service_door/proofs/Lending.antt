@@ -1,0 +1,150 @@
+-- What a table is after a session was lent and put back.
+use Rattle.std.proofs.Common.{◌≡◌, ℕ, List, Bool, true, false, Option, Some, None, refl, ap, sym, ◌∙◌, subst}
+use Rattle.std.specs.Prelude.{IfSome, is_some, Result}
+use Rattle.gate_model.specs.session.History.{History}
+use Rattle.gate_model.specs.declared.sharing.Asked.{Asked}
+use Rattle.id_table.specs.Maps.{Changed, IsLent, Same, Told, had, lent_as}
+use Rattle.guac_handshake.specs.Doors.{IsAbsent, KeepsIds, MeetsHistory, MeetsTold, SameId, at_name}
+use Rattle.guac_handshake.specs.declared.refused.Refused.{Refused}
+use Rattle.service_door.specs.Sessions.{NoneLent, SessionState, histories, history_of, sessions_of}
+use Rattle.service_door.specs.Doors.{Both, OthersStay, Table}
+use Rattle.service_door.proofs.Tables.{after_call, after_so, by_id, changed_unlent, none_some, same_some, sessions_so, told_same, told_so, told_then}
+use Rattle.service_door.proofs.Adding.{some_lent}
+
+-- a session is lent, or none is there
+abbrev pub Lends : List ℕ → Option SessionState → Table → Table → Type 0
+Lends id r m n = (m id ≡ had r) × Changed id (lent_as r) m n
+
+-- the session under the ID was changed, and nothing else
+abbrev pub Swaps : List ℕ → SessionState → SessionState → Table → Table → Type 0
+Swaps id s t m n = (m id ≡ Some (Some s)) × Changed id (Some (Some t)) m n
+
+-- none was there, and nothing changed
+abbrev pub Misses : List ℕ → Table → Table → Type 0
+Misses id m n = (m id ≡ None) × Same m n
+
+pub lent : (r s : Option Table) (id : List ℕ) (v : SessionState) → Told r s (Lends id (Some v)) → IfSome s (IsLent id)
+lent None None id v t = tt
+lent None (Some n) id v t = absurd t
+lent (Some m) None id v t = absurd t
+lent (Some m) (Some n) id v t = t.1.0
+
+pub swaps : (r s t : Option Table) (id : List ℕ) (v w : SessionState) → Told r s (Lends id (Some v)) → Told s t (Changed id (Some (Some w))) → Told r t (Swaps id v w)
+swaps r s t id v w lend back = told_then r s t (Lends id (Some v)) (Changed id (Some (Some w))) (Swaps id v w) (λ k m n p q. (p.0, (q.0, λ x ne. q.1 x ne ∙ p.1.1 x ne))) lend back
+
+pub misses : (r s : Option Table) (id : List ℕ) → Told r s (Lends id None) → Told r s (Misses id)
+misses r s id t = told_so r s (Lends id None) (Misses id) (λ m n p. (p.0, λ k. by_id k id (n k ≡ m k) (λ e. ap n e ∙ (p.1.0 ∙ (sym p.0 ∙ ap m (sym e)))) (λ ne. p.1.1 k ne))) t
+
+pub swap_unlent : (r t : Option Table) (id : List ℕ) (v w : SessionState) → NoneLent r → Told r t (Swaps id v w) → NoneLent t
+swap_unlent r t id v w h s = after_call r t (Swaps id v w) (λ m n free p. changed_unlent id (Some (Some w)) m n free (some_lent w) p.1) h s
+
+pub miss_unlent : (r t : Option Table) (id : List ℕ) → NoneLent r → Told r t (Misses id) → NoneLent t
+miss_unlent r t id h s = after_call r t (Misses id) (λ m n free p k lent. free k (sym (p.1 k) ∙ lent)) h s
+
+-- ---- the IDs
+
+same_id : {V : Type 0} (o p : Option V) → is_some o ≡ is_some p → SameId o p
+same_id None None e = tt
+same_id None (Some w) e = absurd (let w : false ≡ true = e in cc)
+same_id (Some v) None e = absurd (let w : true ≡ false = e in cc)
+same_id (Some v) (Some w) e = tt
+
+keeps_swap : (name : Option (List ℕ)) (id : List ℕ) (v w : SessionState) → name ≡ Some id → (m n : Table) → Swaps id v w m n → KeepsIds name (histories m) (histories n)
+keeps_swap name id v w is m n p = λ k. (
+  by_id k id (SameId (histories m k) (histories n k))
+      (λ e. same_id (histories m k) (histories n k) (ap (λ (x : List ℕ). is_some (histories m x)) e ∙ (ap (λ (o : Option (Option SessionState)). is_some (history_of o)) p.0 ∙ (sym (ap (λ (o : Option (Option SessionState)). is_some (history_of o)) p.1.0) ∙ ap (λ (x : List ℕ). is_some (histories n x)) (sym e)))))
+      (λ ne. same_id (histories m k) (histories n k) (ap (λ (o : Option (Option SessionState)). is_some (history_of o)) (sym (p.1.1 k ne)))),
+  λ ne. ap history_of (p.1.1 k (λ e. ne (is ∙ ap (λ (x : List ℕ). Some x) (sym e)))),
+)
+
+keeps_same : (name : Option (List ℕ)) (m n : Table) → Same m n → KeepsIds name (histories m) (histories n)
+keeps_same name m n p = λ k. (same_id (histories m k) (histories n k) (ap (λ (o : Option (Option SessionState)). is_some (history_of o)) (sym (p k))), λ ne. ap history_of (p k))
+
+pub swap_keeps : (r t : Option Table) (name : Option (List ℕ)) (id : List ℕ) (v w : SessionState) → name ≡ Some id → Told r t (Swaps id v w) → Told (sessions_of r) (sessions_of t) (KeepsIds name)
+swap_keeps r t name id v w is s = sessions_so r t (Swaps id v w) (KeepsIds name) (λ m n p. keeps_swap name id v w is m n p) s
+
+pub miss_keeps : (r t : Option Table) (name : Option (List ℕ)) (id : List ℕ) → Told r t (Misses id) → Told (sessions_of r) (sessions_of t) (KeepsIds name)
+miss_keeps r t name id s = sessions_so r t (Misses id) (KeepsIds name) (λ m n p. keeps_same name m n p.1) s
+
+pub none_keeps : (r : Option Table) (name : Option (List ℕ)) → Told (sessions_of r) (sessions_of r) (KeepsIds name)
+none_keeps None name = tt
+none_keeps (Some m) name = keeps_same name m m (λ k. refl)
+
+-- ---- whether the session is there
+
+there_at : (name : Option (List ℕ)) (id : List ℕ) (m : Table) (o : Option (Option SessionState)) → name ≡ Some id → m id ≡ o → is_some (at_name name (histories m)) ≡ is_some (history_of o)
+there_at name id m o is e = ap (λ (x : Option (List ℕ)). is_some (at_name x (histories m))) is ∙ ap (λ (p : Option (Option SessionState)). is_some (history_of p)) e
+
+pub swap_there : {A : Type 0} (r t : Option Table) (name : Option (List ℕ)) (id : List ℕ) (v w : SessionState) (answer : Result A Refused) → name ≡ Some id → Told r t (Swaps id v w) → IsAbsent answer true
+    → Told (sessions_of r) (sessions_of t) (λ m n. IsAbsent answer (is_some (at_name name m)))
+swap_there r t name id v w answer is s a =
+    sessions_so r t (Swaps id v w) (λ m n. IsAbsent answer (is_some (at_name name m))) (λ m n p. subst (λ (b : Bool). IsAbsent answer b) (sym (there_at name id m (Some (Some v)) is p.0)) a) s
+
+pub miss_there : {A : Type 0} (r t : Option Table) (name : Option (List ℕ)) (id : List ℕ) (answer : Result A Refused) → name ≡ Some id → Told r t (Misses id) → IsAbsent answer false
+    → Told (sessions_of r) (sessions_of t) (λ m n. IsAbsent answer (is_some (at_name name m)))
+miss_there r t name id answer is s a =
+    sessions_so r t (Misses id) (λ m n. IsAbsent answer (is_some (at_name name m))) (λ m n p. subst (λ (b : Bool). IsAbsent answer b) (sym (there_at name id m None is p.0)) a) s
+
+pub unnamed_there : {A : Type 0} (r : Option Table) (name : Option (List ℕ)) (answer : Result A Refused) → name ≡ None → IsAbsent answer false → Told (sessions_of r) (sessions_of r) (λ m n. IsAbsent answer (is_some (at_name name m)))
+unnamed_there None name answer is a = tt
+unnamed_there (Some m) name answer is a = subst (λ (x : Option (List ℕ)). IsAbsent answer (is_some (at_name x (histories m)))) (sym is) a
+
+-- ---- its history
+
+pub swap_history : {A : Type 0} (r t : Option Table) (name : Option (List ℕ)) (id : List ℕ) (v w : SessionState) (role : Asked) (answer : Result A Refused) → name ≡ Some id → Told r t (Swaps id v w) → MeetsTold w.host.view.seen role answer
+    → IfSome (sessions_of t) (λ n. MeetsHistory (at_name name n) role answer)
+swap_history r t name id v w role answer is s meets =
+    after_so r t (Swaps id v w) (λ n. MeetsHistory (at_name name n) role answer)
+    (λ m n p. subst (λ (o : Option (Option History)). MeetsHistory o role answer) (sym (ap (λ (x : Option (List ℕ)). at_name x (histories n)) is ∙ ap history_of p.1.0)) meets) s
+
+pub miss_history : {A : Type 0} (r t : Option Table) (name : Option (List ℕ)) (id : List ℕ) (role : Asked) (answer : Result A Refused) → name ≡ Some id → Told r t (Misses id) → IfSome (sessions_of t) (λ n. MeetsHistory (at_name name n) role answer)
+miss_history r t name id role answer is s =
+    after_so r t (Misses id) (λ n. MeetsHistory (at_name name n) role answer)
+    (λ m n p. subst (λ (o : Option (Option History)). MeetsHistory o role answer) (sym (ap (λ (x : Option (List ℕ)). at_name x (histories n)) is ∙ ap history_of (p.1 id ∙ p.0))) tt) s
+
+-- what isn't refused by the rules says nothing of a history
+meets_free : {A : Type 0} (o : Option (Option History)) (role : Asked) (answer : Result A Refused) → ((h : History) → MeetsTold h role answer) → MeetsHistory o role answer
+meets_free None role answer f = tt
+meets_free (Some None) role answer f = tt
+meets_free (Some (Some h)) role answer f = f h
+
+pub free_history : {A : Type 0} (r : Option Table) (name : Option (List ℕ)) (role : Asked) (answer : Result A Refused) → ((h : History) → MeetsTold h role answer) → IfSome (sessions_of r) (λ n. MeetsHistory (at_name name n) role answer)
+free_history None name role answer f = tt
+free_history (Some m) name role answer f = meets_free (at_name name (histories m)) role answer f
+
+-- ---- what the calls of this door alone tell
+
+pub swap_both : (r t : Option Table) (name : Option (List ℕ)) (id : List ℕ) (v w : SessionState) (P : SessionState → SessionState → Type 0) → name ≡ Some id → Told r t (Swaps id v w) → P v w
+    → Told r t (λ m n. ((x : List ℕ) → name ≡ Some x → Both P (m x) (n x)) × OthersStay name m n)
+swap_both r t name id v w P is s holds = told_so r t (Swaps id v w) (λ m n. ((x : List ℕ) → name ≡ Some x → Both P (m x) (n x)) × OthersStay name m n) (λ m n p. (
+  (λ x e. let same : id ≡ x = same_some id x (sym is ∙ e) in subst (λ (o : Option (Option SessionState)). Both P o (n x)) (sym (ap m (sym same) ∙ p.0)) (w, ap n (sym same) ∙ p.1.0, holds)),
+  λ k ne. p.1.1 k (λ e. ne (is ∙ ap (λ (x : List ℕ). Some x) (sym e))),
+)) s
+
+pub miss_both : (r t : Option Table) (name : Option (List ℕ)) (id : List ℕ) (P : SessionState → SessionState → Type 0) → name ≡ Some id → Told r t (Misses id) → Told r t (λ m n. ((x : List ℕ) → name ≡ Some x → Both P (m x) (n x)) × OthersStay name m n)
+miss_both r t name id P is s = told_so r t (Misses id) (λ m n. ((x : List ℕ) → name ≡ Some x → Both P (m x) (n x)) × OthersStay name m n) (λ m n p. (
+  (λ x e. let same : id ≡ x = same_some id x (sym is ∙ e) in subst (λ (o : Option (Option SessionState)). Both P o (n x)) (sym (ap m (sym same) ∙ p.0)) (p.1 x ∙ (ap m (sym same) ∙ p.0))),
+  λ k ne. p.1 k,
+)) s
+
+pub unnamed_both : (r : Option Table) (name : Option (List ℕ)) (P : SessionState → SessionState → Type 0) → name ≡ None → Told r r (λ m n. ((x : List ℕ) → name ≡ Some x → Both P (m x) (n x)) × OthersStay name m n)
+unnamed_both r name P is = told_same r (λ m n. ((x : List ℕ) → name ≡ Some x → Both P (m x) (n x)) × OthersStay name m n) (λ m. ((λ x e. absurd (none_some x (sym is ∙ e))), λ k ne. refl))
+
+-- ---- a look
+
+history_there : (o : Option (Option SessionState)) → is_some o ≡ is_some (history_of o)
+history_there None = refl
+history_there (Some None) = refl
+history_there (Some (Some s)) = refl
+
+abbrev pub Looks : List ℕ → Bool → Table → Table → Type 0
+Looks id b m n = (b ≡ is_some (m id)) × Same m n
+
+pub look_unlent : (r t : Option Table) (id : List ℕ) (b : Bool) → NoneLent r → Told r t (Looks id b) → NoneLent t
+look_unlent r t id b h s = after_call r t (Looks id b) (λ m n free p k lent. free k (sym (p.1 k) ∙ lent)) h s
+
+pub looked : (r t : Option Table) (name : Option (List ℕ)) (id : List ℕ) (b : Bool) → Some id ≡ name → Told r t (Looks id b) → Told (sessions_of r) (sessions_of t) (λ m n. (b ≡ is_some (at_name name m)) × Same m n)
+looked r t name id b is s = sessions_so r t (Looks id b) (λ m n. (b ≡ is_some (at_name name m)) × Same m n) (λ m n p. (
+  p.0 ∙ (history_there (m id) ∙ ap (λ (x : Option (List ℕ)). is_some (at_name x (histories m))) is),
+  λ k. ap history_of (p.1 k),
+)) s

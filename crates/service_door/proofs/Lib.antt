@@ -1,0 +1,7 @@
+-- In reading order: a table before and after a call, a session that is added, one that is lent, how a session
+-- begins, how a viewer joins.
+mod Tables
+mod Adding
+mod Lending
+mod Owned
+mod Joined

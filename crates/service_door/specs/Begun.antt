@@ -1,0 +1,73 @@
+-- What a session begins with, and a viewer's place in it (this project's own).
+use Rattle.std.specs.Prelude.{◌≡◌, ℕ, List, [], ◌∷◌, Option, Some, None, false, Ok}
+use Rattle.gate_model.specs.session.History.{History, share_mode}
+use Rattle.gate_model.specs.session.Roles.{grant_of}
+use Rattle.gate_model.specs.declared.entry.Entry.TheVariants.{Join, Start}
+use Rattle.gate_model.specs.declared.instr.Instr.{Instr}
+use Rattle.gate_model.specs.declared.setup.Setup.{Setup}
+use Rattle.gate_model.specs.declared.sharing.Asked.{Asked}
+use Rattle.gate_model.specs.declared.sharing.Role.TheVariants.{Control}
+use Rattle.guac_handshake.specs.Names.{id_of_name}
+use Rattle.guac_handshake.specs.declared.ask.Ask.{Ask}
+use Rattle.guac_handshake.specs.declared.welcome.Welcome.{Welcome}
+use Rattle.id_table.specs.Maps.{Shelved}
+use Rattle.shared_desk.specs.Hosts.{HostState, IsFresh}
+use Rattle.shared_desk.specs.declared.place.Place.{Place}
+use Rattle.service_door.specs.Sessions.{SessionState}
+
+-- the session is opened as it was asked
+pub record HasSetup (ask : Ask) (setup : Setup) : Type 0 where
+  pub cols : setup.cols ≡ ask.cols
+  pub rows : setup.rows ≡ ask.rows
+  pub mode : setup.mode ≡ ask.mode
+  pub term : setup.term ≡ ask.term
+
+-- the place is that of this viewer of the host's session
+pub record IsSeated (viewer : ℕ) (place : Place) (host : HostState) : Type 0 where
+  pub sessions : (place.reader.session ≡ host.session) × (place.writer.session ≡ host.session)
+  pub viewers : (place.reader.viewer ≡ viewer) × (place.writer.viewer ≡ viewer)
+
+-- the host has seen just a Start as it was asked, and the Join of viewer 1, who may type; the place is its
+pub record HasStarted (ask : Ask) (place : Place) (host : HostState) : Type 0 where
+  pub entries : ℕ
+  pub stamp : ℕ
+  pub frame : List Instr
+  pub first : List Instr
+  pub seen : host.view.seen ≡ Join 1 Control first ∷ Start ask.cols ask.rows ask.mode ask.term entries stamp frame ∷ []
+  pub role : place.role ≡ Control
+  pub seat : IsSeated 1 place host
+
+-- a session that its owner has joined, whose link nobody has
+pub record HasOpened (ask : Ask) (host : HostState) (place : Place) (given : List ℕ) : Type 0 where
+  pub started : HasStarted ask place host
+  pub linked : host.linked ≡ false
+  pub fresh : IsFresh place given
+
+-- the session is the host's, with one place out
+pub record HasPrepared (host : HostState) (s : SessionState) : Type 0 where
+  pub session : s.host.session ≡ host.session
+  pub seen : s.host.view.seen ≡ host.view.seen
+  pub places : s.places ≡ 1
+
+-- a session of this name is in the table, so begun; one place of it is out
+pub record IsBegunAt (m : Shelved SessionState) (ask : Ask) (welcome : Welcome Place) : Type 0 where
+  pub id : List ℕ
+  pub named : id_of_name welcome.id ≡ Some id
+  pub session : SessionState
+  pub there : m id ≡ Some (Some session)
+  pub started : HasStarted ask welcome.place session.host
+  pub places : session.places ≡ 1
+
+abbrev pub IsBegun : Option (Shelved SessionState) → Ask → Welcome Place → Type 0
+IsBegun None ask welcome = Unit {0}
+IsBegun (Some m) ask welcome = IsBegunAt m ask welcome
+
+-- the host has seen last the Join of the viewer whose place this is, with the role that the table of roles gives for what
+-- was asked
+pub record HasJoinedLast (asked : Asked) (place : Place) (host : HostState) : Type 0 where
+  pub viewer : ℕ
+  pub first : List Instr
+  pub before : History
+  pub seen : host.view.seen ≡ Join viewer place.role first ∷ before
+  pub role : grant_of (share_mode before) asked ≡ Ok place.role
+  pub seat : IsSeated viewer place host

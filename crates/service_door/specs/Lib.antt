@@ -1,0 +1,4 @@
+-- In reading order: a session in the table, what it begins with, what its door's calls leave of the table.
+pub mod Sessions
+pub mod Begun
+pub mod Doors

@@ -1,0 +1,222 @@
+//! The service's door.
+
+ghost use Rattle.service_door.specs.Sessions.{NoneLent};
+
+use crate::jobs::{PumpJob, SenderJob};
+use crate::opening::{Opened, Prepared, open_session, prepare};
+use crate::refusals::refused_of;
+use crate::session::Session;
+use gate_model::{Asked, Bytes, Cause, Text};
+use gate_outside::{Bell, Counted, DialFault, Helper, Way};
+use guac_handshake::{Ask, Begun, Door, NAME_BYTES, Refused, Welcome, id_named, name_in, name_of};
+use id_table::{AddRefusal, Shelf};
+use shared_desk::Place;
+use std::alloc::Global;
+use std::sync::Wait;
+
+/// The door of the service, over a table of sessions (this project's own). A new session is dialed, made, joined
+/// by its owner, shared and added to the table, in this order, and then its jobs are started. It tells its IDs and
+/// histories where its shelf tells what is there; a session's history is what its host's pass has seen.
+#[derive(Drop)]
+pub struct ServiceDoor<'a, T: Shelf<Session>, H, B> {
+    sessions: &'a mut T,
+    helper: &'a mut H,
+    bell: &'a B,
+    ghost unlent: { NoneLent (T.told sessions.now) },
+}
+
+impl<'a, T: Shelf<Session>, H: Helper, B: Bell> ServiceDoor<'a, T, H, B> {
+    /// A door over these sessions, of which none is lent. It dials, starts jobs, draws IDs and tells moments by
+    /// the helper. The jobs of a session have a bell each that rings with this one.
+    pub fn new(sessions: &'a mut T, helper: &'a mut H, bell: &'a B) -> ServiceDoor<'a, T, H, B>
+        requires { NoneLent (T.told sessions.now) }
+    {
+        ServiceDoor {
+            sessions,
+            helper,
+            bell,
+        }
+    }
+}
+
+impl<'a, T: Shelf<Session>, H: Helper, B: Bell + Send + 'static> Counted
+    for ServiceDoor<'a, T, H, B> {
+    ghost dial_faults = { λ d. H.dial_faults d.helper.now };
+
+    ghost start_faults = { λ d. H.start_faults d.helper.now };
+
+    ghost draws = { λ d. H.draws d.helper.now };
+}
+
+impl<'a, T: Shelf<Session>, H: Helper, B: Bell + Send + 'static> Door for ServiceDoor<'a, T, H, B> {
+    ghost use Rattle.std.specs.Prelude.{◌≡◌, None, IfErr, IfOk, IfSome, is_some};
+    ghost use Rattle.guac_handshake.specs.Doors.{IsAbsent, IsJoinRefusal, KeepsIds, MeetsHistory, at_name, logged, one_more_out, option_less};
+    ghost use Rattle.guac_handshake.specs.declared.request.Request.TheVariants.{Join as join_request};
+    ghost use Rattle.guac_handshake.specs.Names.{id_of_name};
+    ghost use Rattle.id_table.specs.Maps.{Told};
+    ghost use Rattle.shared_desk.specs.Hosts.{IsFresh};
+    ghost use Rattle.service_door.specs.Begun.{IsBegun};
+    ghost use Rattle.service_door.specs.Doors.{GiveChanges, JoinChanges};
+    ghost use Rattle.service_door.specs.Sessions.{sessions_of};
+
+    type Place = Place;
+
+    type Pump = PumpJob<H::Input, H, B>;
+
+    type Sending = SenderJob<H::Output, B>;
+
+    ghost id_of = { λ name. id_of_name name };
+
+    ghost sessions = { λ d. sessions_of (T.told d.sessions.now) };
+
+    ghost out = { λ _. None };
+
+    ghost asked = { λ _. None };
+
+    ghost begun = { λ d ask welcome. IsBegun (T.told d.sessions.now) ask welcome };
+
+    fn known<R: Wait>(&mut self, rt: &R, name: &str) -> bool {
+        match id_named(name) {
+            Some(id) => self.sessions.has(rt, &id),
+            None => false,
+        }
+    }
+
+    fn open<R: Wait>(
+        &mut self,
+        rt: &R,
+        alloc: Global,
+        ask: &Ask,
+    ) -> Result<Begun<Place, PumpJob<H::Input, H, B>, SenderJob<H::Output, B>>, Refused> {
+        let link = match self.helper.dial(alloc, ask.host.as_str(), ask.port) {
+            Ok(link) => link,
+            Err(DialFault::Failed) => return Err(Refused::Dial),
+            Err(DialFault::NoMemory) => return Err(Refused::NoMemory),
+        };
+        let now = self.helper.now();
+        let Ok(Opened { host, place, first }) = open_session(alloc, now, ask) else {
+            return Err(Refused::NoMemory);
+        };
+        let Ok(clock) = self.helper.another(alloc) else {
+            return Err(Refused::NoMemory);
+        };
+        let Ok(
+            Prepared {
+                session,
+                pump,
+                sender,
+            },
+        ) = prepare(alloc, clock, self.bell, host, link)
+        else {
+            return Err(Refused::NoMemory);
+        };
+        let Ok(room) = String::with_capacity(alloc, NAME_BYTES) else {
+            return Err(Refused::NoMemory);
+        };
+        let key = match self.sessions.add(rt, self.helper, session) {
+            Ok(key) => key,
+            Err(AddRefusal::Conflict(..)) => return Err(Refused::Conflict),
+            Err(AddRefusal::NoMemory(_)) => return Err(Refused::NoMemory),
+        };
+        let Ok(id) = name_in(room, key) else {
+            self.sessions.remove(rt, &key);
+            return Err(Refused::NoMemory);
+        };
+        Ok(Begun {
+            welcome: Welcome { id, place, first },
+            pump,
+            sender,
+        })
+    }
+
+    fn way(&mut self) -> Way {
+        self.helper.way()
+    }
+
+    fn note(&mut self) {
+        self.helper.note();
+    }
+
+    fn undo<R: Wait>(&mut self, rt: &R, id: &Text) {
+        let Some(key) = id_named(id.as_str()) else {
+            return;
+        };
+        if let Some(mut session) = self.sessions.remove(rt, &key) {
+            let _ = session.close(rt, Cause::Stopped);
+            self.bell.ring();
+        }
+    }
+
+    fn join<R: Wait>(
+        &mut self,
+        rt: &R,
+        alloc: Global,
+        name: &str,
+        role: Asked,
+    ) -> Result<Welcome<Place>, Refused>
+        ensures kind { IfErr result IsJoinRefusal }
+        ensures dials { H.dial_faults self.new.helper.now ≡ H.dial_faults self.old.helper.now }
+        ensures starts { H.start_faults self.new.helper.now ≡ H.start_faults self.old.helper.now }
+        ensures fresh { IfOk result (λ welcome. IsFresh welcome.place welcome.first) }
+        ensures absent { Told (sessions_of (T.told self.old.sessions.now)) (sessions_of (T.told self.new.sessions.now)) (λ m n. IsAbsent result (is_some (at_name (id_of_name name.now) m))) }
+        ensures same_id { IfOk result (λ welcome. id_of_name welcome.id ≡ id_of_name name.now) }
+        ensures ids { Told (sessions_of (T.told self.old.sessions.now)) (sessions_of (T.told self.new.sessions.now)) (KeepsIds (id_of_name name.now)) }
+        ensures history { IfSome (sessions_of (T.told self.new.sessions.now)) (λ n. MeetsHistory (at_name (id_of_name name.now) n) role result) }
+        ensures out { None ≡ one_more_out result None }
+        ensures asked { None ≡ logged None (join_request name.now role) result }
+
+        // Of this door alone.
+        ensures joined { Told (T.told self.old.sessions.now) (T.told self.new.sessions.now) (JoinChanges (id_of_name name.now) role result) }
+    {
+        let Some(key) = id_named(name) else {
+            return Err(Refused::Absent);
+        };
+        let Ok(id) = name_of(alloc, key) else {
+            return Err(Refused::NoMemory);
+        };
+        let Some(mut session) = self.sessions.lend(rt, &key) else {
+            return Err(Refused::Absent);
+        };
+        let mut first = Vec::new(alloc);
+        let joined = session.join(rt, role, &mut first);
+        self.sessions.back(rt, &key, session);
+        match joined {
+            Ok(place) => Ok(Welcome {
+                id,
+                place,
+                first: Bytes::of(first),
+            }),
+            Err(refusal) => Err(refused_of(refusal)),
+        }
+    }
+
+    fn give<R: Wait>(&mut self, rt: &R, id: &str, place: Place)
+        ensures dials { H.dial_faults self.new.helper.now ≡ H.dial_faults self.old.helper.now }
+        ensures starts { H.start_faults self.new.helper.now ≡ H.start_faults self.old.helper.now }
+        ensures ids { Told (sessions_of (T.told self.old.sessions.now)) (sessions_of (T.told self.new.sessions.now)) (KeepsIds (id_of_name id.now)) }
+        ensures out { None ≡ option_less None }
+
+        // Of this door alone.
+        ensures given { Told (T.told self.old.sessions.now) (T.told self.new.sessions.now) (GiveChanges (id_of_name id.now)) }
+    {
+        leave(rt, place);
+        let Some(key) = id_named(id) else {
+            return;
+        };
+        if let Some(mut session) = self.sessions.lend(rt, &key) {
+            session.count_back();
+            self.sessions.back(rt, &key, session);
+        }
+    }
+}
+
+// The viewer of the place leaves, where it is there, and its passes go.
+fn leave<R: Wait>(rt: &R, place: Place) {
+    let Place {
+        mut reader,
+        writer,
+        role: _,
+    } = place;
+    let _ = reader.leave(rt);
+    drop(writer);
+}

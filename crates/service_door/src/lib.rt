@@ -1,0 +1,18 @@
+//! The sessions of the service and its door: who begins a session or joins one gets a place in it, and gives
+//! it back.
+//!
+//! A session stands in a table under its ID, in a shelf that may be shared by threads. Its door keeps the
+//! contract of a `Door` of `guac_handshake`, and says besides what a session begins with (`IsBegun` of
+//! `specs/Begun.antt`) and what each call leaves of the table.
+#![tactic(auto)]
+
+mod door;
+mod jobs;
+mod marks;
+mod opening;
+mod refusals;
+mod session;
+
+pub use door::ServiceDoor;
+pub use jobs::{PumpJob, SenderJob};
+pub use session::{Session, sweep};
