@@ -1,0 +1,55 @@
+-- What a parse of the words says of the options that they give.
+use Rattle.std.proofs.Common.{◌∙◌, ◌≡◌, ◌≢◌, List, [], ◌∷◌, Option, None, ap, codes, inl, inr, refl, subst, sym, true}
+use Rattle.std.specs.Prelude.{Ok, Err, option_and_then}
+use Rattle.clap.specs.Words.{App, FailsBy, HasKind, HasMatchesOf, IsAmong, Kinds, Text, fault_of, first_of, first_value, found_of, is_simple, is_simple_and_free, kind_of, matches_of, rows_of}
+use Rattle.clap.specs.declared.error.Error.{Error}
+use Rattle.clap.specs.declared.error.kind.ErrorKind.{ErrorKind}
+use Rattle.clap.specs.declared.error.kind.ErrorKind.TheVariants.{OutOfMemory}
+use Rattle.clap.specs.declared.parser.matches.ArgMatches.{ArgMatches}
+use Rattle.clap.proofs.OnLiterals.{clap_on_literals}
+use Rattle.clap.proofs.WalkLemmas.{first_value-rows}
+use Rattle.serve_words.specs.Given.{all_three, options_given, serve_command, text_given, unless_refused}
+use Rattle.serve_words.specs.Values.{level_of, port_of, seed_of}
+use Rattle.serve_words.specs.declared.options.Options.{Options}
+
+-- the command is one whose matches and faults `clap` states
+is_plain : is_simple serve_command ≡ true
+unfolding clap_on_literals
+is_plain = refl
+
+is_free : is_simple_and_free serve_command ≡ true
+unfolding clap_on_literals
+is_free = refl
+
+-- a kind among some is one at least
+among : (kind : ErrorKind) (kinds : Kinds) (options : Option Options) → IsAmong kind kinds → unless_refused kinds options ≡ None
+among kind [] options h = absurd h
+among kind (k ∷ ks) options h = refl
+
+has_kind : (e : Error) (kinds : Kinds) (options : Option Options) → HasKind kinds e → kind_of e ≢ OutOfMemory → unless_refused kinds options ≡ None
+has_kind e kinds options (inl memory) other = absurd (other memory)
+has_kind e kinds options (inr h) other = among (kind_of e) kinds options h
+
+-- a refusal that isn't want of memory
+pub refused : (a : App) (words : List Text) (e : Error) → a ≡ serve_command → (is_simple_and_free a ≡ true → FailsBy {T = ArgMatches} (fault_of a words) (Err e)) → kind_of e ≢ OutOfMemory → options_given words ≡ None
+refused a words e same kinds other =
+    has_kind e (fault_of serve_command words) _ (subst (λ (b : App). HasKind (fault_of b words) e) same (kinds (ap is_simple_and_free same ∙ is_free))) other
+
+-- the text of an option in what the parse found
+pub found_text : (words : List Text) (m : ArgMatches) (name : Text) → rows_of (found_of m) ≡ matches_of serve_command words → text_given name words ≡ first_value (found_of m) name
+found_text words m name rows = ap (first_of name) (sym rows) ∙ sym (first_value-rows (found_of m) name)
+
+none_refused : (kinds : Kinds) (options : Option Options) → kinds ≡ [] → unless_refused kinds options ≡ options
+none_refused kinds options none = ap (λ (k : Kinds). unless_refused k options) none
+
+-- what was taken, by the three texts that were found
+pub taken : (a : App) (words : List Text) (m : ArgMatches) (seed port level : Option Text) → a ≡ serve_command → (is_simple_and_free a ≡ true → FailsBy (fault_of a words) (Ok m)) → HasMatchesOf a words m
+    → seed ≡ first_value (found_of m) (codes "seed") → port ≡ first_value (found_of m) (codes "port") → level ≡ first_value (found_of m) (codes "log")
+    → options_given words ≡ all_three (option_and_then seed_of seed) (option_and_then port_of port) (option_and_then level_of level)
+taken a words m seed port level same kinds matches seed_is port_is level_is =
+    let none : fault_of serve_command words ≡ [] = subst (λ (b : App). fault_of b words ≡ []) same (kinds (ap is_simple_and_free same ∙ is_free)) in
+    let rows : rows_of (found_of m) ≡ matches_of serve_command words = subst (λ (b : App). rows_of (found_of m) ≡ matches_of b words) same (matches (ap is_simple same ∙ is_plain)).0 in
+    none_refused (fault_of serve_command words) _ none
+    ∙ (ap (λ (t : Option Text). all_three (option_and_then seed_of t) (option_and_then port_of (text_given (codes "port") words)) (option_and_then level_of (text_given (codes "log") words))) (found_text words m (codes "seed") rows ∙ sym seed_is)
+    ∙ (ap (λ (t : Option Text). all_three (option_and_then seed_of seed) (option_and_then port_of t) (option_and_then level_of (text_given (codes "log") words))) (found_text words m (codes "port") rows ∙ sym port_is)
+    ∙ ap (λ (t : Option Text). all_three (option_and_then seed_of seed) (option_and_then port_of port) (option_and_then level_of t)) (found_text words m (codes "log") rows ∙ sym level_is)))

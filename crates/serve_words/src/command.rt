@@ -1,0 +1,47 @@
+//! The command that reads the words.
+
+ghost use Rattle.std.specs.Prelude.{◌≡◌, IfOk};
+ghost use Rattle.clap.specs.Words.{app_of};
+ghost use Rattle.serve_words.specs.Given.{serve_command};
+
+use clap::{Arg, Command};
+use gate_model::NoMemory;
+use std::alloc::{AllocError, Global};
+
+/// The command that reads the words behind `serve`.
+pub(crate) fn serve_command<'a>(alloc: Global) -> Result<Command<'a>, AllocError>
+    ensures { IfOk result (λ command. app_of command ≡ serve_command) }
+{
+    let seed = Arg::new(alloc, "seed")
+        .long("seed")
+        .required(true)
+        .value_name("HEX")
+        .help("the secret under which IDs are drawn: 64 hexadecimal digits");
+    let port = Arg::new(alloc, "port")
+        .long("port")
+        .default_value("4822")
+        .value_name("PORT")
+        .help("the port to listen on, 1 to 65535");
+    let level = Arg::new(alloc, "log")
+        .long("log")
+        .default_value("warn")
+        .value_name("LEVEL")
+        .help("how much is noted on standard error: error, warn or info");
+    Command::new(alloc, "guacgate serve")
+        .no_binary_name(true)
+        .arg(seed)?
+        .arg(port)?
+        .arg(level)
+}
+
+/// What `serve --help` tells.
+pub fn help(alloc: Global) -> Result<String, NoMemory> {
+    let words = ["--help"];
+    let Ok(command) = serve_command(alloc) else {
+        return Err(NoMemory);
+    };
+    match command.try_get_matches_from(&words) {
+        Ok(_) => Ok(String::new(alloc)),
+        Err(error) => Ok(format!(in alloc; "{error}")?),
+    }
+}

@@ -1,0 +1,14 @@
+//! The words of `serve`: the seed of its IDs, the port that it listens on and how much it notes.
+//!
+//! They are read by one simple command of `clap`, whose options are texts; the form of each value is checked by
+//! hand. Which options the words give is `options_given` of `specs/Given.antt`.
+#![tactic(auto)]
+
+mod command;
+mod options;
+#[cfg(test)]
+mod tests;
+mod values;
+
+pub use command::help;
+pub use options::{Options, WordsFault, options_of};

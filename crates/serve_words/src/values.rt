@@ -1,0 +1,74 @@
+//! The values of the options.
+
+ghost use Rattle.std.specs.Prelude.{◌≡◌, ◌↔◌, IsSome, length, true};
+ghost use Rattle.std.specs.Char.{is_ascii_digit};
+ghost use Rattle.std.specs.List.{AllPass, list_all};
+ghost use Rattle.gate_model.specs.text.Numerals.{is_number};
+ghost use Rattle.gate_model.specs.text.Spelling.{number_of};
+ghost use Rattle.hex.specs.Hex.{is_hex_digit};
+ghost use Rattle.serve_words.specs.Values.{level_of, port_of, seed_of};
+
+use hex::FromHex;
+use log::LevelFilter;
+
+/// The seed that 64 hexadecimal digits of either case give, the first byte first.
+pub(crate) fn seed_of(text: &str) -> Option<[u8; 32]>
+    ensures value { result ≡ seed_of text.now }
+    ensures found { IsSome result ↔ ((length text.now ≡ 64) × AllPass is_hex_digit text.now) }
+{
+    <[u8; 32] as FromHex>::from_hex(text).ok()
+}
+
+/// The port that 1 to 20 decimal digits give, 1 to 65,535.
+pub(crate) fn port_of(text: &str) -> Option<u16>
+    ensures { result ≡ port_of text.now }
+{
+    let digits = text.as_bytes();
+    if !is_number(digits) {
+        return None;
+    }
+    let number = number_of(digits);
+    if 1 <= number && number <= 65_535 {
+        Some(number as u16)
+    } else {
+        None
+    }
+}
+
+// Whether these are 1 to 20 digits.
+fn is_number(digits: &[u8]) -> bool
+    ensures { result ≡ is_number digits.now }
+{
+    (1..=20).contains(&digits.len()) && all_digits(digits)
+}
+
+// Whether each byte is a digit.
+fn all_digits(bytes: &[u8]) -> bool
+    ensures { result ≡ list_all is_ascii_digit bytes.now }
+{
+    bytes.iter().all(|byte| byte.is_ascii_digit())
+}
+
+// The number of the digits.
+fn number_of(digits: &[u8]) -> u128
+    requires { is_number digits.now ≡ true }
+    ensures { result ≡ number_of digits.now }
+{
+    let mut number: u128 = 0;
+    for digit in digits {
+        number = 10 * number + u128::from(*digit - b'0');
+    }
+    number
+}
+
+/// The level of one of the three words.
+pub(crate) fn level_of(text: &str) -> Option<LevelFilter>
+    ensures { result ≡ level_of text.now }
+{
+    match text {
+        "error" => Some(LevelFilter::Error),
+        "warn" => Some(LevelFilter::Warn),
+        "info" => Some(LevelFilter::Info),
+        _ => None,
+    }
+}
