@@ -1,0 +1,140 @@
+-- What the steps of a request for a tunnel come to.
+use Rattle.std.proofs.Common.{◌≡◌, ◌⊎◌, inl, inr, ℕ, ◌+◌, ◌-◌, ◌<◌, List, [], ◌++◌, length, refl, ap, sym, ◌∙◌, subst, arith}
+use Rattle.std.specs.Prelude.{Option, Some, None, IfSome, is_some, Result, Ok, Err, IsOk, OnErr, is_ok, if◌then◌else◌}
+use Rattle.std.specs.Option.{option_map}
+use Rattle.guac_handshake.specs.Doors.{option_less}
+use Rattle.guac_handshake.specs.declared.form_refusal.FormRefusal.{FormRefusal}
+use Rattle.guac_handshake.specs.declared.form_refusal.FormRefusal.TheVariants as form
+use Rattle.guac_handshake.specs.declared.refused.Refused.{Refused}
+use Rattle.guac_handshake.specs.declared.refused.Refused.TheVariants as door
+use Rattle.guac_handshake.specs.declared.welcome.Welcome.{Welcome}
+use Rattle.id_table.specs.Draws.{AreThere}
+use Rattle.id_table.specs.Maps.{Changed, Same, Shelved, Told}
+use Rattle.id_table.specs.Refused.{IfConflict, value_of}
+use Rattle.id_table.specs.declared.add_refusal.AddRefusal.{AddRefusal}
+use Rattle.id_table.specs.declared.add_refusal.AddRefusal.TheVariants as refusal
+use Rattle.shared_desk.specs.declared.place.Place.{Place}
+use Rattle.uuid.specs.Text.{hyphenated_text, lower}
+use Rattle.uuid.proofs.TextLemmas.{by_index_length}
+use Rattle.http_tunnel.specs.Connects.{ConnectOf, IsAdded, IsId, refused_by_door, refused_form, tunnel_of}
+use Rattle.http_tunnel.specs.Tunnels.{AreHome, IsHome, less_one}
+use Rattle.http_tunnel.specs.declared.refusal.Refusal.{Refusal}
+use Rattle.http_tunnel.specs.declared.refusal.Refusal.TheVariants.{NotFound, Form, Dial, Busy, Conflict, Forbidden, TooMany, Closed, NoMemory}
+use Rattle.http_tunnel.specs.declared.tunnel.Tunnel.{Tunnel}
+use Rattle.http_tunnel.proofs.Shelves.{after_told, all_changed, all_same, told_as, told_with}
+
+-- ---- a tunnel that is added
+
+pub added_some : (welcome : Welcome Place) (v : Tunnel) (id : List ℕ) (a b : Option (Shelved Tunnel)) → v ≡ tunnel_of welcome → Told a b (λ m n. (m id ≡ None) × Changed id (Some (Some v)) m n) → Told a b (IsAdded IsId welcome (Ok id))
+added_some welcome v id a b e t = told_as (λ m n. (m id ≡ None) × Changed id (Some (Some v)) m n) (IsAdded IsId welcome (Ok id)) a b t (λ m n is p. (id, refl, p.0, subst (λ (x : Tunnel). Changed id (Some (Some x)) m n) e p.1))
+
+pub added_conflict : (welcome : Welcome Place) (r : AddRefusal Tunnel) (t : Tunnel) (ids : List (List ℕ)) (a b : Option (Shelved Tunnel)) → r ≡ refusal.Conflict t ids → Told a b Same → IfConflict r (λ drawn. IfSome a (λ m. AreThere m 4 drawn)) → Told a b (IsAdded IsId welcome (Err Conflict))
+added_conflict welcome r t ids a b e same there =
+    told_with Same (IsAdded IsId welcome (Err Conflict)) (λ m. AreThere m 4 ids) a b same (subst (λ (x : AddRefusal Tunnel). IfConflict x (λ drawn. IfSome a (λ m. AreThere m 4 drawn))) e there) (λ m n h p. (p, λ is. (ids, h)))
+
+pub added_none : (welcome : Welcome Place) (a b : Option (Shelved Tunnel)) → Told a b Same → Told a b (IsAdded IsId welcome (Err NoMemory))
+added_none welcome a b same = told_as Same (IsAdded IsId welcome (Err NoMemory)) a b same (λ m n is p. (p, λ e. absurd (let z : NoMemory ≡ Conflict = e in cc)))
+
+-- its place goes back
+place_back : (welcome : Welcome Place) (t : Tunnel) (before now : Option ℕ) → t ≡ tunnel_of welcome → now ≡ less_one (is_some t.reader) before → now ≡ option_less before
+place_back welcome t before now same out = out ∙ ap (λ (x : Tunnel). less_one (is_some x.reader) before) same
+
+pub conflict_back : (welcome : Welcome Place) (r : AddRefusal Tunnel) (v t : Tunnel) (ids : List (List ℕ)) (before now : Option ℕ) → r ≡ refusal.Conflict t ids → value_of r ≡ v → v ≡ tunnel_of welcome → now ≡ less_one (is_some t.reader) before → now ≡ option_less before
+conflict_back welcome r v t ids before now e given is out = place_back welcome t before now (sym (ap value_of e) ∙ (given ∙ is)) out
+
+pub memory_back : (welcome : Welcome Place) (r : AddRefusal Tunnel) (v t : Tunnel) (before now : Option ℕ) → r ≡ refusal.NoMemory t → value_of r ≡ v → v ≡ tunnel_of welcome → now ≡ less_one (is_some t.reader) before → now ≡ option_less before
+memory_back welcome r v t before now e given is out = place_back welcome t before now (sym (ap value_of e) ∙ (given ∙ is)) out
+
+-- ---- its ID, written into room that was taken before
+
+pub long_id : (text id : List ℕ) → text ≡ hyphenated_text lower id → length text ≡ 36
+long_id text id is = ap length is ∙ by_index_length 36 _
+
+pub has_room : {A E : Type 0} (r : Result A E) (room used more : ℕ) → room ≡ 36 → used ≡ 0 → more ≡ 36 → OnErr r (room < used + more) → IsOk r
+has_room {A} {E} (Ok done) room used more all none some full = refl
+has_room {A} {E} (Err e) room used more all none some full = absurd (omega (arith, all, none, some, full))
+
+pub extended : {A E : Type 0} (r : Result A E) (done : A) (old more now : List ℕ) → now ≡ (if is_ok r then old ++ more else old) → r ≡ Ok done → old ≡ [] → now ≡ more
+extended {A} {E} r done old more now is fits none = is ∙ (ap (λ (x : Result A E). if is_ok x then old ++ more else old) fits ∙ ap (λ (bs : List ℕ). bs ++ more) none)
+
+-- ---- the whole request
+
+pub text_added : (welcome : Welcome Place) (text named : List ℕ) (a b : Option (Shelved Tunnel)) → text ≡ hyphenated_text lower named → Told a b (IsAdded IsId welcome (Ok named)) → Told a b (ConnectOf (Ok welcome) (Ok text))
+text_added welcome text named a b e t = told_as (IsAdded IsId welcome (Ok named)) (ConnectOf (Ok welcome) (Ok text)) a b t (λ m n is p. (p.0, e ∙ ap (λ (bs : List ℕ). hyphenated_text lower bs) p.1, p.2, p.3))
+
+pub text_refused : (welcome : Welcome Place) (refused : Refusal) (a b : Option (Shelved Tunnel)) → Told a b (IsAdded IsId welcome (Err refused)) → Told a b (ConnectOf (Ok welcome) (Err refused))
+text_refused welcome refused a b t = told_as (IsAdded IsId welcome (Err refused)) (ConnectOf (Ok welcome) (Err refused)) a b t (λ m n is p. p)
+
+connect_home : (opened : Result (Welcome Place) FormRefusal) (result : Result (List ℕ) Refusal) (m n : Shelved Tunnel) → ((i : List ℕ) → IsHome (m i)) → ConnectOf opened result m n → (i : List ℕ) → IsHome (n i)
+connect_home (Err refused) result m n home c = all_same IsHome m n home c
+connect_home (Ok welcome) (Ok text) m n home c = all_changed IsHome c.0 (Some (Some (tunnel_of welcome))) m n home (refl, refl) c.3
+connect_home (Ok welcome) (Err refused) m n home c = all_same IsHome m n home c.0
+
+pub connected_home : (opened : Result (Welcome Place) FormRefusal) (result : Result (List ℕ) Refusal) (a b : Option (Shelved Tunnel)) → AreHome a → Told a b (ConnectOf opened result) → AreHome b
+connected_home opened result a b home t = after_told (ConnectOf opened result) (λ m. (i : List ℕ) → IsHome (m i)) (λ m. (i : List ℕ) → IsHome (m i)) a b t home (λ m n h c. connect_home opened result m n h c)
+
+pub less_more : (out mid now : Option ℕ) → mid ≡ option_map (λ n. n + 1) out → now ≡ option_less mid → now ≡ out
+less_more None mid now more less = less ∙ ap option_less more
+less_more (Some n) mid now more less = less ∙ (ap option_less more ∙ ap Some (let z : (n + 1) - 1 ≡ n = omega arith in z))
+
+-- ---- what the door counted
+
+dial_door : (r : Refused) → refused_by_door r ≡ Dial → r ≡ door.Dial
+dial_door door.Absent e = absurd (let z : NotFound ≡ Dial = e in cc)
+dial_door door.Conflict e = absurd (let z : Conflict ≡ Dial = e in cc)
+dial_door door.Dial e = refl
+dial_door door.Busy e = absurd (let z : Busy ≡ Dial = e in cc)
+dial_door door.Closed e = absurd (let z : Closed ≡ Dial = e in cc)
+dial_door door.Forbidden e = absurd (let z : Forbidden ≡ Dial = e in cc)
+dial_door door.TooMany e = absurd (let z : TooMany ≡ Dial = e in cc)
+dial_door door.Worn e = absurd (let z : Closed ≡ Dial = e in cc)
+dial_door door.NoMemory e = absurd (let z : NoMemory ≡ Dial = e in cc)
+
+busy_door : (r : Refused) → refused_by_door r ≡ Busy → r ≡ door.Busy
+busy_door door.Absent e = absurd (let z : NotFound ≡ Busy = e in cc)
+busy_door door.Conflict e = absurd (let z : Conflict ≡ Busy = e in cc)
+busy_door door.Dial e = absurd (let z : Dial ≡ Busy = e in cc)
+busy_door door.Busy e = refl
+busy_door door.Closed e = absurd (let z : Closed ≡ Busy = e in cc)
+busy_door door.Forbidden e = absurd (let z : Forbidden ≡ Busy = e in cc)
+busy_door door.TooMany e = absurd (let z : TooMany ≡ Busy = e in cc)
+busy_door door.Worn e = absurd (let z : Closed ≡ Busy = e in cc)
+busy_door door.NoMemory e = absurd (let z : NoMemory ≡ Busy = e in cc)
+
+dial_form : (r : FormRefusal) → refused_form r ≡ Dial → r ≡ form.Door door.Dial
+dial_form form.Form e = absurd (let z : Form ≡ Dial = e in cc)
+dial_form (form.Door refused) e = ap form.Door (dial_door refused e)
+dial_form form.NoMemory e = absurd (let z : NoMemory ≡ Dial = e in cc)
+
+busy_form : (r : FormRefusal) → refused_form r ≡ Busy → r ≡ form.Door door.Busy
+busy_form form.Form e = absurd (let z : Form ≡ Busy = e in cc)
+busy_form (form.Door refused) e = ap form.Door (busy_door refused e)
+busy_form form.NoMemory e = absurd (let z : NoMemory ≡ Busy = e in cc)
+
+abbrev pub refused_by : FormRefusal → Result (Welcome Place) FormRefusal
+refused_by r = Err r
+
+abbrev pub err_of : Refusal → Result (List ℕ) Refusal
+err_of r = Err r
+
+abbrev refusal_in : Result (List ℕ) Refusal → Refusal
+refusal_in (Ok body) = NoMemory
+refusal_in (Err r) = r
+
+err_same : (x y : Refusal) → err_of x ≡ err_of y → x ≡ y
+err_same x y e = ap refusal_in e
+
+pub dialed : (r : FormRefusal) (told : Refusal) → told ≡ refused_form r → err_of told ≡ err_of Dial → refused_by r ≡ refused_by (form.Door door.Dial)
+dialed r told is e = ap refused_by (dial_form r (sym is ∙ err_same told Dial e))
+
+pub started : (r : FormRefusal) (told : Refusal) → told ≡ refused_form r → err_of told ≡ err_of Busy → refused_by r ≡ refused_by (form.Door door.Busy)
+started r told is e = ap refused_by (busy_form r (sym is ∙ err_same told Busy e))
+
+-- a place that went back was no failed dial and no failed start
+pub not_dialed : (told : Refusal) (P : Type 0) → (told ≡ Conflict) ⊎ (told ≡ NoMemory) → err_of told ≡ err_of Dial → P
+not_dialed told P (inl is) e = absurd (let z : Conflict ≡ Dial = sym is ∙ err_same told Dial e in cc)
+not_dialed told P (inr is) e = absurd (let z : NoMemory ≡ Dial = sym is ∙ err_same told Dial e in cc)
+
+pub not_started : (told : Refusal) (P : Type 0) → (told ≡ Conflict) ⊎ (told ≡ NoMemory) → err_of told ≡ err_of Busy → P
+not_started told P (inl is) e = absurd (let z : Conflict ≡ Busy = sym is ∙ err_same told Busy e in cc)
+not_started told P (inr is) e = absurd (let z : NoMemory ≡ Busy = sym is ∙ err_same told Busy e in cc)

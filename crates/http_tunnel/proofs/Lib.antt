@@ -1,0 +1,9 @@
+-- In reading order: what a look and a read of a reader's pass come to, steps on a shelf, a request's read, a body, a
+-- request's write, a request for a tunnel, what is answered.
+pub mod Looks
+pub mod Shelves
+pub mod TunnelReads
+pub mod Bodies
+pub mod Writing
+pub mod Connecting
+pub mod Responses

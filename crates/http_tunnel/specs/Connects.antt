@@ -1,0 +1,68 @@
+-- What a request for a tunnel does (this project's own).
+use Rattle.std.specs.Prelude.{◌≡◌, ◌⊎◌, ℕ, ◌+◌, false, List, Option, Some, None, Result, Ok, Err}
+use Rattle.std.specs.Option.{option_map}
+use Rattle.guac_handshake.specs.Doors.{option_less}
+use Rattle.guac_handshake.specs.declared.form_refusal.FormRefusal.{FormRefusal}
+use Rattle.guac_handshake.specs.declared.form_refusal.FormRefusal.TheVariants as form
+use Rattle.guac_handshake.specs.declared.refused.Refused.{Refused}
+use Rattle.guac_handshake.specs.declared.refused.Refused.TheVariants as door
+use Rattle.guac_handshake.specs.declared.welcome.Welcome.{Welcome}
+use Rattle.id_table.specs.Draws.{AreThere}
+use Rattle.id_table.specs.Maps.{Changed, Same, Shelved}
+use Rattle.shared_desk.specs.Hosts.{IsFresh}
+use Rattle.shared_desk.specs.declared.place.Place.{Place}
+use Rattle.uuid.specs.Text.{hyphenated_text, lower}
+use Rattle.http_tunnel.specs.declared.refusal.Refusal.{Refusal}
+use Rattle.http_tunnel.specs.declared.refusal.Refusal.TheVariants.{NotFound, Form, Dial, Busy, Conflict, Forbidden, TooMany, Closed, NoMemory}
+use Rattle.http_tunnel.specs.declared.tunnel.Tunnel.{Tunnel}
+
+-- the tunnel of a viewer that was let in, whose first read hands out what its Join gave
+abbrev pub tunnel_of : Welcome Place → Tunnel
+tunnel_of welcome = record { id = welcome.id; reader = Some welcome.place.reader; writer = welcome.place.writer; role = welcome.place.role; kept = welcome.first; gone = false }
+
+abbrev pub refused_by_door : Refused → Refusal
+refused_by_door door.Absent = NotFound
+refused_by_door door.Conflict = Conflict
+refused_by_door door.Dial = Dial
+refused_by_door door.Busy = Busy
+refused_by_door door.Closed = Closed
+refused_by_door door.Forbidden = Forbidden
+refused_by_door door.TooMany = TooMany
+refused_by_door door.Worn = Closed
+refused_by_door door.NoMemory = NoMemory
+
+abbrev pub refused_form : FormRefusal → Refusal
+refused_form form.Form = Form
+refused_form (form.Door refused) = refused_by_door refused
+refused_form form.NoMemory = NoMemory
+
+-- the tunnel was added under an ID that was absent; or nothing was, since four IDs were there or memory was wanting
+abbrev pub IsAdded : {I : Type 0} → (I → List ℕ → Type 0) → Welcome Place → Result I Refusal → Shelved Tunnel → Shelved Tunnel → Type 0
+IsAdded Names welcome (Ok named) m n = (id : List ℕ) × Names named id × (m id ≡ None) × Changed id (Some (Some (tunnel_of welcome))) m n
+IsAdded Names welcome (Err refused) m n = Same m n × (refused ≡ Conflict → (ids : List (List ℕ)) × AreThere m 4 ids)
+
+abbrev pub IsText : List ℕ → List ℕ → Type 0
+IsText text id = text ≡ hyphenated_text lower id
+
+abbrev pub IsId : List ℕ → List ℕ → Type 0
+IsId named id = named ≡ id
+
+-- what is answered, by what the door gave
+abbrev pub AnswersOpened : Result (Welcome Place) FormRefusal → Result (List ℕ) Refusal → Type 0
+AnswersOpened (Err refusal) result = result ≡ Err (refused_form refusal)
+AnswersOpened (Ok welcome) (Ok text) = IsFresh welcome.place welcome.first
+AnswersOpened (Ok welcome) (Err refused) = (refused ≡ Conflict) ⊎ (refused ≡ NoMemory)
+
+-- what is done to the tunnels
+abbrev pub ConnectOf : Result (Welcome Place) FormRefusal → Result (List ℕ) Refusal → Shelved Tunnel → Shelved Tunnel → Type 0
+ConnectOf (Err refusal) result m n = Same m n
+ConnectOf (Ok welcome) result m n = IsAdded IsText welcome result m n
+
+-- a place more is out where a tunnel was added; else the place, if one was given, went back
+abbrev pub out_after : {A : Type 0} → Result A Refusal → Option ℕ → Option ℕ
+out_after (Ok text) out = option_map (λ n. n + 1) out
+out_after (Err refused) out = out
+
+abbrev pub out_added : {A : Type 0} → Result A Refusal → Option ℕ → Option ℕ
+out_added (Ok text) out = out
+out_added (Err refused) out = option_less out

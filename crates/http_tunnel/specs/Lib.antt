@@ -1,0 +1,10 @@
+-- In reading order: what a request asks, the statuses of refusals, what a read did, what a read does to the tunnels,
+-- what a body asks, what a write does to the tunnels, what a request for a tunnel does, how each is answered.
+pub mod Routes
+pub mod Statuses
+pub mod Reads
+pub mod Tunnels
+pub mod Bodies
+pub mod Writes
+pub mod Connects
+pub mod Requests

@@ -1,0 +1,51 @@
+-- How one request is answered (this project's own).
+use Rattle.std.specs.Prelude.{◌≡◌, ℕ, Bool, List, [], Option, Result, Ok, Err}
+use Rattle.guac_handshake.specs.Doors.{Sessions}
+use Rattle.guac_handshake.specs.Opening.{HasOpened}
+use Rattle.guac_handshake.specs.declared.form_refusal.FormRefusal.{FormRefusal}
+use Rattle.guac_handshake.specs.declared.request.Request.{Request}
+use Rattle.guac_handshake.specs.declared.welcome.Welcome.{Welcome}
+use Rattle.http_front.specs.declared.response.Response.{Response}
+use Rattle.id_table.specs.Maps.{Same, Shelved, Told}
+use Rattle.shared_desk.specs.declared.place.Place.{Place}
+use Rattle.http_tunnel.specs.Connects.{AnswersOpened, ConnectOf, out_after}
+use Rattle.http_tunnel.specs.Statuses.{code_of, status_of}
+use Rattle.http_tunnel.specs.Tunnels.{ReadOf, less_one}
+use Rattle.http_tunnel.specs.Writes.{WriteOf}
+use Rattle.http_tunnel.specs.declared.refusal.Refusal.{Refusal}
+use Rattle.http_tunnel.specs.declared.refusal.Refusal.TheVariants.{NotFound, Form, Method, Dial, Busy, Conflict, Forbidden, TooMany, Closed, NoMemory}
+use Rattle.http_tunnel.specs.declared.route.Route.{Route}
+use Rattle.http_tunnel.specs.declared.route.Route.TheVariants as route
+use Rattle.http_tunnel.specs.declared.tunnel.Tunnel.{Tunnel}
+
+-- the response to a request that was answered so
+abbrev pub IsResponse : Result (List ℕ) Refusal → Response → Type 0
+IsResponse (Ok body) response = (response.status ≡ 200) × (response.code ≡ 0) × (response.body ≡ body)
+IsResponse (Err refusal) response = (response.status ≡ status_of refusal) × (response.code ≡ code_of refusal) × (response.body ≡ [])
+
+abbrev pub without_body : Result (Unit {0}) Refusal → Result (List ℕ) Refusal
+without_body (Ok done) = Ok []
+without_body (Err refusal) = Err refusal
+
+-- what was done for a request that asks this: of the door its IDs, its sessions, its draws, what it was asked and the
+-- places that are out, and what the shelf tells, each before and after it
+abbrev pub Serves : (List ℕ → Option (List ℕ)) → Option Sessions → Option Sessions → Option (ℕ → List ℕ) → Option (List Request) → Option (List Request) → Option ℕ → Option ℕ → Option (Shelved Tunnel) → Option (Shelved Tunnel) → List ℕ → Result (List ℕ) Refusal → Route → Type 0
+Serves id_of sessions sessions_new draws asked asked_new out out_new told told_new body answered (route.Refused refusal) = (answered ≡ Err refusal) × (asked_new ≡ asked) × (out_new ≡ out) × Told told told_new Same
+Serves id_of sessions sessions_new draws asked asked_new out out_new told told_new body answered route.Connect =
+    (opened : Result (Welcome Place) FormRefusal) × HasOpened id_of sessions sessions_new draws asked asked_new body opened × AnswersOpened opened answered × (out_new ≡ out_after answered out) × Told told told_new (ConnectOf opened answered)
+Serves id_of sessions sessions_new draws asked asked_new out out_new told told_new body answered (route.Read id) = (back : Bool) × (out_new ≡ less_one back out) × Told told told_new (ReadOf id back answered)
+Serves id_of sessions sessions_new draws asked asked_new out out_new told told_new body answered (route.Write id) =
+    (back : Bool) × (done : Result (Unit {0}) Refusal) × (answered ≡ without_body done) × (out_new ≡ less_one back out) × Told told told_new (WriteOf id body back done)
+
+-- the refusals of a tunnel that may be there
+abbrev pub IsTunnelRefusal : Refusal → Type 0
+IsTunnelRefusal NotFound = Unit {0}
+IsTunnelRefusal Form = Unit {0}
+IsTunnelRefusal Closed = Unit {0}
+IsTunnelRefusal NoMemory = Unit {0}
+IsTunnelRefusal Method = ⊥
+IsTunnelRefusal Dial = ⊥
+IsTunnelRefusal Busy = ⊥
+IsTunnelRefusal Conflict = ⊥
+IsTunnelRefusal Forbidden = ⊥
+IsTunnelRefusal TooMany = ⊥

@@ -1,0 +1,108 @@
+-- What a request that writes does (this project's own).
+use Rattle.std.specs.Prelude.{◌≡◌, ◌⊎◌, ℕ, Bool, true, false, if◌then◌else◌, List, [], ◌∷◌, ◌++◌, Some, None, Result, Ok, Err}
+use Rattle.gate_model.specs.declared.act.Act.{Act}
+use Rattle.gate_model.specs.declared.entry.Entry.{Entry}
+use Rattle.gate_model.specs.declared.entry.Entry.TheVariants.{Write, Leave}
+use Rattle.gate_model.specs.declared.write_refusal.WriteRefusal.{WriteRefusal}
+use Rattle.gate_model.specs.declared.write_refusal.WriteRefusal.TheVariants as written
+use Rattle.gate_model.specs.session.History.{History, is_closed, is_full}
+use Rattle.gate_model.specs.session.Rights.{is_live}
+use Rattle.id_table.specs.Maps.{Changed, Same, Shelved}
+use Rattle.turn_lock.specs.declared.view.View.{View}
+use Rattle.shared_desk.specs.Members.{ViewerState}
+use Rattle.shared_desk.specs.Own.{own_entries}
+use Rattle.http_tunnel.specs.Bodies.{IsBody, IsNoBody, Wish, wish_of}
+use Rattle.http_tunnel.specs.declared.refusal.Refusal.{Refusal}
+use Rattle.http_tunnel.specs.declared.refusal.Refusal.TheVariants.{NotFound, Form, Method, Dial, Busy, Conflict, Forbidden, TooMany, Closed, NoMemory}
+use Rattle.http_tunnel.specs.declared.tunnel.Tunnel.{Tunnel}
+
+-- the Writes of acts: one of all of them, and none where there are none
+abbrev pub writes_of : ℕ → List Act → List Entry
+writes_of viewer [] = []
+writes_of viewer (act ∷ acts) = Write viewer (act ∷ acts) ∷ []
+
+-- none or one Leave of the viewer, which comes only at the end that a body asks for
+abbrev pub MayLeave : Bool → ℕ → List Entry → Type 0
+MayLeave false viewer leaves = leaves ≡ []
+MayLeave true viewer leaves = (leaves ≡ []) ⊎ (leaves ≡ Leave viewer ∷ [])
+
+-- why acts were refused, by what the pass has seen
+abbrev pub WriteCause : Refusal → ℕ → History → Type 0
+WriteCause NotFound viewer seen = is_live seen viewer ≡ false
+WriteCause Closed viewer seen = (is_closed seen ≡ true) ⊎ (is_full seen ≡ true)
+WriteCause NoMemory viewer seen = Unit {0}
+WriteCause Form viewer seen = ⊥
+WriteCause Method viewer seen = ⊥
+WriteCause Dial viewer seen = ⊥
+WriteCause Busy viewer seen = ⊥
+WriteCause Conflict viewer seen = ⊥
+WriteCause Forbidden viewer seen = ⊥
+WriteCause TooMany viewer seen = ⊥
+
+abbrev pub refused_write : WriteRefusal → Refusal
+refused_write written.NoViewer = NotFound
+refused_write (written.Closed cause) = Closed
+refused_write (written.Worn entries) = Closed
+refused_write written.NoMemory = NoMemory
+
+-- the acts were written, or refused
+abbrev pub WritesActs : ℕ → View Entry → View Entry → List Act → Result (Unit {0}) Refusal → Type 0
+WritesActs viewer v w acts (Ok done) = own_entries w ≡ writes_of viewer acts ++ own_entries v
+WritesActs viewer v w acts (Err refused) = (own_entries w ≡ own_entries v) × WriteCause refused viewer w.seen
+
+-- where its body asks for an end, the viewer has left
+pub record HasLeft (viewer : ℕ) (v w : View Entry) (ends : Bool) : Type 0 where
+  pub leaves : List Entry
+  pub may : MayLeave ends viewer leaves
+  pub own : own_entries w ≡ leaves ++ own_entries v
+  pub gone : ends ≡ true → is_live w.seen viewer ≡ false
+
+-- what was asked was done, or refused
+pub record DoesWish (viewer : ℕ) (v w : View Entry) (wish : Wish) : Type 0 where
+  pub leaves : List Entry
+  pub may : MayLeave wish.ends viewer leaves
+  pub own : own_entries w ≡ leaves ++ (writes_of viewer wish.acts ++ own_entries v)
+  pub gone : wish.ends ≡ true → is_live w.seen viewer ≡ false
+
+abbrev pub WritesWish : ℕ → View Entry → View Entry → Wish → Result Bool Refusal → Type 0
+WritesWish viewer v w wish (Ok ended) = (ended ≡ wish.ends) × DoesWish viewer v w wish
+WritesWish viewer v w wish (Err refused) = (own_entries w ≡ own_entries v) × WriteCause refused viewer w.seen
+
+-- a body that wasn't written: it is out of form, or memory was wanting, or its acts were refused
+abbrev pub IsRefusedWrite : ℕ → List ℕ → Refusal → History → Type 0
+IsRefusedWrite viewer body refused seen = ((refused ≡ Form) × IsNoBody body) ⊎ ((refused ≡ NoMemory) ⊎ ((instructions : List (List (List ℕ))) × IsBody body instructions × WriteCause refused viewer seen))
+
+abbrev pub WritesBody : ℕ → View Entry → View Entry → List ℕ → Result Bool Refusal → Type 0
+WritesBody viewer v w body (Ok ended) = (instructions : List (List (List ℕ))) × IsBody body instructions × (ended ≡ Wish.ends (wish_of instructions)) × DoesWish viewer v w (wish_of instructions)
+WritesBody viewer v w body (Err refused) = (own_entries w ≡ own_entries v) × IsRefusedWrite viewer body refused w.seen
+
+-- whether the tunnel goes
+abbrev pub is_ended : Result Bool Refusal → Bool
+is_ended (Ok ended) = ended
+is_ended (Err refused) = false
+
+abbrev pub without_value : Result Bool Refusal → Result (Unit {0}) Refusal
+without_value (Ok ended) = Ok tt
+without_value (Err refused) = Err refused
+
+-- one write of the tunnel of the ID, which goes only with an end that its body asks for. Nothing of it changes but its
+-- writer's pass
+pub record IsWriteOf (id body : List ℕ) (back : Bool) (result : Result (Unit {0}) Refusal) (m n : Shelved Tunnel) : Type 0 where
+  pub tunnel : Tunnel
+  pub there : m id ≡ Some (Some tunnel)
+  pub now : ViewerState
+  pub session : now.session ≡ tunnel.writer.session
+  pub viewer : now.viewer ≡ tunnel.writer.viewer
+  pub done : Result Bool Refusal
+  pub wrote : WritesBody tunnel.writer.viewer tunnel.writer.view now.view body done
+  pub answered : result ≡ without_value done
+  pub removed : back ≡ is_ended done
+  pub left : Changed id (if back then None else Some (Some (record tunnel { writer = now }))) m n
+
+-- there is no such tunnel, or it was written
+abbrev pub WriteOf : List ℕ → List ℕ → Bool → Result (Unit {0}) Refusal → Shelved Tunnel → Shelved Tunnel → Type 0
+WriteOf id body back result m n = ((m id ≡ None) × (back ≡ false) × (result ≡ Err NotFound) × Same m n) ⊎ IsWriteOf id body back result m n
+
+-- .. a tunnel that was lent is there again, or went
+abbrev pub HasPut : List ℕ → Tunnel → Bool → Bool → Shelved Tunnel → Shelved Tunnel → Type 0
+HasPut id t ended back m n = (back ≡ ended) × Changed id (if back then None else Some (Some t)) m n

@@ -1,0 +1,116 @@
+//! One request, answered.
+
+ghost use Rattle.std.specs.Prelude.{◌≡◌, ℕ, List, Err, Result};
+ghost use Rattle.gate_outside.specs.Edge.{Rose};
+ghost use Rattle.http_tunnel.specs.Requests.{IsResponse, Serves, without_body};
+ghost use Rattle.http_tunnel.specs.Routes.{IsAsked, route_of};
+ghost use Rattle.http_tunnel.specs.Tunnels.{AreHome};
+ghost use Rattle.http_tunnel.specs.declared.refusal.Refusal.{Refusal};
+ghost use Rattle.http_tunnel.specs.declared.refusal.Refusal.TheVariants.{Busy, Dial};
+
+use crate::connect::connect;
+use crate::read::read;
+use crate::refusal::Refusal;
+use crate::route::{Route, find_route};
+use crate::tunnel::Tunnel;
+use crate::write::write;
+use gate_model::Bytes;
+use gate_outside::{Bell, Dice};
+use guac_handshake::Door;
+use http_front::{Request, Response};
+use id_table::Shelf;
+use shared_desk::Place;
+use std::alloc::Global;
+use std::sync::Wait;
+use std::thread::Threads;
+
+// The response of a request that was answered so.
+fn answer(alloc: Global, answered: Result<Bytes, Refusal>) -> Response
+    ensures { IsResponse answered result }
+{
+    match answered {
+        Ok(body) => Response {
+            status: 200,
+            code: 0,
+            body,
+        },
+        Err(refusal) => refusal.response(alloc),
+    }
+}
+
+fn without_body(alloc: Global, done: Result<(), Refusal>) -> Result<Bytes, Refusal>
+    ensures { result ≡ without_body done }
+{
+    match done {
+        Ok(()) => Ok(Bytes::of(Vec::new(alloc))),
+        Err(refusal) => Err(refusal),
+    }
+}
+
+// Does what a request asks.
+fn serve<R, T, D, B, X>(
+    rt: &R,
+    alloc: Global,
+    tunnels: &mut T,
+    route: Route,
+    body: &[u8],
+    door: &mut D,
+    dice: &mut X,
+    bell: &B,
+) -> Result<Bytes, Refusal>
+where
+    R: Threads + Wait + Copy + Send + 'static,
+    T: Shelf<Tunnel>,
+    D: Door<Place = Place>,
+    B: Bell,
+    X: Dice,
+    requires home { AreHome (T.told tunnels.old) }
+    requires route { IsAsked route }
+    ensures home { AreHome (T.told tunnels.new) }
+    ensures served { Serves D.id_of (D.sessions door.old) (D.sessions door.new) (D.draws door.old) (D.asked door.old) (D.asked door.new) (D.out door.old) (D.out door.new) (T.told tunnels.old) (T.told tunnels.new) body.now result route }
+    ensures dial { result ≡ Err Dial → Rose (D.dial_faults door.old) (D.dial_faults door.new) }
+    ensures busy { result ≡ Err Busy → Rose (D.start_faults door.old) (D.start_faults door.new) }
+{
+    match route {
+        Route::Connect => connect(rt, alloc, tunnels, body, door, dice),
+        Route::Read(id) => read(rt, alloc, tunnels, &id, door, bell),
+        Route::Write(id) => {
+            without_body(alloc, write(rt, alloc, tunnels, &id, body, door, bell))
+        }
+        Route::Refused(refusal) => Err(refusal),
+    }
+}
+
+/// Answers one request: a tunnel to a session, what its viewer is given, or that what its viewer sends was written
+/// (this project's own rule, after the tunnel of guacamole-common). Between two requests each tunnel that is there has
+/// its reader's pass and isn't lent, where the shelf tells. The status is by the first cause that holds: what the
+/// request's method and target ask, whether the tunnel is there, its body's form, and what the door or the session
+/// answers. Want of memory alone is free.
+pub fn tunnel_request<R, T, D, B, X>(
+    rt: &R,
+    alloc: Global,
+    tunnels: &mut T,
+    request: &Request<'_>,
+    door: &mut D,
+    dice: &mut X,
+    bell: &B,
+) -> Response
+where
+    R: Threads + Wait + Copy + Send + 'static,
+    T: Shelf<Tunnel>,
+    D: Door<Place = Place>,
+    B: Bell,
+    X: Dice,
+    requires { AreHome (T.told tunnels.old) }
+    ensures home { AreHome (T.told tunnels.new) }
+    ensures answered { (answered : Result (List ℕ) Refusal) × IsResponse answered result × Serves D.id_of (D.sessions door.old) (D.sessions door.new) (D.draws door.old) (D.asked door.old) (D.asked door.new) (D.out door.old) (D.out door.new) (T.told tunnels.old) (T.told tunnels.new) request.now.body.now answered (route_of request.now.method request.now.target.now) }
+    ensures dial { result.status ≡ 502 → Rose (D.dial_faults door.old) (D.dial_faults door.new) }
+    ensures busy { result.status ≡ 503 → Rose (D.start_faults door.old) (D.start_faults door.new) }
+{
+    let route = find_route(
+        request.method.as_str().as_bytes(),
+        request.target.as_bytes(),
+    );
+    let answered = serve(rt, alloc, tunnels, route, request.body, door, dice, bell);
+    answer(alloc, answered)
+}

@@ -1,0 +1,21 @@
+//! Sessions over plain HTTP requests, after the tunnel of guacamole-common: a request opens a tunnel, and others read
+//! what its viewer is given and write what it sends (this project's own profile).
+//!
+//! What a request asks is `route_of` of `specs/Routes.antt`, and the statuses of refusals stand in
+//! `specs/Statuses.antt`.
+#![tactic(auto)]
+
+mod acts;
+mod answering;
+mod connect;
+mod giving;
+mod read;
+mod reading;
+mod refusal;
+mod route;
+mod tunnel;
+mod write;
+
+pub use answering::tunnel_request;
+pub use reading::{TunnelEnd, TunnelRefusal, tunnel_read};
+pub use tunnel::Tunnel;

@@ -1,0 +1,138 @@
+//! What the viewer of a tunnel is given.
+
+ghost use Rattle.std.specs.Prelude.{◌≡◌, ◌⊎◌, ◌++◌, ℕ, List, Ok, Err};
+ghost use Rattle.http_tunnel.specs.Reads.{HasLooked, HasRead, end_of, mark_of, refusal_of, second};
+ghost use Rattle.http_tunnel.specs.declared.reading.TunnelRefusal.TheVariants.{NoMemory as no_memory};
+
+use desk_core::{ReadAnswer, ReadRefusal};
+use gate_outside::Bell;
+use shared_desk::ReaderPass;
+use std::sync::Wait;
+
+/// How a read of a tunnel ended.
+#[derive(Clone, Copy, Debug, PartialEq, Eq)]
+pub enum TunnelEnd {
+    /// More may come.
+    Open,
+    /// The closing instruction was delivered.
+    Ended,
+}
+
+/// Why a read of a tunnel was refused.
+#[derive(Clone, Copy, Debug, PartialEq, Eq)]
+pub enum TunnelRefusal {
+    /// The viewer never joined or has left.
+    NoViewer,
+    /// The session has as many entries as it may, so many.
+    Worn { entries: u64 },
+    /// Want of memory.
+    NoMemory,
+}
+
+impl From<ReadRefusal> for TunnelRefusal {
+    fn from(refused: ReadRefusal) -> TunnelRefusal
+        ensures { result ≡ refusal_of refused }
+    {
+        match refused {
+            ReadRefusal::NoViewer => TunnelRefusal::NoViewer,
+            ReadRefusal::Worn { entries } => TunnelRefusal::Worn { entries },
+            ReadRefusal::NoMemory => TunnelRefusal::NoMemory,
+        }
+    }
+}
+
+// How a read ended that gave something, or None where nothing was there.
+fn end_of(answer: ReadAnswer) -> Option<TunnelEnd>
+    ensures { result ≡ end_of answer }
+{
+    match answer {
+        ReadAnswer::Frames { closed, .. } | ReadAnswer::Fresh { closed, .. } => {
+            if closed {
+                Some(TunnelEnd::Ended)
+            } else {
+                Some(TunnelEnd::Open)
+            }
+        }
+        ReadAnswer::Ended => Some(TunnelEnd::Ended),
+        ReadAnswer::Empty | ReadAnswer::Hold { .. } => None,
+    }
+}
+
+// Reads once.
+fn look<R: Wait>(
+    rt: &R,
+    pass: &mut ReaderPass,
+    into: &mut Vec<u8>,
+) -> Result<Option<TunnelEnd>, TunnelRefusal>
+    ensures session { pass.new.session ≡ pass.old.session }
+    ensures viewer { pass.new.viewer ≡ pass.old.viewer }
+    ensures looked { (text : List ℕ) × (into.new.items ≡ into.old.items ++ text) × HasLooked pass.old.viewer pass.old.view pass.new.view text result }
+{
+    match pass.read(rt, into) {
+        Ok(answer) => Ok(end_of(answer)),
+        Err(refused) => Err(TunnelRefusal::from(refused)),
+    }
+}
+
+// Reads, and where nothing is there once more.
+fn look_twice<R: Wait, B: Bell>(
+    rt: &R,
+    pass: &mut ReaderPass,
+    bell: &B,
+    into: &mut Vec<u8>,
+) -> Result<TunnelEnd, TunnelRefusal>
+    ensures session { pass.new.session ≡ pass.old.session }
+    ensures viewer { pass.new.viewer ≡ pass.old.viewer }
+    ensures read { (text : List ℕ) × (into.new.items ≡ into.old.items ++ text) × HasRead pass.old.viewer pass.old.view pass.new.view text result }
+{
+    match look(rt, pass, into) {
+        Ok(Some(end)) => Ok(end),
+        Ok(None) => {
+            bell.wait(rt);
+            settled(look(rt, pass, into))
+        }
+        Err(refused) => Err(refused),
+    }
+}
+
+// How a second look ends a read.
+fn settled(looked: Result<Option<TunnelEnd>, TunnelRefusal>) -> Result<TunnelEnd, TunnelRefusal>
+    ensures { result ≡ second looked }
+{
+    match looked {
+        Ok(Some(end)) => Ok(end),
+        Ok(None) => Ok(TunnelEnd::Open),
+        Err(refused) => Err(refused),
+    }
+}
+
+// Puts the mark of the end behind a text, if there is memory.
+fn mark(into: &mut Vec<u8>, end: TunnelEnd) -> Result<TunnelEnd, TunnelRefusal>
+    ensures marked { into.new.items ≡ into.old.items ++ mark_of result }
+    ensures kind { (result ≡ Ok end) ⊎ (result ≡ Err no_memory) }
+{
+    match into.extend_from_slice(b"0.;") {
+        Ok(()) => Ok(end),
+        Err(_) => Err(TunnelRefusal::NoMemory),
+    }
+}
+
+/// Reads for the viewer, and appends what it was given and the mark of the end, `0.;`. Where nothing is there it waits
+/// for the bell once and reads once more (this project's own rule). Ended comes where the viewer was given the closing
+/// instruction, by this read or before. Refused, `into` has what was delivered, without the mark: want of memory alone
+/// comes with anything.
+pub fn tunnel_read<R: Wait, B: Bell>(
+    rt: &R,
+    pass: &mut ReaderPass,
+    bell: &B,
+    into: &mut Vec<u8>,
+) -> Result<TunnelEnd, TunnelRefusal>
+    ensures session { pass.new.session ≡ pass.old.session }
+    ensures viewer { pass.new.viewer ≡ pass.old.viewer }
+    ensures read { (text : List ℕ) × (into.new.items ≡ into.old.items ++ (text ++ mark_of result)) × HasRead pass.old.viewer pass.old.view pass.new.view text result }
+{
+    match look_twice(rt, pass, bell, into) {
+        Ok(end) => mark(into, end),
+        Err(refused) => Err(refused),
+    }
+}
