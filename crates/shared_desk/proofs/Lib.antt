@@ -7,6 +7,6 @@ mod Alone
 mod Derived
 mod Hosts
 mod Openings
-mod Sends
+pub mod Sends
 pub mod Crosses
 pub mod Lasting

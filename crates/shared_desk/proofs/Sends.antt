@@ -5,6 +5,7 @@ use Rattle.std.proofs.Crossing.{crosses}
 use Rattle.std.proofs.MapsCrossing as maps
 use Rattle.lru.proofs.Crosses.{KeyRef-send, List-send, Deed-send}
 use Rattle.screen_grid.specs.contracts.grid.Grid as grid
+use Rattle.tab_stops.specs.contracts.stops.TabStops as stops
 use Rattle.vt_screen.specs.contracts.pen.Pen as pen
 use Rattle.vt_screen.specs.contracts.saved.Saved as saved
 use Rattle.vt_screen.specs.contracts.screen.Screen as screen
@@ -23,6 +24,9 @@ use Rattle.shared_desk.specs.contracts.held.Held as held
 
 grid_send : IsSend grid.the_row
 grid_send = search (sendable, crosses) depth 20
+
+stops_send : IsSend stops.the_row
+stops_send = search (sendable, crosses) depth 20
 
 pen_send : IsSend pen.the_row
 pen_send = search sendable depth 20
@@ -49,7 +53,7 @@ whole_screen_send = declared_send whole_screen.the_type (
               (
                 search sendable,
                 (
-                  search (sendable, crosses) depth 20,
+                  search (stops_send, sendable),
                   (
                     search (pen_send, sendable),
                     (
@@ -142,7 +146,7 @@ whole_desk_send = declared_send whole_desk.the_type (
   ),
 )
 
-desk_send : IsSend desk.the_row
+pub desk_send : IsSend desk.the_row
 desk_send = view_send whole_desk.the_row _ _ _ _ whole_desk_send
 
 pub held_send : IsSend held.the_row

@@ -1,4 +1,3 @@
-pub mod StopMoves
 pub mod Styles
 pub mod Decimals
 pub mod Ranges

@@ -21,7 +21,6 @@ mod screen;
 mod scrolled;
 mod scrolling;
 mod showing;
-mod stops;
 mod table;
 
 pub use reply::Reply;

@@ -7,11 +7,11 @@ use crate::modes::Modes;
 use crate::pen::Pen;
 use crate::saved::Saved;
 use crate::scrolled::Scrolled;
-use crate::stops::TabStops;
 use gate_model::NoMemory;
 use screen_grid::Grid;
 use std::alloc::Global;
 use std::marker::Model;
+use tab_stops::TabStops;
 
 /// The screen of a terminal, which contracts see as the state `Terminal`: its cells, its cursor, its
 /// margins, its tab stops, its pen and its modes.

@@ -1,6 +1,6 @@
 use Rattle.std.proofs.Common.{◌≡◌, ◌+◌, ◌≤◌, take, not}
 use Rattle.std.specs.List.{suffix_len}
-use Rattle.vt_screen.proofs.stops.TabStops.next_below.Given as goal
+use Rattle.tab_stops.proofs.stops.TabStops.next_below.Given as goal
 
 -- no stop was passed
 abbrev pub invariant-loop-column : goal.invariant-loop-column

@@ -6,9 +6,9 @@ use gate_model::NoMemory;
 use std::alloc::Global;
 use std::marker::Model;
 
-/// The tab stops of a line: of each column, whether a stop is there.
+/// The tab stops of a line. Contracts see a list with a flag for each column: whether a stop is there.
 #[derive(Drop)]
-pub(crate) struct TabStops {
+pub struct TabStops {
     held: Vec<bool>,
 }
 
@@ -21,8 +21,9 @@ impl Model for TabStops {
 }
 
 impl TabStops {
-    // A stop at every eighth column but the first. Refused for want of memory alone.
-    pub(crate) fn new(alloc: Global, columns: u16) -> Result<TabStops, NoMemory>
+    /// The stops of a line of so many columns at the start: one at every eighth column but the first (this project's
+    /// own rule). Refused for want of memory alone.
+    pub fn new(alloc: Global, columns: u16) -> Result<TabStops, NoMemory>
         ensures { IfOk result (λ s. s ≡ first_stops columns) }
     {
         let held = vec![in alloc; false; columns as usize]?;
@@ -31,16 +32,16 @@ impl TabStops {
         Ok(stops)
     }
 
-    // The same stops. Refused for want of memory alone.
-    pub(crate) fn copy(&self, alloc: Global) -> Result<TabStops, NoMemory>
+    /// The same stops. Refused for want of memory alone, and then nothing changed.
+    pub fn copy(&self, alloc: Global) -> Result<TabStops, NoMemory>
         ensures { IfOk result (λ s. s ≡ self.now) }
     {
         let held = Vec::from_slice(alloc, &self.held)?;
         Ok(TabStops { held })
     }
 
-    // The stops of the start, for as many columns.
-    pub(crate) fn reset(&mut self)
+    /// The stops of the start, for as many columns.
+    pub fn reset(&mut self)
         ensures { self.new ≡ first_stops (length self.old) }
     {
         let held = &mut self.held;
@@ -49,16 +50,16 @@ impl TabStops {
         }
     }
 
-    // HTS: a stop at column `x`.
-    pub(crate) fn set(&mut self, x: u16)
+    /// HTS (ECMA-48): a stop at column `x`, counted from 0.
+    pub fn set(&mut self, x: u16)
         requires { x < length self.old }
         ensures { self.new ≡ slice_set self.old x true }
     {
         self.held[x as usize] = true;
     }
 
-    // TBC: the stop at column `x` goes, or all go.
-    pub(crate) fn clear(&mut self, which: u16, x: u16)
+    /// TBC (ECMA-48): at 0 the stop at column `x` goes, at 3 all go, and any other value changes nothing.
+    pub fn clear(&mut self, which: u16, x: u16)
         requires { x < length self.old }
         ensures { self.new ≡ stops_cleared which x self.old }
     {
@@ -69,8 +70,9 @@ impl TabStops {
         }
     }
 
-    // HT and CHT: `n` times the first stop above, or the last column.
-    pub(crate) fn above(&self, n: u16, x: u16) -> u16
+    /// HT and CHT (ECMA-48): the column that `n` moves from column `x` lead to, each to the first stop above, or to the
+    /// last column where there is none.
+    pub fn above(&self, n: u16, x: u16) -> u16
         requires on_line { x < length self.now }
         requires few { length self.now ≤ 512 }
         ensures exact { result ≡ stops_above self.now n x }
@@ -86,8 +88,9 @@ impl TabStops {
         column as u16
     }
 
-    // CBT: `n` times the last stop below, or the first column.
-    pub(crate) fn below(&self, n: u16, x: u16) -> u16
+    /// CBT (ECMA-48): the column that `n` moves from column `x` lead to, each to the last stop below, or to the first
+    /// column where there is none.
+    pub fn below(&self, n: u16, x: u16) -> u16
         requires { x < length self.now }
         ensures exact { result ≡ stops_below self.now n x }
         ensures on_line { result ≤ x }

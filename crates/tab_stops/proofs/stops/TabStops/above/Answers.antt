@@ -1,8 +1,8 @@
 use Rattle.std.proofs.Common.{arith, sym, ◌∙◌, ap, ◌-◌, ◌≡◌, ℕ, length}
 use Rattle.gate_model.specs.terminal.TabStops.{stops_above}
-use Rattle.vt_screen.proofs.StopMoves.{above_more, above_none, above_stays}
-use Rattle.vt_screen.proofs.stops.TabStops.above.Goals as goal
-use Rattle.vt_screen.proofs.stops.TabStops.above.Goals.{then-loop-left-test+else-column-last, else-loop-left-test}
+use Rattle.tab_stops.proofs.StopMoves.{above_more, above_none, above_stays}
+use Rattle.tab_stops.proofs.stops.TabStops.above.Goals as goal
+use Rattle.tab_stops.proofs.stops.TabStops.above.Goals.{then-loop-left-test+else-column-last, else-loop-left-test}
 
 pub loop-left-preserved : goal.loop-left-preserved
 loop-left-preserved c =

@@ -1,6 +1,6 @@
 use Rattle.std.proofs.Common.{◌≡◌, ◌≤◌}
 use Rattle.gate_model.specs.terminal.TabStops.{stops_below}
-use Rattle.vt_screen.proofs.stops.TabStops.below.Given as goal
+use Rattle.tab_stops.proofs.stops.TabStops.below.Given as goal
 
 -- the moves that are left lead where all of them lead from the first column
 abbrev pub invariant-loop-left : goal.invariant-loop-left

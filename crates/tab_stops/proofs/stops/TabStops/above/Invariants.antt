@@ -1,6 +1,6 @@
 use Rattle.std.proofs.Common.{◌≡◌, ◌<◌, length}
 use Rattle.gate_model.specs.terminal.TabStops.{stops_above}
-use Rattle.vt_screen.proofs.stops.TabStops.above.Given as goal
+use Rattle.tab_stops.proofs.stops.TabStops.above.Given as goal
 
 -- the moves that are left lead where all of them lead from the first column
 abbrev pub invariant-loop-left : goal.invariant-loop-left

@@ -1,7 +1,7 @@
 use Rattle.std.proofs.Common.{arith, false, ap, length}
 use Rattle.std.proofs.lemmas.List.FromFn.{fill_by_all}
 use Rattle.gate_model.specs.terminal.Terminal.{is_first_stop}
-use Rattle.vt_screen.proofs.stops.TabStops.reset.Goals as goal
+use Rattle.tab_stops.proofs.stops.TabStops.reset.Goals as goal
 
 pub returns : goal.returns
 returns c =

@@ -1,7 +1,7 @@
 use Rattle.std.proofs.Common.{arith, sym, ◌∙◌, ap, ◌-◌, ◌≡◌, ℕ}
 use Rattle.gate_model.specs.terminal.TabStops.{stops_below}
-use Rattle.vt_screen.proofs.StopMoves.{below_more, below_none, below_stays}
-use Rattle.vt_screen.proofs.stops.TabStops.below.Goals as goal
+use Rattle.tab_stops.proofs.StopMoves.{below_more, below_none, below_stays}
+use Rattle.tab_stops.proofs.stops.TabStops.below.Goals as goal
 
 pub loop-left-preserved : goal.loop-left-preserved
 loop-left-preserved c =

@@ -1,6 +1,6 @@
 use Rattle.std.proofs.Common.{◌≡◌, ◌+◌, ◌-◌, ◌≤◌, length, drop, not}
 use Rattle.std.specs.List.{prefix_len}
-use Rattle.vt_screen.proofs.stops.TabStops.next_above.Given as goal
+use Rattle.tab_stops.proofs.stops.TabStops.next_above.Given as goal
 
 -- no stop was passed
 abbrev pub invariant-loop-column : goal.invariant-loop-column

@@ -1,6 +1,6 @@
 use Rattle.std.proofs.Common.{◌≡◌, ℕ, ◌<◌, get_or, length, false}
 use Rattle.gate_model.specs.terminal.Terminal.{is_first_stop}
-use Rattle.vt_screen.proofs.stops.TabStops.reset.Given as goal
+use Rattle.tab_stops.proofs.stops.TabStops.reset.Given as goal
 
 -- the columns that were passed have their stops
 abbrev pub invariant-loop-column : goal.invariant-loop-column
