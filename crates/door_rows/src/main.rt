@@ -8,6 +8,7 @@
 #![tactic(auto)]
 
 mod calls;
+mod service;
 mod topics;
 mod web;
 mod words;

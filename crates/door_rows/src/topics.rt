@@ -1,9 +1,9 @@
 //! Which door the clients of a file call at, and what is looked at.
 
 use crate::calls::{Call, Done, door, greeted};
-use crate::web;
 use crate::web::{ask_of, form, request, response, undialed};
 use crate::words::{bytes_of, push_escaped};
+use crate::{service, web};
 use anyhow::{Context, Result, bail};
 use guac_handshake::Greeted;
 use guac_handshake::memory::{MemDoor, MemPlace};
@@ -33,6 +33,7 @@ pub fn value<R: Threads + Wait + Copy + Send + 'static>(
         "forms" => form(rt, alloc, input),
         "undialed_forms" => undialed(rt, alloc, input),
         "member_forms" => web::member(rt, alloc, input),
+        "service" => service::answer(rt, alloc, input),
         _ => bail!("no such topic"),
     }
 }

@@ -1,11 +1,20 @@
-//! One connection of the service: it is a viewer's where its first byte is a digit.
+//! The service: it accepts connections, serves each in a job of its own, and keeps the table of sessions.
 //!
-//! `connection` is all that the service does for one connection; its contract says what was read and written
-//! (`ConnRun` of `specs/Connections.antt`), and has what `user_serve::serve_user` says of a viewer's.
+//! `connection` is all that it does for one connection: it is a viewer's where its first byte is a digit. Its
+//! contract says what was read and written (`ConnRun` of `specs/Connections.antt`), and has what
+//! `user_serve::serve_user` says of a viewer's. `top` does `serve` and gives every other list of words to
+//! `gate_script::command`.
 #![tactic(auto)]
 
+mod accepting;
+mod jobs;
 mod lookahead;
+mod notes;
+mod noting;
+mod program;
 mod routing;
+mod service;
 
 pub use lookahead::Lookahead;
+pub use program::{Host, top};
 pub use routing::{ConnEnd, connection};

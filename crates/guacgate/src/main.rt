@@ -1,17 +1,21 @@
 //! The program `guacgate`: it draws what a Telnet host sent, as the instructions of the Guacamole
-//! protocol that a viewer is given, and does scripts.
+//! protocol that a viewer is given, does scripts, and serves viewers over the network.
 //!
-//! All that it says of its input and its outputs is the contract of `gate_script::command`. What stands
-//! here is only the friendly edge: the words of the command line, `--help` and `--version`.
+//! All that it says of its input and its outputs is the contract of `gate_service::top`. What stands
+//! here is only the friendly edge: the words of the command line, `--help` and `--version`, and the ends of the
+//! system.
 #![tactic(auto)]
 
 ghost use Rattle.std.specs.Prelude.{◌≡◌, ◌≢◌, ◌⊎◌, map, option_map, string_bytes, IfErr, OnOk, OnErr};
-ghost use Rattle.guacgate.specs.Words.{text_asked, text_of};
+ghost use Rattle.guacgate.specs.Words.{asks_of_serve, text_asked, text_of};
 
 use gate_outside::{Failed, StdSink, StdSource, write_all};
-use gate_script::command;
+use gate_service::{Host, top};
+use real_ends::TcpNet;
 use std::env;
+use std::env::VarError;
 use std::io::ErrorKind;
+use std::net::{IpAddr, Ipv4Addr};
 use std::process::ExitCode;
 
 const VERSION: &str = "guacgate 0.1.0\n";
@@ -20,17 +24,19 @@ const HELP: &str = "guacgate shows a Telnet session as instructions of the Guaca
 
 usage: guacgate draw COLS ROWS < BYTES
        guacgate script [ENTRIES] < LINES
+       guacgate serve --seed HEX [--port PORT] [--log LEVEL]
 
 draw    draws what a Telnet host sent, read from standard input, on a screen of COLS columns (1 to
         512) and ROWS rows (1 to 256), at most 8192 cells
 script  does the lines of a script, as start 80 24 none, join owner, server 48690d0a, read 1; its
         session may have ENTRIES entries (1 to 2^40, 2^40 where none is given)
+serve   serves viewers on a port of this machine, 4822 where none is given; serve --help tells more
 
 The answers go to standard output, the instructions that each frame has, and those that a viewer is
 given, to standard error.
 
 status: 0 done, 2 faulty words, 3 a line of the script is outside the grammar, 4 reading failed, 5
-writing failed, 6 no memory, 7 the session is full
+writing failed, 6 no memory, 7 the session is full, 8 the port can't be listened on
 ";
 
 fn main(rt: HostRuntime) -> ExitCode {
@@ -42,10 +48,48 @@ fn main(rt: HostRuntime) -> ExitCode {
     if let Some(text) = asked(&words) {
         return ExitCode::from(told(write_all(&mut output, text.as_bytes())));
     }
-    let mut input = StdSource::new(rt.reader());
-    let mut errors = StdSink::new(rt.stderr());
-    let status = command(rt.alloc(), &words, &mut input, &mut output, &mut errors);
-    ExitCode::from(status)
+    if asks_of_serve(&words) {
+        return ExitCode::from(match serve_words::help(rt.alloc()) {
+            Ok(text) => told(write_all(&mut output, text.as_bytes())),
+            Err(_) => 6,
+        });
+    }
+    let address = match address(&rt) {
+        Ok(address) => address,
+        Err(status) => return ExitCode::from(status),
+    };
+    let mut host = Host {
+        source: StdSource::new(rt.reader()),
+        answers: output,
+        frames: StdSink::new(rt.stderr()),
+        net: TcpNet::new(rt, address),
+    };
+    ExitCode::from(top(&rt, rt.alloc(), &words, &mut host))
+}
+
+// Where `serve` listens: at the address that the environment names, else on this machine alone.
+fn address(rt: &HostRuntime) -> Result<IpAddr, u8>
+    ensures status { IfErr result (λ status. (status ≡ 2) ⊎ (status ≡ 6)) }
+{
+    match env::var(rt, "GUACGATE_ADDRESS") {
+        Ok(text) => text.as_str().parse::<IpAddr>().map_err(|_| 2),
+        Err(VarError::NotPresent) => Ok(IpAddr::V4(Ipv4Addr::LOCALHOST)),
+        Err(VarError::NotUnicode) => Err(2),
+        Err(VarError::OutOfMemory) => Err(6),
+    }
+}
+
+// Whether the words ask what `serve` is given.
+fn asks_of_serve(words: &[String]) -> bool
+    ensures { result ≡ asks_of_serve (map string_bytes words.now) }
+{
+    match words {
+        [name, word] => {
+            let word = word.as_str();
+            name.as_str() == "serve" && (word == "--help" || word == "-h")
+        }
+        _ => false,
+    }
 }
 
 // The words after the program's name.

@@ -1,0 +1,7 @@
+-- Which words are those of the service (this project's own): `serve`, and then its options.
+use Rattle.std.specs.Prelude.{ℕ, List, [], ◌∷◌, Option, Some, None, codes, bytes_eq, if◌then◌else◌}
+
+-- what stands behind `serve`, where that is the first word
+abbrev pub serve_options : List (List ℕ) → Option (List (List ℕ))
+serve_options [] = None
+serve_options (name ∷ options) = if bytes_eq name (codes "serve") then Some options else None

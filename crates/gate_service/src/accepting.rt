@@ -1,0 +1,119 @@
+//! Connections that come, and sessions that go.
+
+ghost use Rattle.std.specs.Prelude.{◌≡◌, ◌≤◌, IfErr};
+ghost use Rattle.gate_outside.specs.Edge.{Rose};
+
+use crate::jobs::{ConnectionJob, Ends, Pair};
+use crate::notes::{note_end, note_refused};
+use gate_model::{Instr, NoMemory};
+use gate_outside::{Bell, Dialer, Helper, Net, Sink, Spawner, write_all};
+use guac_instr::text_of;
+use id_table::LockedShelf;
+use log::Log;
+use service_door::{Session, sweep};
+use std::alloc::Global;
+use std::sync::{Arc, Mutex, Wait};
+use std::thread::Threads;
+
+/// What the service has for every connection: the table of sessions, a helper of its own, the one bell, and
+/// where it notes.
+#[derive(Drop)]
+pub(crate) struct Service<H, B, L> {
+    pub(crate) alloc: Global,
+    pub(crate) sessions: LockedShelf<Session>,
+    pub(crate) helper: H,
+    pub(crate) bell: B,
+    pub(crate) log: L,
+}
+
+impl<H, B, L> Service<H, B, L>
+where
+    H: Helper,
+    B: Bell + Send + 'static,
+    L: Log + Copy + Send + Drop + 'static,
+{
+    /// Accepts the next connection, takes the sessions that may leave out of the table, and serves the
+    /// connection in a job of its own. A fault comes only where the net's count rose.
+    pub(crate) fn accept_next<R, N>(&mut self, rt: &R, net: &mut N) -> Result<(), u8>
+    where
+        R: Threads + Wait + Copy + Send + Sync + 'static,
+        N: Net<Help = H>,
+        ensures fault { IfErr result (λ status. status ≡ 8) }
+        ensures cause { IfErr result (λ _. Rose (N.net_faults net.old) (N.net_faults net.new)) }
+        ensures later { N.net_faults net.old ≤ N.net_faults net.new }
+    {
+        let Ok((source, sink)) = net.accept(rt) else {
+            return Err(8);
+        };
+        self.sweep_all(rt);
+        self.serve(rt, source, sink);
+        Ok(())
+    }
+
+    // Takes all sessions that may leave out of the table.
+    fn sweep_all<R: Wait>(&mut self, rt: &R) {
+        for _ in rt.forever() {
+            let Some((id, mut session)) = sweep(rt, &self.sessions) else {
+                return;
+            };
+            note_end(&self.log, &id, session.newest());
+        }
+    }
+
+    // Starts the job of a connection. Where it isn't started the connection is sent `error` with 513, and where
+    // memory is wanting with 512.
+    fn serve<R>(&mut self, rt: &R, source: H::Input, sink: H::Output)
+    where
+        R: Threads + Wait + Copy + Send + Sync + 'static,
+    {
+        let Ok(ends) = Arc::new(self.alloc, Mutex::new(Some(Pair { source, sink }))) else {
+            note_refused(&self.log, 512);
+            return;
+        };
+        let status = match self.job(&ends) {
+            Ok(job) => {
+                let inner = *rt;
+                match self.helper.start(rt, move || job.run(&inner)) {
+                    Ok(()) => return,
+                    Err(_) => 513,
+                }
+            }
+            Err(NoMemory) => 512,
+        };
+        note_refused(&self.log, status);
+        let taken = ends.lock(rt).take();
+        if let Some(
+            Pair {
+                source: _,
+                mut sink,
+            },
+        ) = taken
+        {
+            refuse(self.alloc, &mut sink, status);
+        }
+    }
+
+    // The job of a connection.
+    fn job(
+        &mut self,
+        ends: &Ends<H::Input, H::Output>,
+    ) -> Result<ConnectionJob<H::Input, H::Output, H, B, L>, NoMemory> {
+        Ok(ConnectionJob {
+            alloc: self.alloc,
+            ends: Arc::try_clone(ends)?,
+            sessions: self.sessions.another(),
+            helper: self.helper.another(self.alloc)?,
+            bell: self.bell.another(self.alloc)?,
+            log: self.log,
+        })
+    }
+}
+
+// Sends `error` with the status, and finishes the connection.
+fn refuse<K: Sink>(alloc: Global, sink: &mut K, status: u16) {
+    let mut text = Vec::new(alloc);
+    if text_of(&Instr::Error { status }, &mut text).is_ok() {
+        let _ = write_all(sink, text.as_slice());
+    }
+    sink.finish();
+}

@@ -1,0 +1,88 @@
+//! The job of one connection.
+
+use crate::notes::note_visit;
+use crate::noting::NotingDoor;
+use crate::{ConnEnd, Lookahead, connection};
+use gate_outside::{Bell, Helper, Sink, Source};
+use guac_handshake::Door;
+use id_table::LockedShelf;
+use log::Log;
+use service_door::{ServiceDoor, Session};
+use shared_desk::Place;
+use std::alloc::Global;
+use std::sync::{Arc, Mutex, Wait};
+use std::thread::Threads;
+use user_serve::{UserEnd, Visit};
+
+/// The two ends of a connection.
+#[derive(Drop)]
+pub(crate) struct Pair<S, K> {
+    pub(crate) source: S,
+    pub(crate) sink: K,
+}
+
+/// The ends of a connection, which the job takes, or who couldn't start it.
+pub(crate) type Ends<S, K> = Arc<Mutex<Option<Pair<S, K>>>, Global>;
+
+/// The job that serves one connection.
+#[derive(Drop)]
+pub(crate) struct ConnectionJob<S, K, H, B, L> {
+    pub(crate) alloc: Global,
+    pub(crate) ends: Ends<S, K>,
+    pub(crate) sessions: LockedShelf<Session>,
+    pub(crate) helper: H,
+    pub(crate) bell: B,
+    pub(crate) log: L,
+}
+
+impl<S, K, H, B, L> ConnectionJob<S, K, H, B, L>
+where
+    S: Source + Send + 'static,
+    K: Sink + Send + 'static,
+    H: Helper,
+    B: Bell + Send + 'static,
+    L: Log + Copy + Drop,
+{
+    /// Serves the connection, and gives the place of a visit back to the door. At its end the connection is
+    /// finished.
+    pub(crate) fn run<R>(self, rt: &R)
+    where
+        R: Threads + Wait + Copy + Send + Sync + 'static,
+    {
+        let ConnectionJob {
+            alloc,
+            ends,
+            mut sessions,
+            mut helper,
+            bell,
+            log,
+        } = self;
+        let Some(Pair { source, sink }) = ends.lock(rt).take() else {
+            return;
+        };
+        let door = ServiceDoor::new(&mut sessions, &mut helper, &bell);
+        serve_at(rt, alloc, source, sink, door, &bell, log);
+    }
+}
+
+// Serves the connection at the door, finishes it, and gives the place of a visit back to the door.
+fn serve_at<R, S, K, D, B, L>(rt: &R, alloc: Global, source: S, sink: K, door: D, bell: &B, log: L)
+where
+    R: Threads + Wait + Copy + Send + Sync + 'static,
+    S: Source + Send,
+    K: Sink + Send,
+    D: Door<Place = Place> + Drop,
+    B: Bell + Send,
+    L: Log + Copy + Drop,
+{
+    let mut source = Lookahead::new(source);
+    let mut sink = sink;
+    let mut door = NotingDoor { door, log };
+    let end = connection(rt, alloc, &mut source, &mut sink, &mut door, bell);
+    sink.finish();
+    if let ConnEnd::User(UserEnd::Served(visit)) = end {
+        let Visit { id, place, .. } = visit;
+        note_visit(&log, id.as_str());
+        door.give(rt, id.as_str(), place);
+    }
+}

@@ -1,0 +1,88 @@
+//! A door that notes which sessions begin.
+
+ghost use Rattle.std.specs.Prelude.{Option};
+
+use crate::notes::{note_begun, note_undone};
+use gate_model::{Asked, Text};
+use gate_outside::{Counted, Way};
+use guac_handshake::{Ask, Begun, Door, Refused, Welcome};
+use log::Log;
+use std::alloc::Global;
+use std::sync::Wait;
+
+/// A door, and where it is noted which sessions begin at it. It tells what that door tells.
+#[derive(Drop)]
+pub(crate) struct NotingDoor<D, L> {
+    pub(crate) door: D,
+    pub(crate) log: L,
+}
+
+impl<D: Door, L: Log + Drop> Counted for NotingDoor<D, L> {
+    ghost dial_faults = { λ d. D.dial_faults d.door };
+
+    ghost start_faults = { λ d. D.start_faults d.door };
+
+    ghost draws = { λ d. D.draws d.door };
+}
+
+impl<D: Door, L: Log + Drop> Door for NotingDoor<D, L> {
+    type Place = D::Place;
+
+    type Pump = D::Pump;
+
+    type Sending = D::Sending;
+
+    ghost id_of = { λ name. D.id_of name };
+
+    ghost sessions = { λ d. D.sessions d.door };
+
+    ghost out = { λ d. D.out d.door };
+
+    ghost asked = { λ d. D.asked d.door };
+
+    ghost begun = { λ d ask welcome. D.begun d.door ask welcome };
+
+    fn known<R: Wait>(&mut self, rt: &R, name: &str) -> bool {
+        self.door.known(rt, name)
+    }
+
+    fn open<R: Wait>(
+        &mut self,
+        rt: &R,
+        alloc: Global,
+        ask: &Ask,
+    ) -> Result<Begun<D::Place, D::Pump, D::Sending>, Refused> {
+        let opened = self.door.open(rt, alloc, ask);
+        if let Ok(begun) = &opened {
+            note_begun(&self.log, begun.welcome.id.as_str());
+        }
+        opened
+    }
+
+    fn way(&mut self) -> Way {
+        self.door.way()
+    }
+
+    fn note(&mut self) {
+        self.door.note();
+    }
+
+    fn undo<R: Wait>(&mut self, rt: &R, id: &Text) {
+        note_undone(&self.log, id.as_str());
+        self.door.undo(rt, id);
+    }
+
+    fn join<R: Wait>(
+        &mut self,
+        rt: &R,
+        alloc: Global,
+        name: &str,
+        role: Asked,
+    ) -> Result<Welcome<D::Place>, Refused> {
+        self.door.join(rt, alloc, name, role)
+    }
+
+    fn give<R: Wait>(&mut self, rt: &R, id: &str, place: D::Place) {
+        self.door.give(rt, id, place);
+    }
+}

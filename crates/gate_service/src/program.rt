@@ -1,0 +1,89 @@
+//! What the program does.
+
+ghost use Rattle.std.specs.Prelude.{◌≡◌, ◌≤◌, ◌↔◌, ◌⊎◌, IfSome, None, Some, map, option_map, string_bytes};
+ghost use Rattle.gate_outside.specs.Edge.{Rose};
+ghost use Rattle.gate_script.specs.Outcomes.{Outcome, Ran};
+ghost use Rattle.script_lines.specs.declared.form.Form.{Form as Forms};
+ghost use Rattle.script_lines.specs.Words.{form_of};
+ghost use Rattle.serve_words.specs.Given.{options_given};
+ghost use Rattle.gate_service.specs.Words.{serve_options};
+
+use crate::service::serve;
+use gate_outside::{Net, Sink, Source};
+use gate_script::command;
+use std::alloc::Global;
+use std::sync::Wait;
+use std::thread::Threads;
+
+/// The ends of the program: its input, where answers and frames go, and where connections come from.
+#[derive(Drop)]
+pub struct Host<S, A, F, N> {
+    pub source: S,
+    pub answers: A,
+    pub frames: F,
+    pub net: N,
+}
+
+/// Does what the words after the program's name say, and answers the status. The words `serve` and its options are
+/// the service's: it ends with 2, where they give no options, 6 or 8 alone, and calls neither the source nor a sink.
+/// All other words are those of `gate_script::command`, with its promise, and the net isn't called.
+pub fn top<R, S, A, F, N>(
+    rt: &R,
+    alloc: Global,
+    words: &[String],
+    host: &mut Host<S, A, F, N>,
+) -> u8
+where
+    R: Eprint + Threads + Wait + Copy + Send + Sync + Drop + 'static,
+    S: Source,
+    A: Sink,
+    F: Sink,
+    N: Net,
+
+    // The words of `serve`.
+    ensures serve_statuses { IfSome (serve_options (map string_bytes words.now)) (λ options. (result ≡ 2) ⊎ (result ≡ 6) ⊎ (result ≡ 8)) }
+    ensures serve_usage { IfSome (serve_options (map string_bytes words.now)) (λ options. result ≡ 2 → options_given options ≡ None) }
+    ensures serve_refused { IfSome (serve_options (map string_bytes words.now)) (λ options. options_given options ≡ None → (result ≡ 2) ⊎ (result ≡ 6)) }
+    ensures serve_nothing { IfSome (serve_options (map string_bytes words.now)) (λ options. result ≡ 2 → host.new.net ≡ host.old.net) }
+    ensures serve_ends { IfSome (serve_options (map string_bytes words.now)) (λ options. (host.new.source ≡ host.old.source) × (host.new.answers ≡ host.old.answers) × (host.new.frames ≡ host.old.frames)) }
+
+    // All other words: the contract of `command`.
+    ensures usage { serve_options (map string_bytes words.now) ≡ None → (form_of (map string_bytes words.now) ≡ None) ↔ (result ≡ 2) }
+    ensures nothing { serve_options (map string_bytes words.now) ≡ None → result ≡ 2 → (S.left host.new.source ≡ S.left host.old.source) × (A.written host.new.answers ≡ A.written host.old.answers) × (F.written host.new.frames ≡ F.written host.old.frames) }
+    ensures outcome { serve_options (map string_bytes words.now) ≡ None → (form : Forms) → form_of (map string_bytes words.now) ≡ Some form →
+        Ran (S.left host.old.source) (S.left host.new.source) (A.written host.old.answers) (A.written host.new.answers) (F.written host.old.frames) (F.written host.new.frames)
+        (Outcome result form (S.left host.new.source)) }
+    ensures net { serve_options (map string_bytes words.now) ≡ None → host.new.net ≡ host.old.net }
+
+    // A fault is answered only where the count of the source, of a sink or of the net rose in this call.
+    ensures read_fault { result ≡ 4 → Rose (S.faults host.old.source) (S.faults host.new.source) }
+    ensures write_fault { result ≡ 5 → Rose (A.faults host.old.answers) (A.faults host.new.answers) ⊎ Rose (F.faults host.old.frames) (F.faults host.new.frames) }
+    ensures net_fault { result ≡ 8 → Rose (N.net_faults host.old.net) (N.net_faults host.new.net) }
+    ensures later_source { S.faults host.old.source ≤ S.faults host.new.source }
+    ensures later_answers { A.faults host.old.answers ≤ A.faults host.new.answers }
+    ensures later_frames { F.faults host.old.frames ≤ F.faults host.new.frames }
+    ensures later_net { N.net_faults host.old.net ≤ N.net_faults host.new.net }
+{
+    match serve_options(words) {
+        Some(options) => serve(rt, alloc, options, &mut host.net),
+        None => command(
+            alloc,
+            words,
+            &mut host.source,
+            &mut host.answers,
+            &mut host.frames,
+        ),
+    }
+}
+
+// What stands behind `serve`, where that is the first word.
+fn serve_options(words: &[String]) -> Option<&[String]>
+    ensures { option_map (λ options. map string_bytes options.now) result ≡ serve_options (map string_bytes words.now) }
+{
+    let (name, options) = words.split_first()?;
+    if name.as_str() == "serve" {
+        Some(options)
+    } else {
+        None
+    }
+}
