@@ -1,7 +1,7 @@
 //! Clients at the door of the service, in turn, over a table and a helper in memory.
 
 use crate::calls::{DRAW, ROOM, sink, source};
-use crate::words::{bytes_of, push_escaped};
+use row_words::{bytes_of, push_escaped};
 use anyhow::{Context, Result};
 use gate_outside::{
     MemBell, MemClock, MemDialer, MemDice, MemHelper, MemSink, MemSource, MemSpawner,

@@ -1,7 +1,7 @@
 -- How one request is answered (this project's own).
 use Rattle.std.specs.Prelude.{◌≡◌, ℕ, Bool, List, [], Option, Result, Ok, Err}
 use Rattle.guac_handshake.specs.Doors.{Sessions}
-use Rattle.guac_handshake.specs.Opening.{HasOpened}
+use Rattle.guac_handshake.specs.Opening.{HasMoved, HasOpened}
 use Rattle.guac_handshake.specs.declared.form_refusal.FormRefusal.{FormRefusal}
 use Rattle.guac_handshake.specs.declared.request.Request.{Request}
 use Rattle.guac_handshake.specs.declared.welcome.Welcome.{Welcome}
@@ -9,6 +9,7 @@ use Rattle.http_front.specs.declared.response.Response.{Response}
 use Rattle.id_table.specs.Maps.{Same, Shelved, Told}
 use Rattle.shared_desk.specs.declared.place.Place.{Place}
 use Rattle.http_tunnel.specs.Connects.{AnswersOpened, ConnectOf, out_after}
+use Rattle.http_tunnel.specs.Places.{HasGiven, IsOfTunnel}
 use Rattle.http_tunnel.specs.Statuses.{code_of, status_of}
 use Rattle.http_tunnel.specs.Tunnels.{ReadOf, less_one}
 use Rattle.http_tunnel.specs.Writes.{WriteOf}
@@ -30,12 +31,13 @@ without_body (Err refusal) = Err refusal
 -- what was done for a request that asks this: of the door its IDs, its sessions, its draws, what it was asked and the
 -- places that are out, and what the shelf tells, each before and after it
 abbrev pub Serves : (List ℕ → Option (List ℕ)) → Option Sessions → Option Sessions → Option (ℕ → List ℕ) → Option (List Request) → Option (List Request) → Option ℕ → Option ℕ → Option (Shelved Tunnel) → Option (Shelved Tunnel) → List ℕ → Result (List ℕ) Refusal → Route → Type 0
-Serves id_of sessions sessions_new draws asked asked_new out out_new told told_new body answered (route.Refused refusal) = (answered ≡ Err refusal) × (asked_new ≡ asked) × (out_new ≡ out) × Told told told_new Same
+Serves id_of sessions sessions_new draws asked asked_new out out_new told told_new body answered (route.Refused refusal) = (answered ≡ Err refusal) × (asked_new ≡ asked) × (out_new ≡ out) × (sessions_new ≡ sessions) × Told told told_new Same
 Serves id_of sessions sessions_new draws asked asked_new out out_new told told_new body answered route.Connect =
-    (opened : Result (Welcome Place) FormRefusal) × HasOpened id_of sessions sessions_new draws asked asked_new body opened × AnswersOpened opened answered × (out_new ≡ out_after answered out) × Told told told_new (ConnectOf opened answered)
-Serves id_of sessions sessions_new draws asked asked_new out out_new told told_new body answered (route.Read id) = (back : Bool) × (out_new ≡ less_one back out) × Told told told_new (ReadOf id back answered)
+    (opened : Result (Welcome Place) FormRefusal) × HasOpened id_of sessions sessions_new draws asked asked_new body opened × AnswersOpened opened answered × (out_new ≡ out_after answered out) × Told sessions sessions_new (HasMoved id_of opened) × Told told told_new (ConnectOf opened answered)
+Serves id_of sessions sessions_new draws asked asked_new out out_new told told_new body answered (route.Read id) =
+    (back : Bool) × (out_new ≡ less_one back out) × HasGiven id_of (IsOfTunnel id told) back sessions sessions_new × Told told told_new (ReadOf id back answered)
 Serves id_of sessions sessions_new draws asked asked_new out out_new told told_new body answered (route.Write id) =
-    (back : Bool) × (done : Result (Unit {0}) Refusal) × (answered ≡ without_body done) × (out_new ≡ less_one back out) × Told told told_new (WriteOf id body back done)
+    (back : Bool) × (done : Result (Unit {0}) Refusal) × (answered ≡ without_body done) × (out_new ≡ less_one back out) × HasGiven id_of (IsOfTunnel id told) back sessions sessions_new × Told told told_new (WriteOf id body back done)
 
 -- the refusals of a tunnel that may be there
 abbrev pub IsTunnelRefusal : Refusal → Type 0

@@ -2,7 +2,8 @@
 
 ghost use Rattle.std.specs.Prelude.{◌≡◌, ◌≤◌, ◌⊎◌, IfErr, IfOk, Err, Result};
 ghost use Rattle.gate_outside.specs.Edge.{Rose};
-ghost use Rattle.guac_handshake.specs.Opening.{HasOpened};
+ghost use Rattle.guac_handshake.specs.Doors.{KeepsIds};
+ghost use Rattle.guac_handshake.specs.Opening.{HasMoved, HasOpened};
 ghost use Rattle.guac_handshake.specs.declared.form_refusal.FormRefusal.{FormRefusal};
 ghost use Rattle.guac_handshake.specs.declared.welcome.Welcome.{Welcome};
 ghost use Rattle.id_table.specs.Maps.{Told};
@@ -63,6 +64,7 @@ fn add_tunnel<R: Wait, T: Shelf<Tunnel>, D: Door<Place = Place>, X: Dice>(
     ensures added { Told (T.told tunnels.old) (T.told tunnels.new) (IsAdded IsId welcome result) }
     ensures kind { IfErr result (λ refused. (refused ≡ Conflict) ⊎ (refused ≡ NoMemory)) }
     ensures out { D.out door.new ≡ out_added result (D.out door.old) }
+    ensures sessions { Told (D.sessions door.old) (D.sessions door.new) (KeepsIds (D.id_of welcome.id)) }
     ensures asked { D.asked door.new ≡ D.asked door.old }
     ensures dials { D.dial_faults door.new ≡ D.dial_faults door.old }
     ensures starts { D.start_faults door.new ≡ D.start_faults door.old }
@@ -96,7 +98,7 @@ where
     X: Dice,
     requires { AreHome (T.told tunnels.old) }
     ensures home { AreHome (T.told tunnels.new) }
-    ensures connected { (opened : Result (Welcome Place) FormRefusal) × HasOpened D.id_of (D.sessions door.old) (D.sessions door.new) (D.draws door.old) (D.asked door.old) (D.asked door.new) body.now opened × AnswersOpened opened result × Told (T.told tunnels.old) (T.told tunnels.new) (ConnectOf opened result) }
+    ensures connected { (opened : Result (Welcome Place) FormRefusal) × HasOpened D.id_of (D.sessions door.old) (D.sessions door.new) (D.draws door.old) (D.asked door.old) (D.asked door.new) body.now opened × AnswersOpened opened result × Told (D.sessions door.old) (D.sessions door.new) (HasMoved D.id_of opened) × Told (T.told tunnels.old) (T.told tunnels.new) (ConnectOf opened result) }
     ensures out { D.out door.new ≡ out_after result (D.out door.old) }
     ensures dial { result ≡ Err Dial → Rose (D.dial_faults door.old) (D.dial_faults door.new) }
     ensures busy { result ≡ Err Busy → Rose (D.start_faults door.old) (D.start_faults door.new) }

@@ -2,6 +2,7 @@
 
 ghost use Rattle.std.specs.Prelude.{◌≡◌, ◌||◌, ℕ, List, Bool, true, IfErr, IfSome, Some, None, Result};
 ghost use Rattle.id_table.specs.Maps.{Changed, IsLent, Told};
+ghost use Rattle.http_tunnel.specs.Places.{HasGiven, IsOfTunnel};
 ghost use Rattle.http_tunnel.specs.Reads.{HasRead};
 ghost use Rattle.http_tunnel.specs.Requests.{IsTunnelRefusal};
 ghost use Rattle.http_tunnel.specs.Tunnels.{AreHome, GivesReader, HasBegun, HasEnded, HasEndedOf, HasTaken, HasTakenFrom, IsAnswered, ReadOf, answer_with, is_end, is_last, kept_with, less_one, refused_read};
@@ -130,7 +131,7 @@ fn remove_read<R: Wait, T: Shelf<Tunnel>, D: Door<Place = Place>>(
     reader: ReaderPass,
 )
     requires { IfSome (T.told tunnels.old) (λ m. (t : Tunnel) × (m id.now ≡ Some (Some t))) }
-    ensures { (back : Bool) × (D.out door.new ≡ less_one back (D.out door.old)) × Told (T.told tunnels.old) (T.told tunnels.new) (λ m n. (back ≡ true) × Changed id.now None m n) }
+    ensures { (back : Bool) × (D.out door.new ≡ less_one back (D.out door.old)) × HasGiven D.id_of (IsOfTunnel id.now (T.told tunnels.old)) back (D.sessions door.old) (D.sessions door.new) × Told (T.told tunnels.old) (T.told tunnels.new) (λ m n. (back ≡ true) × Changed id.now None m n) }
 {
     match tunnels.remove(rt, id) {
         Some(tunnel) => give(rt, door, tunnel, reader),
@@ -166,7 +167,7 @@ fn end_lent<R: Wait, T: Shelf<Tunnel>, D: Door<Place = Place>>(
     left: Left,
 )
     requires { IfSome (T.told tunnels.old) (IsLent id.now) }
-    ensures { (back : Bool) × (D.out door.new ≡ less_one back (D.out door.old)) × Told (T.told tunnels.old) (T.told tunnels.new) (HasEndedOf id.now tunnel reader left back) }
+    ensures { (back : Bool) × (D.out door.new ≡ less_one back (D.out door.old)) × HasGiven D.id_of (λ name. IfSome (T.told tunnels.old) (λ _. name ≡ tunnel.id)) back (D.sessions door.old) (D.sessions door.new) × Told (T.told tunnels.old) (T.told tunnels.new) (HasEndedOf id.now tunnel reader left back) }
 {
     if goes(&left, &tunnel) {
         tunnels.back(rt, id, tunnel);
@@ -188,7 +189,7 @@ fn end_read<R: Wait, T: Shelf<Tunnel>, D: Door<Place = Place>>(
     left: Left,
 )
     requires { IfSome (T.told tunnels.old) (λ m. (t : Tunnel) × (m id.now ≡ Some (Some t))) }
-    ensures { (back : Bool) × (D.out door.new ≡ less_one back (D.out door.old)) × Told (T.told tunnels.old) (T.told tunnels.new) (HasEnded id.now reader left back) }
+    ensures { (back : Bool) × (D.out door.new ≡ less_one back (D.out door.old)) × HasGiven D.id_of (IsOfTunnel id.now (T.told tunnels.old)) back (D.sessions door.old) (D.sessions door.new) × Told (T.told tunnels.old) (T.told tunnels.new) (HasEnded id.now reader left back) }
 {
     match tunnels.lend(rt, id) {
         Some(tunnel) => end_lent(rt, tunnels, id, door, tunnel, reader, left),
@@ -251,7 +252,7 @@ pub(crate) fn read<R: Wait, T: Shelf<Tunnel>, D: Door<Place = Place>, B: Bell>(
     requires { AreHome (T.told tunnels.old) }
     ensures home { AreHome (T.told tunnels.new) }
     ensures kind { IfErr result IsTunnelRefusal }
-    ensures read { (back : Bool) × (D.out door.new ≡ less_one back (D.out door.old)) × Told (T.told tunnels.old) (T.told tunnels.new) (ReadOf id.now back result) }
+    ensures read { (back : Bool) × (D.out door.new ≡ less_one back (D.out door.old)) × HasGiven D.id_of (IsOfTunnel id.now (T.told tunnels.old)) back (D.sessions door.old) (D.sessions door.new) × Told (T.told tunnels.old) (T.told tunnels.new) (ReadOf id.now back result) }
 {
     match begin_read(rt, alloc, tunnels, id, bell) {
         Some(lent) => {

@@ -3,6 +3,7 @@
 ghost use Rattle.std.specs.Prelude.{◌≡◌, ◌≤◌, Bool, true, None, IfErr, IfSome, is_some, length};
 ghost use Rattle.gate_model.specs.Limits.{most_acts};
 ghost use Rattle.id_table.specs.Maps.{Changed, IsLent, Told};
+ghost use Rattle.http_tunnel.specs.Places.{HasGiven, IsOfTunnel};
 ghost use Rattle.http_tunnel.specs.Requests.{IsTunnelRefusal};
 ghost use Rattle.http_tunnel.specs.Tunnels.{AreHome, less_one};
 ghost use Rattle.http_tunnel.specs.Writes.{HasLeft, HasPut, WriteOf, WritesActs, WritesBody, WritesWish, is_ended, refused_write, without_value};
@@ -139,7 +140,7 @@ fn remove_written<R: Wait, T: Shelf<Tunnel>, D: Door<Place = Place>>(
 )
     requires lent { IfSome (T.told tunnels.old) (IsLent id.now) }
     requires home { IfSome (T.told tunnels.old) (λ m. is_some tunnel.reader ≡ true) }
-    ensures { (back : Bool) × (D.out door.new ≡ less_one back (D.out door.old)) × Told (T.told tunnels.old) (T.told tunnels.new) (λ m n. (back ≡ true) × Changed id.now None m n) }
+    ensures { (back : Bool) × (D.out door.new ≡ less_one back (D.out door.old)) × HasGiven D.id_of (λ name. IfSome (T.told tunnels.old) (λ _. name ≡ tunnel.id)) back (D.sessions door.old) (D.sessions door.new) × Told (T.told tunnels.old) (T.told tunnels.new) (λ m n. (back ≡ true) × Changed id.now None m n) }
 {
     let here = tunnel.reader.is_some();
     tunnel.gone = true;
@@ -163,7 +164,7 @@ fn end_write<R: Wait, T: Shelf<Tunnel>, D: Door<Place = Place>>(
 )
     requires lent { IfSome (T.told tunnels.old) (IsLent id.now) }
     requires home { IfSome (T.told tunnels.old) (λ m. is_some tunnel.reader ≡ true) }
-    ensures { (back : Bool) × (D.out door.new ≡ less_one back (D.out door.old)) × Told (T.told tunnels.old) (T.told tunnels.new) (HasPut id.now tunnel ended back) }
+    ensures { (back : Bool) × (D.out door.new ≡ less_one back (D.out door.old)) × HasGiven D.id_of (λ name. IfSome (T.told tunnels.old) (λ _. name ≡ tunnel.id)) back (D.sessions door.old) (D.sessions door.new) × Told (T.told tunnels.old) (T.told tunnels.new) (HasPut id.now tunnel ended back) }
 {
     if ended {
         remove_written(rt, tunnels, id, door, tunnel);
@@ -185,7 +186,7 @@ pub(crate) fn write<R: Wait, T: Shelf<Tunnel>, D: Door<Place = Place>, B: Bell>(
     requires { AreHome (T.told tunnels.old) }
     ensures home { AreHome (T.told tunnels.new) }
     ensures kind { IfErr result IsTunnelRefusal }
-    ensures wrote { (back : Bool) × (D.out door.new ≡ less_one back (D.out door.old)) × Told (T.told tunnels.old) (T.told tunnels.new) (WriteOf id.now body.now back result) }
+    ensures wrote { (back : Bool) × (D.out door.new ≡ less_one back (D.out door.old)) × HasGiven D.id_of (IsOfTunnel id.now (T.told tunnels.old)) back (D.sessions door.old) (D.sessions door.new) × Told (T.told tunnels.old) (T.told tunnels.new) (WriteOf id.now body.now back result) }
 {
     match tunnels.lend(rt, id) {
         Some(lent) => {
