@@ -1,0 +1,195 @@
+"""What stands around a page in the tests: a Telnet server, the gateway, and a stand-in for the web server."""
+import contextlib
+import http.client
+import http.server
+import pathlib
+import shutil
+import socket
+import subprocess
+import threading
+import time
+
+TOP = pathlib.Path(__file__).resolve().parent.parent.parent
+GATEWAY = TOP / "crates/guacgate/out/guacgate"
+LOOK = TOP / "crates/look/out/look"
+ADDRESS = "127.0.0.1"
+
+
+def free_port():
+    with socket.create_server((ADDRESS, 0)) as it:
+        return it.getsockname()[1]
+
+
+def telnetd():
+    return shutil.which("telnetd") or shutil.which("/usr/sbin/telnetd")
+
+
+class TelnetServer:
+    """Starts Debian's telnetd for each connection, as inetd does. `shell` is what a user gets."""
+
+    def __init__(self, shell):
+        self.shell = shell
+        self.listener = socket.create_server((ADDRESS, 0))
+        self.port = self.listener.getsockname()[1]
+        self.processes = []
+        threading.Thread(target=self.serve, daemon=True).start()
+
+    def serve(self):
+        with contextlib.suppress(OSError):
+            while True:
+                connection, _ = self.listener.accept()
+                with connection:
+                    self.processes.append(
+                        subprocess.Popen([telnetd(), "-E", self.shell], stdin=connection, stdout=connection, stderr=subprocess.DEVNULL, env={"PATH": "/usr/bin:/bin", "PS1": "$ ", "ENV": "", "HOME": "/"})
+                    )
+
+    def close(self):
+        self.listener.close()
+        for process in self.processes:
+            process.terminate()
+            process.wait()
+
+
+class Gateway:
+    """The gateway, which listens on a port of this machine."""
+
+    def __init__(self, seed):
+        self.port = free_port()
+        self.process = subprocess.Popen([GATEWAY, "serve", "--seed", seed, "--port", str(self.port)], stderr=subprocess.DEVNULL)
+        for _ in range(100):
+            with contextlib.suppress(OSError), socket.create_connection((ADDRESS, self.port)):
+                return
+            time.sleep(0.1)
+        raise RuntimeError("the gateway doesn't listen")
+
+    def close(self):
+        self.process.terminate()
+        self.process.wait()
+
+
+class WebServer:
+    """Hands out the page's files, and hands requests of `/tunnel` on. It keeps the texts that reads were given, by
+    tunnel."""
+
+    def __init__(self, gateway_port):
+        self.texts = {}
+        owner = self
+
+        class Handler(http.server.SimpleHTTPRequestHandler):
+            def __init__(self, *given):
+                super().__init__(*given, directory=TOP / "web")
+
+            def log_message(self, *_):
+                pass
+
+            def do_GET(self):
+                if self.path.partition("?")[0] == "/tunnel":
+                    self.hand_on()
+                else:
+                    super().do_GET()
+
+            def do_POST(self):
+                self.hand_on()
+
+            def hand_on(self):
+                body = self.rfile.read(int(self.headers.get("Content-Length", 0)))
+                gateway = http.client.HTTPConnection(ADDRESS, gateway_port)
+                try:
+                    gateway.request(self.command, self.path, body)
+                    answer = gateway.getresponse()
+                    text = answer.read()
+                except OSError:
+                    return self.send_error(502)
+                owner.note(self.path, answer.status, text)
+                self.send_response(answer.status)
+                for name, value in answer.getheaders():
+                    self.send_header(name, value)
+                self.end_headers()
+                self.wfile.write(text)
+
+        self.server = http.server.ThreadingHTTPServer((ADDRESS, 0), Handler)
+        self.server.daemon_threads = True
+        self.port = self.server.server_port
+        threading.Thread(target=self.server.serve_forever, daemon=True).start()
+
+    def note(self, path, status, text):
+        _, _, query = path.partition("?")
+        form, _, tunnel = query.partition(":")
+        if status == 200 and form == "read":
+            self.texts.setdefault(tunnel.split(":")[0], []).append(text.removesuffix(b"0.;"))
+        elif status == 200 and form == "connect":
+            self.texts.setdefault(text.decode(), [])
+
+    def given(self, tunnel):
+        return b"".join(self.texts[tunnel])
+
+    def close(self):
+        self.server.shutdown()
+
+
+def element(text):
+    return f"{len(text)}.{text}"
+
+
+def instruction(*elements):
+    return (",".join(map(element, elements)) + ";").encode()
+
+
+class Viewer:
+    """A viewer by the Guacamole protocol over TCP, who reads all that it is given."""
+
+    def __init__(self, port, *parts):
+        self.socket = socket.create_connection((ADDRESS, port))
+        for part in parts:
+            self.socket.sendall(part)
+        self.text = b""
+        self.first = self.next()
+        while self.first.startswith(b"4.args"):
+            self.first = self.next()
+        threading.Thread(target=self.read, daemon=True).start()
+
+    def next(self):
+        """The next instruction of the greeting, none of which has a `;` in a value."""
+        got = b""
+        while not got.endswith(b";"):
+            byte = self.socket.recv(1)
+            if not byte:
+                return got
+            got += byte
+        return got
+
+    def read(self):
+        with contextlib.suppress(OSError):
+            while piece := self.socket.recv(65536):
+                self.text += piece
+
+    @property
+    def id(self):
+        return self.first.decode().removeprefix("5.ready,37.").removesuffix(";")
+
+    def close(self):
+        self.socket.close()
+
+
+def owner(gateway_port, telnet_port, sharing):
+    """A viewer that opens a session."""
+    ask = instruction("connect", "VERSION_1_1_0", ADDRESS, str(telnet_port), "", "", sharing)
+    return Viewer(gateway_port, instruction("select", "telnet"), instruction("size", "640", "384", "96"), ask)
+
+
+def picture_at(stream, stamp):
+    """The pixels that the gateway's own canvas shows of a stream at a stamp: width, height, and the bytes of red,
+    green and blue, from `look`."""
+    ran = subprocess.run([LOOK, "ppm", "stamp", stamp], input=stream, stdout=subprocess.PIPE, stderr=subprocess.DEVNULL, check=True)
+    kind, width, height, most, pixels = ran.stdout.split(None, 4) if ran.stdout[:2] == b"P3" else binary(ran.stdout)
+    return int(width), int(height), pixels
+
+
+def binary(text):
+    """The parts of a binary pixmap: the head's four words end with one white space."""
+    words, at = [], 0
+    while len(words) < 4:
+        end = next(k for k in range(at, len(text)) if text[k : k + 1].isspace())
+        words.append(text[at:end])
+        at = end + 1
+    return (*words, text[at:])

@@ -1,0 +1,88 @@
+"""A browser that is steered through chromedriver, by the requests of WebDriver (W3C) that the tests need."""
+import json
+import subprocess
+import time
+import urllib.request
+
+ELEMENT = "element-6066-11e4-a52e-4f735466cecf"
+
+
+class Driver:
+    """A running chromedriver. It ends with the `with` block."""
+
+    def __init__(self, port):
+        self.port = port
+
+    def __enter__(self):
+        self.process = subprocess.Popen(["chromedriver", f"--port={self.port}"], stdout=subprocess.DEVNULL, stderr=subprocess.DEVNULL)
+        for _ in range(100):
+            try:
+                self.call("GET", "/status")
+                return self
+            except OSError:
+                time.sleep(0.1)
+        raise RuntimeError("chromedriver doesn't answer")
+
+    def __exit__(self, *_):
+        self.process.terminate()
+        self.process.wait()
+
+    def call(self, method, path, given=None):
+        body = json.dumps(given).encode() if given is not None else None
+        request = urllib.request.Request(f"http://127.0.0.1:{self.port}{path}", data=body, method=method)
+        with urllib.request.urlopen(request, timeout=60) as answer:
+            return json.load(answer)["value"]
+
+
+class Page:
+    """A page in a browser of its own, without a window."""
+
+    ARGUMENTS = ["--headless=new", "--no-sandbox", "--disable-gpu", "--disable-dev-shm-usage", "--window-size=1000,700"]
+
+    def __init__(self, driver, address):
+        self.driver = driver
+        options = {"goog:chromeOptions": {"args": self.ARGUMENTS}}
+        made = driver.call("POST", "/session", {"capabilities": {"alwaysMatch": options}})
+        self.path = f"/session/{made['sessionId']}"
+        self.post("/url", url=address)
+
+    def post(self, path, **given):
+        return self.driver.call("POST", self.path + path, given)
+
+    def close(self):
+        self.driver.call("DELETE", self.path)
+
+    def run(self, script, *arguments):
+        return self.post("/execute/sync", script=script, args=list(arguments))
+
+    def until(self, script, wanted, seconds=20):
+        """Waits until the script gives what is wanted, and answers what it gave last."""
+        end = time.time() + seconds
+        while (found := self.run(script)) != wanted and time.time() < end:
+            time.sleep(0.05)
+        return found
+
+    def element(self, selector):
+        return self.post("/element", using="css selector", value=selector)[ELEMENT]
+
+    def click(self, selector):
+        self.post(f"/element/{self.element(selector)}/click")
+
+    def fill(self, selector, text):
+        element = self.element(selector)
+        self.post(f"/element/{element}/clear")
+        self.post(f"/element/{element}/value", text=text)
+
+    def type(self, *keys):
+        """Presses and lets go of each key, one after the other, on whatever has the focus. A key that is a list is
+        held from its first to its last."""
+        steps = []
+        for key in keys:
+            held = key if isinstance(key, list) else [key]
+            steps += [{"type": "keyDown", "value": it} for it in held]
+            steps += [{"type": "keyUp", "value": it} for it in reversed(held)]
+        self.post("/actions", actions=[{"type": "key", "id": "keyboard", "actions": steps}])
+
+    def screenshot(self):
+        import base64
+        return base64.b64decode(self.driver.call("GET", self.path + "/screenshot"))
