@@ -10,4 +10,5 @@ pub mod Touching
 pub mod Telling
 pub mod InMemory
 mod AskFacts
+mod Undone
 pub mod Pairs

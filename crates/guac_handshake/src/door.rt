@@ -8,7 +8,7 @@ ghost use Rattle.guac_handshake.specs.declared.request.Request.{Request};
 ghost use Rattle.guac_handshake.specs.declared.request.Request.TheVariants.{Begin as begin_request, Join as join_request};
 ghost use Rattle.guac_handshake.specs.declared.welcome.Welcome.{Welcome};
 
-use crate::{Ask, Begun, Job, Refused, Seat, Welcome};
+use crate::{Ask, Begun, Job, Recorder, Refused, Seat, Welcome};
 use gate_model::{Asked, Text};
 use gate_outside::{Counted, Way, start_by};
 use std::alloc::Global;
@@ -26,6 +26,9 @@ pub trait Door: Counted {
 
     /// The job that sends to a session's host.
     type Sending: Job;
+
+    /// The job that records a session.
+    type Recording: Job;
 
     /// The ID that a name gives, if any.
     ghost id_of: { List ℕ → Option (List ℕ) };
@@ -51,13 +54,14 @@ pub trait Door: Counted {
         ensures out { out self.new ≡ out self.old }
         ensures asked { asked self.new ≡ asked self.old };
 
-    /// Dials, and makes a session that can be joined, whose jobs aren't started.
+    /// Dials, and makes a session that can be joined, whose jobs aren't started. A recorder that can't be had is
+    /// no refusal.
     fn open<R: Wait>(
         &mut self,
         rt: &R,
         alloc: Global,
         ask: &Ask,
-    ) -> Result<Begun<Self::Place, Self::Pump, Self::Sending>, Refused>
+    ) -> Result<Begun<Self::Place, Self::Pump, Self::Sending, Self::Recording>, Refused>
         ensures dial { IsDial result → Rose (Self.dial_faults self.old) (Self.dial_faults self.new) }
         ensures kind { IfErr result IsOpenRefusal }
         ensures later { Self.dial_faults self.old ≤ Self.dial_faults self.new }
@@ -82,6 +86,7 @@ pub trait Door: Counted {
 
     /// Counts a job that wasn't started.
     fn note(&mut self)
+        ensures begun { (wanted : Ask) (welcome : Welcome Self.Place) → begun self.old wanted welcome → begun self.new wanted welcome }
         ensures dials { Self.dial_faults self.new ≡ Self.dial_faults self.old }
         ensures starts { Rose (Self.start_faults self.old) (Self.start_faults self.new) }
         ensures later { Self.start_faults self.old ≤ Self.start_faults self.new }
@@ -97,8 +102,9 @@ pub trait Door: Counted {
         ensures out { out self.new ≡ option_less (out self.old) }
         ensures asked { asked self.new ≡ asked self.old };
 
-    /// Begins a session: dials, makes it and starts its jobs. Dial and Busy come only where their count rose
-    /// in this call, Conflict only where an ID is there; refused, no session is there that wasn't.
+    /// Begins a session: dials, makes it and starts its jobs, that of its recorder last. Dial and Busy come only
+    /// where their count rose in this call, Conflict only where an ID is there; refused, no session is there that
+    /// wasn't. Where the recorder's job isn't started, that is counted and the session goes on.
     final fn begin<R: Threads + Wait + Copy + Send + 'static>(
         &mut self,
         rt: &R,
@@ -123,6 +129,7 @@ pub trait Door: Counted {
             welcome,
             pump,
             sender,
+            recorder,
         } = self.open(rt, alloc, ask)?;
         let inner = *rt;
         let way = self.way();
@@ -137,6 +144,14 @@ pub trait Door: Counted {
             self.undo(rt, &welcome.id);
             return Err(Refused::Busy);
         }
+        let Recorder::Ready(recording) = recorder else {
+            return Ok(welcome);
+        };
+        let way = self.way();
+        if start_by(rt, way, move || recording.run(&inner)).is_ok() {
+            return Ok(welcome);
+        }
+        self.note();
         Ok(welcome)
     }
 

@@ -39,4 +39,4 @@ pub use refused::Refused;
 pub use request::Request;
 pub use seat::{Job, Seat};
 pub use statuses::status_of;
-pub use welcome::{Begun, Welcome};
+pub use welcome::{Begun, Recorder, Welcome};

@@ -10,7 +10,7 @@ ghost use Rattle.id_table.specs.Tables.{held};
 
 use crate::connecting::owned;
 use crate::names::{id_named, name_of};
-use crate::{Ask, Begun, Door, Job, Refused, Seat, Welcome};
+use crate::{Ask, Begun, Door, Job, Recorder, Refused, Seat, Welcome};
 use gate_model::{Asked, Bytes, NoMemory, Text};
 use gate_outside::{Counted, DialFault, Dialer, MemDialer, MemDice, Way};
 use id_table::{AddRefusal, IdTable};
@@ -103,6 +103,8 @@ impl Door for MemDoor {
 
     type Sending = MemJob;
 
+    type Recording = MemJob;
+
     ghost id_of = { λ name. id_of_name name };
 
     ghost sessions = { λ s. Some (untold (held s.ids)) };
@@ -122,7 +124,7 @@ impl Door for MemDoor {
         _rt: &R,
         alloc: Global,
         ask: &Ask,
-    ) -> Result<Begun<MemPlace, MemJob, MemJob>, Refused> {
+    ) -> Result<Begun<MemPlace, MemJob, MemJob, MemJob>, Refused> {
         if self.out == u64::MAX {
             return Err(Refused::NoMemory);
         }
@@ -206,8 +208,8 @@ fn dial<L: Dialer>(dialer: &mut L, alloc: Global, ask: &Ask) -> Result<(), DialF
     }
 }
 
-// A session with nothing to show, and jobs that do nothing.
-fn begun(alloc: Global, id: Text) -> Begun<MemPlace, MemJob, MemJob>
+// A session with nothing to show, jobs that do nothing and no recorder.
+fn begun(alloc: Global, id: Text) -> Begun<MemPlace, MemJob, MemJob, MemJob>
     ensures id { result.welcome.id ≡ id }
     ensures first { result.welcome.first ≡ [] }
 {
@@ -215,6 +217,7 @@ fn begun(alloc: Global, id: Text) -> Begun<MemPlace, MemJob, MemJob>
         welcome: welcome(alloc, id),
         pump: MemJob {},
         sender: MemJob {},
+        recorder: Recorder::Unwanted,
     }
 }
 

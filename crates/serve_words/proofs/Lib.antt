@@ -1,2 +1,4 @@
--- What a parse of the words says of the options that they give.
+-- In reading order: the parts of a text round its last colon, what a parse of the words says of the options that they
+-- give.
+mod Colons
 mod Parsed

@@ -1,5 +1,7 @@
 -- The forms of the values of the options of `serve` (this project's own).
-use Rattle.std.specs.Prelude.{ℕ, List, if◌then◌else◌, Option, Some, None, codes, bytes_eq}
+use Rattle.std.specs.Prelude.{ℕ, List, length, ◌==◌, if◌then◌else◌, Option, Some, None, codes, bytes_eq, option_and_then}
+use Rattle.std.specs.Option.{option_map}
+use Rattle.std.specs.Path.{rsplit_once}
 use Rattle.std.specs.Result.{result_ok}
 use Rattle.gate_model.specs.text.Numerals.{number_within}
 use Rattle.hex.specs.Hex.{decode_sized}
@@ -21,3 +23,20 @@ level_of text =
     else if bytes_eq text (codes "warn") then Some Warn
     else if bytes_eq text (codes "info") then Some Info
     else None
+
+-- an address of a recorder: a host, which isn't empty, and a port
+abbrev pub Address : Type 0
+Address = List ℕ × ℕ
+
+-- the address of the two parts of a text
+abbrev pub address_in : List ℕ × List ℕ → Option Address
+address_in parts = if length parts.0 == 0 then None else option_map (λ port. (parts.0, port)) (port_of parts.1)
+
+-- they stand round its last colon
+abbrev pub address_of : List ℕ → Option Address
+address_of text = option_and_then address_in (rsplit_once 0x3A text)
+
+-- the recorder that an option names; without the option none is wanted
+abbrev pub recorder_of : Option (List ℕ) → Option (Option Address)
+recorder_of None = Some None
+recorder_of (Some text) = option_map (λ address. Some address) (address_of text)

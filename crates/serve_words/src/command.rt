@@ -22,6 +22,10 @@ pub(crate) fn serve_command<'a>(alloc: Global) -> Result<Command<'a>, AllocError
         .default_value("4822")
         .value_name("PORT")
         .help("the port to listen on, 1 to 65535");
+    let recorder = Arg::new(alloc, "recorder")
+        .long("recorder")
+        .value_name("HOST:PORT")
+        .help("where each session is recorded");
     let level = Arg::new(alloc, "log")
         .long("log")
         .default_value("warn")
@@ -31,6 +35,7 @@ pub(crate) fn serve_command<'a>(alloc: Global) -> Result<Command<'a>, AllocError
         .no_binary_name(true)
         .arg(seed)?
         .arg(port)?
+        .arg(recorder)?
         .arg(level)
 }
 

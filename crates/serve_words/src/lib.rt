@@ -1,4 +1,5 @@
-//! The words of `serve`: the seed of its IDs, the port that it listens on and how much it notes.
+//! The words of `serve`: the seed of its IDs, the port that it listens on, where sessions are recorded and how much it
+//! notes.
 //!
 //! They are read by one simple command of `clap`, whose options are texts; the form of each value is checked by
 //! hand. Which options the words give is `options_given` of `specs/Given.antt`.

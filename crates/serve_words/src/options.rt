@@ -2,24 +2,25 @@
 
 ghost use Rattle.std.specs.Prelude.{◌≡◌, ◌≢◌, ◌≤◌, Err, IfOk, None, Some, map, option_map, option_and_then, string_bytes};
 ghost use Rattle.clap.specs.Words.{kind_of};
-ghost use Rattle.serve_words.specs.Given.{all_three, options_given};
+ghost use Rattle.serve_words.specs.Given.{all_four, options_given};
 ghost use Rattle.serve_words.specs.Values as value;
 ghost use Rattle.serve_words.specs.declared.options.WordsFault.TheVariants.{NoMemory as no_memory, Usage as usage};
 
 use crate::command::serve_command;
-use crate::values::{level_of, port_of, seed_of};
+use crate::values::{address_of, level_of, port_of, seed_of};
 use clap::Error;
 use clap::error::ErrorKind;
-use gate_model::NoMemory;
+use gate_model::Text;
 use log::LevelFilter;
 use std::alloc::{AllocError, Global};
 
-/// How a service runs: the seed under which its dice draw IDs, the port that it listens on, 1 to 65,535, and how
-/// much it notes.
-#[derive(Clone, Copy)]
+/// How a service runs: the seed under which its dice draw IDs, the port that it listens on, 1 to 65,535, the host
+/// and the port of the recorder of its sessions, where one is wanted, and how much it notes.
+#[derive(Drop)]
 pub struct Options {
     pub seed: [u8; 32],
     pub port: u16,
+    pub recorder: Option<(Text, u16)>,
     pub level: LevelFilter,
 }
 
@@ -41,8 +42,9 @@ impl From<AllocError> for WordsFault {
 }
 
 /// The options that the words after `serve` give: `--seed HEX` of 64 hexadecimal digits, which has to be there,
-/// `--port P` of 1 to 20 decimal digits, 1 to 65,535, else 4822, and `--log` with `error`, `warn` or `info`, else
-/// `warn`. Usage comes exactly where the words give none, but for want of memory.
+/// `--port P` of 1 to 20 decimal digits, 1 to 65,535, else 4822, `--recorder HOST:PORT` with a host that isn't empty
+/// and such a port behind the last colon, else none, and `--log` with `error`, `warn` or `info`, else `warn`. Usage
+/// comes exactly where the words give none, but for want of memory.
 pub fn options_of(alloc: Global, words: &[String]) -> Result<Options, WordsFault>
     ensures given { IfOk result (λ options. options_given (map string_bytes words.now) ≡ Some options) }
     ensures usage { result ≡ Err usage → options_given (map string_bytes words.now) ≡ None }
@@ -53,21 +55,53 @@ pub fn options_of(alloc: Global, words: &[String]) -> Result<Options, WordsFault
     };
     let seed = matches.get_str("seed");
     let port = matches.get_str("port");
+    let recorder = matches.get_str("recorder");
     let level = matches.get_str("log");
-    match read(seed, port, level) {
-        Some(options) => Ok(options),
-        None => Err(WordsFault::Usage),
-    }
+    read(alloc, seed, port, recorder, level)
 }
 
-// The options of three texts.
-fn read(seed: Option<&str>, port: Option<&str>, level: Option<&str>) -> Option<Options>
-    ensures { result ≡ all_three (option_and_then value.seed_of (option_map (λ s. s.now) seed.entry)) (option_and_then value.port_of (option_map (λ s. s.now) port.entry)) (option_and_then value.level_of (option_map (λ s. s.now) level.entry)) }
+// The options of four texts.
+fn read(
+    alloc: Global,
+    seed: Option<&str>,
+    port: Option<&str>,
+    recorder: Option<&str>,
+    level: Option<&str>,
+) -> Result<Options, WordsFault>
+    ensures given { IfOk result (λ options. all_four (option_and_then value.seed_of (option_map (λ s. s.now) seed.entry)) (option_and_then value.port_of (option_map (λ s. s.now) port.entry)) (value.recorder_of (option_map (λ s. s.now) recorder.entry)) (option_and_then value.level_of (option_map (λ s. s.now) level.entry)) ≡ Some options) }
+    ensures usage { result ≡ Err usage → all_four (option_and_then value.seed_of (option_map (λ s. s.now) seed.entry)) (option_and_then value.port_of (option_map (λ s. s.now) port.entry)) (value.recorder_of (option_map (λ s. s.now) recorder.entry)) (option_and_then value.level_of (option_map (λ s. s.now) level.entry)) ≡ None }
 {
-    let seed = seed_of(seed?)?;
-    let port = port_of(port?)?;
-    let level = level_of(level?)?;
-    Some(Options { seed, port, level })
+    let Some(seed) = seed.and_then(seed_of) else {
+        return Err(WordsFault::Usage);
+    };
+    let Some(port) = port.and_then(port_of) else {
+        return Err(WordsFault::Usage);
+    };
+    let recorder = recorder_in(alloc, recorder)?;
+    let Some(level) = level.and_then(level_of) else {
+        return Err(WordsFault::Usage);
+    };
+    Ok(Options {
+        seed,
+        port,
+        recorder,
+        level,
+    })
+}
+
+// The recorder that a text names, where there is one.
+fn recorder_in(alloc: Global, text: Option<&str>) -> Result<Option<(Text, u16)>, WordsFault>
+    ensures given { IfOk result (λ recorder. value.recorder_of (option_map (λ s. s.now) text.entry) ≡ Some recorder) }
+    ensures usage { result ≡ Err usage → value.recorder_of (option_map (λ s. s.now) text.entry) ≡ None }
+{
+    let Some(text) = text else {
+        return Ok(None);
+    };
+    let Some((host, port)) = address_of(text) else {
+        return Err(WordsFault::Usage);
+    };
+    let host = Text::of(String::from_str(alloc, host)?);
+    Ok(Some((host, port)))
 }
 
 // What a refusal of the command is.

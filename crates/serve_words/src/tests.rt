@@ -21,7 +21,8 @@ fn options_come_from_the_words(rt: HostRuntime) -> Result<(), Fail> {
     let plain = options_of(alloc, &words(alloc, "--seed SEED")?)
         .ok()
         .ok_or("refused")?;
-    let full = options_of(alloc, &words(alloc, "--port=080 --log info --seed SEED")?)
+    let line = "--port=080 --log info --seed SEED --recorder=::1:09";
+    let full = options_of(alloc, &words(alloc, line)?)
         .ok()
         .ok_or("refused")?;
     assert_eq!(rt;
@@ -29,7 +30,9 @@ fn options_come_from_the_words(rt: HostRuntime) -> Result<(), Fail> {
         (4822u16, 1u8, 255u8)
     );
     assert!(rt; plain.level == LevelFilter::Warn && full.level == LevelFilter::Info);
-    assert_eq!(rt; full.port, 80u16);
+    assert!(rt; full.port == 80 && plain.recorder.is_none());
+    let (host, port) = full.recorder.ok_or("no recorder")?;
+    assert!(rt; host.as_str() == "::1" && port == 9);
     Ok(())
 }
 
@@ -46,7 +49,12 @@ fn faulty_words_are_refused(rt: HostRuntime) -> Result<(), Fail> {
         "--seed SEED --port 65536",
         "--seed SEED --port=+80",
         "--seed SEED --log debug",
-        "--seed SEED --recorder localhost:23",
+        "--seed SEED --recorder localhost",
+        "--seed SEED --recorder :23",
+        "--seed SEED --recorder localhost:",
+        "--seed SEED --recorder localhost:0",
+        "--seed SEED --recorder localhost:65536",
+        "--seed SEED --recorder a:1 --recorder b:2",
         "--seed SEED --help",
         "--seed SEED more",
     ] {
@@ -59,7 +67,12 @@ fn faulty_words_are_refused(rt: HostRuntime) -> Result<(), Fail> {
 #[test]
 fn help_names_the_options(rt: HostRuntime) -> Result<(), Fail> {
     let text = help(rt.alloc()).ok().ok_or("no memory")?;
-    for option in ["--seed <HEX>", "--port <PORT>", "--log <LEVEL>"] {
+    for option in [
+        "--seed <HEX>",
+        "--port <PORT>",
+        "--recorder <HOST:PORT>",
+        "--log <LEVEL>",
+    ] {
         assert!(rt; text.as_str().contains(option), "{option}");
     }
     Ok(())

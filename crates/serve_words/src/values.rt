@@ -1,12 +1,12 @@
 //! The values of the options.
 
-ghost use Rattle.std.specs.Prelude.{◌≡◌, ◌↔◌, IsSome, length, true};
+ghost use Rattle.std.specs.Prelude.{◌≡◌, ◌↔◌, IsSome, length, option_map, true};
 ghost use Rattle.std.specs.Char.{is_ascii_digit};
 ghost use Rattle.std.specs.List.{AllPass, list_all};
 ghost use Rattle.gate_model.specs.text.Numerals.{is_number};
 ghost use Rattle.gate_model.specs.text.Spelling.{number_of};
 ghost use Rattle.hex.specs.Hex.{is_hex_digit};
-ghost use Rattle.serve_words.specs.Values.{level_of, port_of, seed_of};
+ghost use Rattle.serve_words.specs.Values.{address_in, address_of, level_of, port_of, seed_of};
 
 use hex::FromHex;
 use log::LevelFilter;
@@ -71,4 +71,25 @@ pub(crate) fn level_of(text: &str) -> Option<LevelFilter>
         "info" => Some(LevelFilter::Info),
         _ => None,
     }
+}
+
+/// The host and the port that stand round the last colon. The host isn't empty.
+pub(crate) fn address_of(text: &str) -> Option<(&str, u16)>
+    ensures { option_map (λ address. (address.0.now, address.1)) result ≡ address_of text.now }
+{
+    match text.rsplit_once(':') {
+        Some((host, port)) => address_in(host, port),
+        None => None,
+    }
+}
+
+// The host, which isn't empty, and the port.
+fn address_in<'a>(host: &'a str, port: &str) -> Option<(&'a str, u16)>
+    ensures { option_map (λ address. (address.0.now, address.1)) result ≡ address_in (host.now, port.now) }
+{
+    if host.is_empty() {
+        return None;
+    }
+    let port = port_of(port)?;
+    Some((host, port))
 }

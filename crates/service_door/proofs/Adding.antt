@@ -1,5 +1,5 @@
 -- What a table is after a session was added or taken out.
-use Rattle.std.proofs.Common.{◌≡◌, ℕ, List, [], Option, Some, None, refl, ap, sym, ◌∙◌, subst, true≢false, lit<}
+use Rattle.std.proofs.Common.{◌≡◌, ℕ, Bool, List, [], Option, Some, None, refl, ap, sym, ◌∙◌, subst, true≢false, lit<}
 use Rattle.std.specs.Prelude.{IfOk, OnErr, IfSome, IsSome, slice_index_or, Result, Ok, Err}
 use Rattle.id_table.specs.Draws.{AreNext, AreThere, IsFirstAbsent, nth_id}
 use Rattle.id_table.specs.Maps.{Changed, Same, Told, had}
@@ -12,9 +12,8 @@ use Rattle.service_door.specs.Sessions.{NoneLent, SessionState, histories, histo
 use Rattle.guac_handshake.specs.Names.{id_of_name}
 use Rattle.guac_handshake.specs.declared.ask.Ask.{Ask}
 use Rattle.guac_handshake.specs.declared.welcome.Welcome.{Welcome}
-use Rattle.shared_desk.specs.Hosts.{HostState}
 use Rattle.shared_desk.specs.declared.place.Place.{Place}
-use Rattle.service_door.specs.Begun.{HasPrepared, HasStarted, IsBegun}
+use Rattle.service_door.specs.Begun.{HasStarted, IsBegun}
 use Rattle.service_door.specs.Doors.{Table}
 use Rattle.service_door.proofs.Tables.{after_call, by_id, changed_unlent, none_some, same_some, sessions_so, told_then}
 
@@ -111,28 +110,14 @@ pub any_unlent : {E : Type 0} (told after : Option Table) (r : Result (List ℕ)
 any_unlent told after (Ok id) s h ok err = add_unlent told after id s h ok
 any_unlent told after (Err e) s h ok err = same_unlent told after h err
 
-started_in : (ask : Ask) (place : Place) (host : HostState) (s : SessionState) → HasPrepared host s → HasStarted ask place host → HasStarted ask place s.host
-started_in ask place host s p h = record {
-  entries = h.entries;
-  stamp = h.stamp;
-  frame = h.frame;
-  first = h.first;
-  seen = p.seen ∙ h.seen;
-  role = h.role;
-  seat = record {
-    sessions = (h.seat.sessions.0 ∙ sym p.session, h.seat.sessions.1 ∙ sym p.session);
-    viewers = h.seat.viewers;
-  };
-}
-
-pub begun : (told after : Option Table) (ask : Ask) (welcome : Welcome Place) (id : List ℕ) (host : HostState) (s : SessionState) → id_of_name welcome.id ≡ Some id → HasPrepared host s → HasStarted ask welcome.place host → Told told after (Adds id s) → IsBegun after ask welcome
-begun told None ask welcome id host s named p h t = tt
-begun None (Some n) ask welcome id host s named p h t = absurd t
-begun (Some m) (Some n) ask welcome id host s named p h t = record {
+pub begun : (wanted : Bool) (told after : Option Table) (ask : Ask) (welcome : Welcome Place) (id : List ℕ) (s : SessionState) → id_of_name welcome.id ≡ Some id → s.places ≡ 1 → HasStarted wanted ask welcome.place s.host → Told told after (Adds id s) → IsBegun wanted after ask welcome
+begun wanted told None ask welcome id s named one h t = tt
+begun wanted None (Some n) ask welcome id s named one h t = absurd t
+begun wanted (Some m) (Some n) ask welcome id s named one h t = record {
   id = id;
   named = named;
   session = s;
   there = t.1.0;
-  started = started_in ask welcome.place host s p h;
-  places = p.places;
+  started = h;
+  places = one;
 }

@@ -1,7 +1,9 @@
 -- In reading order: a table before and after a call, a session that is added, one that is lent, how a session
--- begins, how a viewer joins.
+-- begins, how a viewer joins, how a recorder joins, that its job may go to another thread.
 mod Tables
 mod Adding
 mod Lending
 mod Owned
 mod Joined
+mod Recorded
+pub mod Crosses

@@ -1,5 +1,5 @@
 -- What a session begins with, and a viewer's place in it (this project's own).
-use Rattle.std.specs.Prelude.{◌≡◌, ℕ, List, [], ◌∷◌, Option, Some, None, false, Ok}
+use Rattle.std.specs.Prelude.{◌≡◌, ℕ, Bool, List, [], ◌∷◌, Option, Some, None, false, Ok}
 use Rattle.gate_model.specs.session.History.{History, share_mode}
 use Rattle.gate_model.specs.session.Roles.{grant_of}
 use Rattle.gate_model.specs.declared.entry.Entry.TheVariants.{Join, Start}
@@ -13,6 +13,7 @@ use Rattle.guac_handshake.specs.declared.welcome.Welcome.{Welcome}
 use Rattle.id_table.specs.Maps.{Shelved}
 use Rattle.shared_desk.specs.Hosts.{HostState, IsFresh}
 use Rattle.shared_desk.specs.declared.place.Place.{Place}
+use Rattle.service_door.specs.Recorders.{HasSeen}
 use Rattle.service_door.specs.Sessions.{SessionState}
 
 -- the session is opened as it was asked
@@ -27,19 +28,20 @@ pub record IsSeated (viewer : ℕ) (place : Place) (host : HostState) : Type 0 w
   pub sessions : (place.reader.session ≡ host.session) × (place.writer.session ≡ host.session)
   pub viewers : (place.reader.viewer ≡ viewer) × (place.writer.viewer ≡ viewer)
 
--- the host has seen just a Start as it was asked, and the Join of viewer 1, who may type; the place is its
-pub record HasStarted (ask : Ask) (place : Place) (host : HostState) : Type 0 where
+-- the host has seen a Start as it was asked, and the Join of viewer 1, who may type; the place is its. Where no
+-- recorder is wanted it has seen just these
+pub record HasStarted (wanted : Bool) (ask : Ask) (place : Place) (host : HostState) : Type 0 where
   pub entries : ℕ
   pub stamp : ℕ
   pub frame : List Instr
   pub first : List Instr
-  pub seen : host.view.seen ≡ Join 1 Control first ∷ Start ask.cols ask.rows ask.mode ask.term entries stamp frame ∷ []
+  pub seen : HasSeen wanted (Join 1 Control first ∷ Start ask.cols ask.rows ask.mode ask.term entries stamp frame ∷ []) host.view.seen
   pub role : place.role ≡ Control
   pub seat : IsSeated 1 place host
 
 -- a session that its owner has joined, whose link nobody has
 pub record HasOpened (ask : Ask) (host : HostState) (place : Place) (given : List ℕ) : Type 0 where
-  pub started : HasStarted ask place host
+  pub started : HasStarted false ask place host
   pub linked : host.linked ≡ false
   pub fresh : IsFresh place given
 
@@ -49,18 +51,18 @@ pub record HasPrepared (host : HostState) (s : SessionState) : Type 0 where
   pub seen : s.host.view.seen ≡ host.view.seen
   pub places : s.places ≡ 1
 
--- a session of this name is in the table, so begun; one place of it is out
-pub record IsBegunAt (m : Shelved SessionState) (ask : Ask) (welcome : Welcome Place) : Type 0 where
+-- a session of this name is in the table, so begun; one place of it is out, and a recorder's isn't counted
+pub record IsBegunAt (wanted : Bool) (m : Shelved SessionState) (ask : Ask) (welcome : Welcome Place) : Type 0 where
   pub id : List ℕ
   pub named : id_of_name welcome.id ≡ Some id
   pub session : SessionState
   pub there : m id ≡ Some (Some session)
-  pub started : HasStarted ask welcome.place session.host
+  pub started : HasStarted wanted ask welcome.place session.host
   pub places : session.places ≡ 1
 
-abbrev pub IsBegun : Option (Shelved SessionState) → Ask → Welcome Place → Type 0
-IsBegun None ask welcome = Unit {0}
-IsBegun (Some m) ask welcome = IsBegunAt m ask welcome
+abbrev pub IsBegun : Bool → Option (Shelved SessionState) → Ask → Welcome Place → Type 0
+IsBegun wanted None ask welcome = Unit {0}
+IsBegun wanted (Some m) ask welcome = IsBegunAt wanted m ask welcome
 
 -- the host has seen last the Join of the viewer whose place this is, with the role that the table of roles gives for what
 -- was asked

@@ -1,4 +1,5 @@
--- In reading order: a session in the table, what it begins with, what its door's calls leave of the table.
+-- In reading order: a session in the table, its recorder, what it begins with, what its door's calls leave of the table.
 pub mod Sessions
+pub mod Recorders
 pub mod Begun
 pub mod Doors

@@ -3,7 +3,8 @@
 ghost use Rattle.service_door.specs.Sessions.{NoneLent};
 
 use crate::jobs::{PumpJob, SenderJob};
-use crate::opening::{Opened, Prepared, open_session, prepare};
+use crate::making::{Made, Parts, make};
+use crate::recorder::RecorderJob;
 use crate::refusals::refused_of;
 use crate::session::Session;
 use gate_model::{Asked, Bytes, Cause, Text};
@@ -15,26 +16,36 @@ use std::alloc::Global;
 use std::sync::Wait;
 
 /// The door of the service, over a table of sessions (this project's own). A new session is dialed, made, joined
-/// by its owner, shared and added to the table, in this order, and then its jobs are started. It tells its IDs and
-/// histories where its shelf tells what is there; a session's history is what its host's pass has seen.
+/// by its owner, shared, joined by its recorder and added to the table, in this order, and then its jobs are started.
+/// It tells its IDs and histories where its shelf tells what is there; a session's history is what its host's pass
+/// has seen.
 #[derive(Drop)]
 pub struct ServiceDoor<'a, T: Shelf<Session>, H, B> {
     sessions: &'a mut T,
     helper: &'a mut H,
     bell: &'a B,
+    recorder: Option<(Text, u16)>,
     ghost unlent: { NoneLent (T.told sessions.now) },
 }
 
 impl<'a, T: Shelf<Session>, H: Helper, B: Bell> ServiceDoor<'a, T, H, B> {
     /// A door over these sessions, of which none is lent. It dials, starts jobs, draws IDs and tells moments by
-    /// the helper. The jobs of a session have a bell each that rings with this one.
-    pub fn new(sessions: &'a mut T, helper: &'a mut H, bell: &'a B) -> ServiceDoor<'a, T, H, B>
+    /// the helper. The jobs of a session have a bell each that rings with this one. The recorder is the host and the
+    /// port that are dialed once for each session, to record it. The door owns them, since the text is small and a
+    /// door lives for one connection.
+    pub fn new(
+        sessions: &'a mut T,
+        helper: &'a mut H,
+        bell: &'a B,
+        recorder: Option<(Text, u16)>,
+    ) -> ServiceDoor<'a, T, H, B>
         requires { NoneLent (T.told sessions.now) }
     {
         ServiceDoor {
             sessions,
             helper,
             bell,
+            recorder,
         }
     }
 }
@@ -65,6 +76,8 @@ impl<'a, T: Shelf<Session>, H: Helper, B: Bell + Send + 'static> Door for Servic
 
     type Sending = SenderJob<H::Output, B>;
 
+    type Recording = RecorderJob<H::Output, B>;
+
     ghost id_of = { λ name. id_of_name name };
 
     ghost sessions = { λ d. sessions_of (T.told d.sessions.now) };
@@ -73,7 +86,7 @@ impl<'a, T: Shelf<Session>, H: Helper, B: Bell + Send + 'static> Door for Servic
 
     ghost asked = { λ _. None };
 
-    ghost begun = { λ d ask welcome. IsBegun (T.told d.sessions.now) ask welcome };
+    ghost begun = { λ d ask welcome. IsBegun (is_some d.recorder) (T.told d.sessions.now) ask welcome };
 
     fn known<R: Wait>(&mut self, rt: &R, name: &str) -> bool {
         match id_named(name) {
@@ -87,29 +100,41 @@ impl<'a, T: Shelf<Session>, H: Helper, B: Bell + Send + 'static> Door for Servic
         rt: &R,
         alloc: Global,
         ask: &Ask,
-    ) -> Result<Begun<Place, PumpJob<H::Input, H, B>, SenderJob<H::Output, B>>, Refused> {
+    ) -> Result<
+        Begun<Place, PumpJob<H::Input, H, B>, SenderJob<H::Output, B>, RecorderJob<H::Output, B>>,
+        Refused,
+    > {
         let link = match self.helper.dial(alloc, ask.host.as_str(), ask.port) {
             Ok(link) => link,
             Err(DialFault::Failed) => return Err(Refused::Dial),
             Err(DialFault::NoMemory) => return Err(Refused::NoMemory),
         };
-        let now = self.helper.now();
-        let Ok(Opened { host, place, first }) = open_session(alloc, now, ask) else {
-            return Err(Refused::NoMemory);
+        let recorder = match &self.recorder {
+            Some((host, port)) => self.helper.dial(alloc, host.as_str(), *port).ok(),
+            None => None,
         };
+        let now = self.helper.now();
         let Ok(clock) = self.helper.another(alloc) else {
             return Err(Refused::NoMemory);
         };
-        let Ok(
-            Prepared {
-                session,
-                pump,
-                sender,
-            },
-        ) = prepare(alloc, clock, self.bell, host, link)
-        else {
+        let parts = Parts {
+            now,
+            clock,
+            link,
+            wanted: self.recorder.is_some(),
+            recorder,
+        };
+        let Ok(made) = make(rt, alloc, ask, parts, self.bell) else {
             return Err(Refused::NoMemory);
         };
+        let Made {
+            session,
+            place,
+            first,
+            pump,
+            sender,
+            recorder,
+        } = made;
         let Ok(room) = String::with_capacity(alloc, NAME_BYTES) else {
             return Err(Refused::NoMemory);
         };
@@ -126,6 +151,7 @@ impl<'a, T: Shelf<Session>, H: Helper, B: Bell + Send + 'static> Door for Servic
             welcome: Welcome { id, place, first },
             pump,
             sender,
+            recorder,
         })
     }
 

@@ -47,6 +47,8 @@ impl Door for OneDoor {
 
     type Sending = NoJob;
 
+    type Recording = NoJob;
+
     ghost id_of = { λ name. None };
 
     ghost sessions = { λ d. None };
@@ -66,7 +68,7 @@ impl Door for OneDoor {
         _rt: &R,
         _alloc: Global,
         _ask: &Ask,
-    ) -> Result<Begun<Place, NoJob, NoJob>, Refused> {
+    ) -> Result<Begun<Place, NoJob, NoJob, NoJob>, Refused> {
         Err(Refused::NoMemory)
     }
 

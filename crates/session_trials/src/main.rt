@@ -6,6 +6,7 @@ mod canvases;
 mod door;
 mod links;
 mod load;
+mod recordings;
 mod rows;
 mod sessions;
 mod users;
@@ -31,7 +32,12 @@ where
     println!(rt; "a second close: {}", rows::a_second_close(rt, alloc)?)?;
     println!(rt; "mixed load: {}", load::eight_threads(rt, alloc)?)?;
     tell_links(rt, alloc)?;
-    tell_users(rt, alloc)
+    tell_users(rt, alloc)?;
+    println!(rt;
+        "a recording of three feeds: {}",
+        recordings::three_feeds(rt, alloc)?
+    )?;
+    Ok(())
 }
 
 // What came of the loops over a link.

@@ -11,11 +11,12 @@ use std::alloc::Global;
 use std::marker::Brand;
 use std::sync::Wait;
 
-/// The size of a screen: 2 by 1, or 20 by 4.
+/// The size of a screen: 2 by 1, 20 by 4, or 80 by 24.
 #[derive(Clone, Copy)]
 pub enum Screen {
     Small,
     Wide,
+    Whole,
 }
 
 /// A session that others may control, without viewers.
@@ -37,6 +38,7 @@ fn setup(alloc: Global, screen: Screen) -> Result<Setup>
     let (cols, rows) = match screen {
         Screen::Small => (2, 1),
         Screen::Wide => (20, 4),
+        Screen::Whole => (80, 24),
     };
     Ok(Setup {
         cols,

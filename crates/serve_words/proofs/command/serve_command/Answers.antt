@@ -3,7 +3,7 @@ use Rattle.std.proofs.lemmas.Result.{IfOk-weaker}
 use Rattle.clap.specs.Simple.{app_of_fields, on_top}
 use Rattle.clap.specs.Words.{Rule, rule_of, with_rule}
 use Rattle.clap.specs.declared.builder.arg.Arg.{Arg}
-use Rattle.serve_words.specs.Given.{log_rule, port_rule, seed_rule}
+use Rattle.serve_words.specs.Given.{log_rule, port_rule, recorder_rule, seed_rule}
 use Rattle.serve_words.proofs.command.serve_command.Goals as goal
 
 -- what `rule_of` and `global` are, step by step
@@ -18,13 +18,18 @@ returns c =
     let port_is : rule_of c.help-port.result ≡ port_rule = ap rule_of c.help-port.ensures ∙ (ap rule_of c.value_name-2.ensures ∙ ap (λ (r : Rule). record r { value_names = 1 }) (
     ap rule_of c.default_value.ensures ∙ ap (λ (r : Rule). record r { defaults = codes "4822" ∷ [] }) (ap rule_of c.long-2.ensures ∙ ap (λ (r : Rule). record r { long = Some (codes "port") }) c.new-2.ensures.rule)
     )) in
-    let log_is : rule_of c.help-level.result ≡ log_rule = ap rule_of c.help-level.ensures ∙ (ap rule_of c.value_name-3.ensures ∙ ap (λ (r : Rule). record r { value_names = 1 }) (
-    ap rule_of c.default_value-2.ensures ∙ ap (λ (r : Rule). record r { defaults = codes "warn" ∷ [] }) (ap rule_of c.long-3.ensures ∙ ap (λ (r : Rule). record r { long = Some (codes "log") }) c.new-3.ensures.rule)
+    let recorder_is : rule_of c.help-recorder.result ≡ recorder_rule = ap rule_of c.help-recorder.ensures ∙ (ap rule_of c.value_name-3.ensures ∙ ap (λ (r : Rule). record r { value_names = 1 }) (
+    ap rule_of c.long-3.ensures ∙ ap (λ (r : Rule). record r { long = Some (codes "recorder") }) c.new-3.ensures.rule
+    )) in
+    let log_is : rule_of c.help-level.result ≡ log_rule = ap rule_of c.help-level.ensures ∙ (ap rule_of c.value_name-4.ensures ∙ ap (λ (r : Rule). record r { value_names = 1 }) (
+    ap rule_of c.default_value-2.ensures ∙ ap (λ (r : Rule). record r { defaults = codes "warn" ∷ [] }) (ap rule_of c.long-4.ensures ∙ ap (λ (r : Rule). record r { long = Some (codes "log") }) c.new-4.ensures.rule)
     )) in
     let seed_own : c.help-seed.result.global ≡ false = ap is_global c.help-seed.ensures ∙ (ap is_global c.value_name.ensures ∙ (ap is_global c.required.ensures ∙ (ap is_global c.long.ensures ∙ c.new.ensures.optional.1))) in
     let port_own : c.help-port.result.global ≡ false = ap is_global c.help-port.ensures ∙ (ap is_global c.value_name-2.ensures ∙ (ap is_global c.default_value.ensures ∙ (ap is_global c.long-2.ensures ∙ c.new-2.ensures.optional.1))) in
-    let log_own : c.help-level.result.global ≡ false = ap is_global c.help-level.ensures ∙ (ap is_global c.value_name-3.ensures ∙ (ap is_global c.default_value-2.ensures ∙ (ap is_global c.long-3.ensures ∙ c.new-3.ensures.optional.1))) in
-    let bare = ap app_of_fields c.no_binary_name.ensures ∙ ap (on_top (λ s. record s { no_binary_name = true })) c.new-4.ensures.app in
+    let recorder_own : c.help-recorder.result.global ≡ false = ap is_global c.help-recorder.ensures ∙ (ap is_global c.value_name-3.ensures ∙ (ap is_global c.long-3.ensures ∙ c.new-3.ensures.optional.1)) in
+    let log_own : c.help-level.result.global ≡ false = ap is_global c.help-level.ensures ∙ (ap is_global c.value_name-4.ensures ∙ (ap is_global c.default_value-2.ensures ∙ (ap is_global c.long-4.ensures ∙ c.new-4.ensures.optional.1))) in
+    let bare = ap app_of_fields c.no_binary_name.ensures ∙ ap (on_top (λ s. record s { no_binary_name = true })) c.new-5.ensures.app in
     let one = c.in_ok-arg.ensures.shape seed_own ∙ ap₂ with_rule bare seed_is in
     let two = c.in_ok-arg-2.ensures.shape port_own ∙ ap₂ with_rule one port_is in
-    IfOk-weaker c.arg-3.result _ _ (λ command h. h.shape log_own ∙ ap₂ with_rule two log_is) c.arg-3.ensures
+    let three = c.in_ok-arg-3.ensures.shape recorder_own ∙ ap₂ with_rule two recorder_is in
+    IfOk-weaker c.arg-4.result _ _ (λ command h. h.shape log_own ∙ ap₂ with_rule three log_is) c.arg-4.ensures

@@ -1,6 +1,6 @@
-use Rattle.std.proofs.Common.{◌≡◌, ◌∙◌, sym}
+use Rattle.std.proofs.Common.{◌≡◌, ◌∙◌}
 use Rattle.serve_words.specs.declared.options.WordsFault.TheVariants.{Usage as usage}
-use Rattle.serve_words.proofs.Parsed.{refused, taken}
+use Rattle.serve_words.proofs.Parsed.{given_as, refused, taken}
 use Rattle.serve_words.proofs.options.options_of.Goals as goal
 
 pub returns-in-Err-clause-usage : goal.returns-in-Err-clause-usage
@@ -8,12 +8,11 @@ returns-in-Err-clause-usage c = λ e.
     let fault : c.fault_of.result ≡ usage = cc in
     refused _ _ c.in-Err.error c.in_ok-serve_command.ensures c.in-Err.ensures.kinds (c.fault_of.ensures fault)
 
-pub returns-in-Some-clause-given : goal.returns-in-Some-clause-given
-returns-in-Some-clause-given c =
-    taken _ _ c.in-Ok.matches _ _ _ c.in_ok-serve_command.ensures c.in-Ok.ensures.kinds c.in-Ok.ensures.matches c.get_str-seed.ensures c.get_str-port.ensures c.get_str-level.ensures
-    ∙ sym c.in-Some.ensures
+pub returns-clause-given : goal.returns-clause-given
+returns-clause-given c =
+    given_as _ _ c.read.result (taken _ _ c.in-Ok.matches _ _ _ _ c.in_ok-serve_command.ensures c.in-Ok.ensures.kinds c.in-Ok.ensures.matches c.get_str-seed.ensures c.get_str-port.ensures c.get_str-recorder.ensures c.get_str-level.ensures) c.read.ensures.given
 
 pub returns-clause-usage : goal.returns-clause-usage
-returns-clause-usage c = λ _.
-    taken _ _ c.in-Ok.matches _ _ _ c.in_ok-serve_command.ensures c.in-Ok.ensures.kinds c.in-Ok.ensures.matches c.get_str-seed.ensures c.get_str-port.ensures c.get_str-level.ensures
-    ∙ sym c.in-None.ensures
+returns-clause-usage c = λ is.
+    taken _ _ c.in-Ok.matches _ _ _ _ c.in_ok-serve_command.ensures c.in-Ok.ensures.kinds c.in-Ok.ensures.matches c.get_str-seed.ensures c.get_str-port.ensures c.get_str-recorder.ensures c.get_str-level.ensures
+    ∙ c.read.ensures.usage is

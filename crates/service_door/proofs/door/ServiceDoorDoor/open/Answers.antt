@@ -1,5 +1,8 @@
-use Rattle.std.proofs.Common.{◌∙◌}
+use Rattle.std.proofs.Common.{◌∙◌, Bool, rules, subst}
 use Rattle.guac_handshake.specs.Names.{id_of_name}
+use Rattle.guac_handshake.specs.declared.welcome.Welcome.{Welcome}
+use Rattle.shared_desk.specs.declared.place.Place.{Place}
+use Rattle.service_door.specs.Begun.{IsBegun}
 use Rattle.service_door.proofs.Adding.{added, added_taken, added_told, any_unlent, begun, conflict_told, has_conflict, take_unlent}
 use Rattle.service_door.proofs.door.ServiceDoorDoor.open.Goals as goal
 
@@ -10,7 +13,8 @@ pub returns-in-Err-Conflict-clause-conflict : goal.returns-in-Err-Conflict-claus
 returns-in-Err-Conflict-clause-conflict g c = λ _. has_conflict _ _ _ c.in-Err-Conflict.field-0-is (g.T.Shelf.told c.args.self.now.sessions.now) c.in-Err-Conflict.ensures.conflict
 
 pub returns-in-Err-Conflict-clause-exact : goal.returns-in-Err-Conflict-clause-exact
-returns-in-Err-Conflict-clause-exact g c = conflict_told _ _ _ c.in-Err-Conflict.field-0-is _ (g.T.Shelf.told c.args.self.now.sessions.now) _ _ (c.another.ensures.draws ∙ (c.now-now.ensures.draws ∙ c.dial.ensures.draws)) c.in-Err-Conflict.ensures.conflict c.in-Err-Conflict.ensures.drawn
+returns-in-Err-Conflict-clause-exact g c =
+    conflict_told _ _ _ c.in-Err-Conflict.field-0-is _ (g.T.Shelf.told c.args.self.now.sessions.now) _ (g.H.Counted.draws c.args.self.now.helper.now) (c.another.ensures.draws ∙ (c.now-now.ensures.draws ∙ search rules)) c.in-Err-Conflict.ensures.conflict c.in-Err-Conflict.ensures.drawn
 
 pub invariant_of-self-in-Ok-name_in : goal.invariant_of-self-in-Ok-name_in
 invariant_of-self-in-Ok-name_in g c = record { unlent = any_unlent (g.T.Shelf.told c.args.self.now.sessions.now) (g.T.Shelf.told c.add.new.self) c.add.result _ c.args.self.now.unlent c.add.ensures.added c.add.ensures.same }
@@ -25,7 +29,11 @@ pub returns-clause-added : goal.returns-clause-added
 returns-clause-added g c = added (g.T.Shelf.told c.args.self.now.sessions.now) (g.T.Shelf.told c.add.new.self) (id_of_name c.in-Ok-name_in.id) c.in-Ok-add.key _ c.in-Ok-name_in.ensures c.in-Ok-add.ensures.added
 
 pub returns-clause-exact : goal.returns-clause-exact
-returns-clause-exact g c = added_told (g.T.Shelf.told c.args.self.now.sessions.now) _ _ c.in-Ok-add.key _ (c.another.ensures.draws ∙ (c.now-now.ensures.draws ∙ c.dial.ensures.draws)) c.in-Ok-add.ensures.first
+returns-clause-exact g c =
+    added_told (g.T.Shelf.told c.args.self.now.sessions.now) _ (g.H.Counted.draws c.args.self.now.helper.now) c.in-Ok-add.key _ (c.another.ensures.draws ∙ (c.now-now.ensures.draws ∙ search rules)) c.in-Ok-add.ensures.first
 
 pub returns-clause-begun : goal.returns-clause-begun
-returns-clause-begun g c = begun (g.T.Shelf.told c.args.self.now.sessions.now) (g.T.Shelf.told c.add.new.self) _ _ c.in-Ok-add.key _ _ c.in-Ok-name_in.ensures c.in-Ok-prepare.ensures.session c.in-Ok-open_session.ensures.started c.in-Ok-add.ensures.added
+returns-clause-begun g c =
+    let welcome : Welcome Place = record { id = c.in-Ok-name_in.id; place = c.in-Ok-make.made.place; first = c.in-Ok-make.made.first } in
+    subst (λ (b : Bool). IsBegun b (g.T.Shelf.told c.add.new.self) c.args.ask.now welcome) c.is_some.ensures
+    (begun c.is_some.result (g.T.Shelf.told c.args.self.now.sessions.now) (g.T.Shelf.told c.add.new.self) c.args.ask.now welcome c.in-Ok-add.key _ c.in-Ok-name_in.ensures c.in-Ok-make.ensures.places c.in-Ok-make.ensures.started c.in-Ok-add.ensures.added)

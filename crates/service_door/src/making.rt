@@ -1,0 +1,79 @@
+//! A session as it is made for the table.
+
+ghost use Rattle.std.specs.Prelude.{◌≡◌, IfOk};
+ghost use Rattle.shared_desk.specs.Hosts.{IsFresh};
+ghost use Rattle.service_door.specs.Begun.{HasStarted};
+
+use crate::jobs::{PumpJob, SenderJob};
+use crate::opening::{Opened, Prepared, open_session, prepare};
+use crate::recorder::RecorderJob;
+use crate::recording::recorder_of;
+use crate::session::Session;
+use gate_model::{Bytes, NoMemory};
+use gate_outside::Bell;
+use guac_handshake::{Ask, Recorder};
+use shared_desk::Place;
+use std::alloc::Global;
+use std::sync::Wait;
+
+/// What a session is made of: its first moment, the clock and the link of its pump and its sender, whether a recorder
+/// is wanted, and the link of that, if it could be dialed.
+#[derive(Drop)]
+pub(crate) struct Parts<S, K, C> {
+    pub(crate) now: u64,
+    pub(crate) clock: C,
+    pub(crate) link: (S, K),
+    pub(crate) wanted: bool,
+    pub(crate) recorder: Option<(S, K)>,
+}
+
+/// A session for the table, its owner's place and what that is given first, and its jobs, which wait to be started.
+#[derive(Drop)]
+pub(crate) struct Made<S, K, C, B> {
+    pub(crate) session: Session,
+    pub(crate) place: Place,
+    pub(crate) first: Bytes,
+    pub(crate) pump: PumpJob<S, C, B>,
+    pub(crate) sender: SenderJob<K, B>,
+    pub(crate) recorder: Recorder<RecorderJob<K, B>>,
+}
+
+/// Makes the session of the ask, which its owner joins, and then its recorder.
+pub(crate) fn make<R: Wait, S: Drop, K: Drop, C: Drop, B: Bell>(
+    rt: &R,
+    alloc: Global,
+    ask: &Ask,
+    parts: Parts<S, K, C>,
+    bell: &B,
+) -> Result<Made<S, K, C, B>, NoMemory>
+    ensures started { IfOk result (λ made. HasStarted parts.wanted ask.now made.place made.session.host) }
+    ensures places { IfOk result (λ made. made.session.places ≡ 1) }
+    ensures fresh { IfOk result (λ made. IsFresh made.place made.first) }
+{
+    let Parts {
+        now,
+        clock,
+        link,
+        wanted,
+        recorder,
+    } = parts;
+    let Opened {
+        mut host,
+        place,
+        first,
+    } = open_session(alloc, now, ask)?;
+    let recorder = recorder_of(rt, alloc, wanted, recorder, bell, &mut host);
+    let Prepared {
+        session,
+        pump,
+        sender,
+    } = prepare(alloc, clock, bell, host, link)?;
+    Ok(Made {
+        session,
+        place,
+        first,
+        pump,
+        sender,
+        recorder,
+    })
+}

@@ -1,0 +1,42 @@
+//! The recorder of a session.
+
+ghost use Rattle.service_door.specs.Recorders.{IsKeeper};
+
+use gate_model::Bytes;
+use gate_outside::{Bell, Sink};
+use guac_handshake::Job;
+use session_record::keep;
+use shared_desk::Place;
+use std::alloc::Global;
+use std::sync::Wait;
+
+/// Records a session, by `session_record::keep`, for a viewer that joined to keep it. At the end the viewer leaves.
+#[derive(Drop)]
+pub struct RecorderJob<K, B> {
+    pub(crate) alloc: Global,
+    pub(crate) place: Place,
+    pub(crate) first: Bytes,
+    pub(crate) sink: K,
+    pub(crate) bell: B,
+    ghost keeper: { IsKeeper place first },
+}
+
+impl<K: Sink + Send + 'static, B: Bell + Send + 'static> Job for RecorderJob<K, B> {
+    fn run<R: Wait>(self, rt: &R) {
+        let RecorderJob {
+            alloc,
+            place,
+            first,
+            mut sink,
+            bell,
+        } = self;
+        let Place {
+            mut reader,
+            writer,
+            role: _,
+        } = place;
+        let _end = keep(rt, alloc, &mut reader, &first, &mut sink, &bell);
+        let _ = reader.leave(rt);
+        drop(writer);
+    }
+}
