@@ -22,7 +22,9 @@ use Rattle.id_table.specs.contracts.id_table.IdTable as table
 use Rattle.id_table.specs.contracts.locked_shelf.Behind as behind
 use Rattle.id_table.specs.contracts.locked_shelf.LockedShelf as locked
 use Rattle.id_table.specs.contracts.plain_shelf.PlainShelf as plain
-use Rattle.shared_desk.proofs.Crosses.{host_send, link_send, sender_send}
+use Rattle.http_tunnel.specs.contracts.tunnel.Tunnel as tunnel
+use Rattle.shared_desk.proofs.Crosses.{host_send, link_send, reader_send, sender_send, writer_send}
+use Rattle.shared_desk.specs.contracts.reader.ReaderPass as reader
 use Rattle.service_door.specs.contracts.jobs.PumpJob as pump
 use Rattle.service_door.specs.contracts.jobs.SenderJob as sender
 use Rattle.service_door.specs.contracts.marks.Marks as marks
@@ -95,13 +97,21 @@ behind_sync V v = declared_sync (behind.the_type V) (mutex_sync _ (plain_send V 
 locked_send : (V : RattleType) → IsSend V → IsSend (locked.the_row V)
 locked_send V v = declared_send (locked.the_type V) (option_send _ (Arc-send (behind.the_row V) (behind_send V v) (behind_sync V v)), tt)
 
+-- a viewer's tunnel: its session's ID, its two passes, its role, the text that waits, and whether it goes
+tunnel_send : IsSend tunnel.the_row
+tunnel_send =
+    declared_send tunnel.the_type (search (sendable, crosses) depth 20, (option_send reader.the_row reader_send, (writer_send, (search sendable depth 20, (search (sendable, crosses) depth 20, (search sendable, tt))))))
+
 pub connection_send : (S K H B L : RattleType) → IsSend S → IsSend K → IsSend H → IsSend B → IsSend L → IsSend (connection.the_row S K H B L)
 connection_send S K H B L s k h b l =
     declared_send (connection.the_type S K H B L) (
       search (sendable, crosses),
       (
         Arc-send (mutex.the_row (option.the_row (pair.the_row S K))) (ends_send S K s k) (ends_sync S K s k),
-        (locked_send session.the_row session_send, (field_send H h, (field_send B b, (field_send L l, tt)))),
+        (
+          locked_send session.the_row session_send,
+          (locked_send tunnel.the_row tunnel_send, (field_send H h, (field_send H h, (field_send B b, (field_send L l, tt))))),
+        ),
       ),
     )
 

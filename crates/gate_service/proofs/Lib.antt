@@ -1,4 +1,6 @@
 -- A byte that was looked at.
 mod Looks
+-- A request that is due no response.
+mod Replying
 -- What the jobs have may go to other threads.
 pub mod Crosses

@@ -8,6 +8,7 @@ use crate::notes::{note_end, note_refused};
 use gate_model::{Instr, NoMemory};
 use gate_outside::{Bell, Dialer, Helper, Net, Sink, Spawner, write_all};
 use guac_instr::text_of;
+use http_tunnel::Tunnel;
 use id_table::LockedShelf;
 use log::Log;
 use service_door::{Session, sweep};
@@ -15,12 +16,13 @@ use std::alloc::Global;
 use std::sync::{Arc, Mutex, Wait};
 use std::thread::Threads;
 
-/// What the service has for every connection: the table of sessions, a helper of its own, the one bell, and
-/// where it notes.
+/// What the service has for every connection: the tables of sessions and of tunnels, a helper of its own, the one
+/// bell, and where it notes.
 #[derive(Drop)]
 pub(crate) struct Service<H, B, L> {
     pub(crate) alloc: Global,
     pub(crate) sessions: LockedShelf<Session>,
+    pub(crate) tunnels: LockedShelf<Tunnel>,
     pub(crate) helper: H,
     pub(crate) bell: B,
     pub(crate) log: L,
@@ -102,7 +104,9 @@ where
             alloc: self.alloc,
             ends: Arc::try_clone(ends)?,
             sessions: self.sessions.another(),
+            tunnels: self.tunnels.another(),
             helper: self.helper.another(self.alloc)?,
+            dice: self.helper.another(self.alloc)?,
             bell: self.bell.another(self.alloc)?,
             log: self.log,
         })

@@ -1,10 +1,10 @@
 //! The job of one connection.
 
-use crate::notes::note_visit;
 use crate::noting::NotingDoor;
 use crate::{ConnEnd, Lookahead, connection};
-use gate_outside::{Bell, Helper, Sink, Source};
+use gate_outside::{Bell, Dice, Helper, Sink, Source};
 use guac_handshake::Door;
+use http_tunnel::Tunnel;
 use id_table::LockedShelf;
 use log::Log;
 use service_door::{ServiceDoor, Session};
@@ -30,7 +30,10 @@ pub(crate) struct ConnectionJob<S, K, H, B, L> {
     pub(crate) alloc: Global,
     pub(crate) ends: Ends<S, K>,
     pub(crate) sessions: LockedShelf<Session>,
+    pub(crate) tunnels: LockedShelf<Tunnel>,
     pub(crate) helper: H,
+    /// Its dice draw the IDs of tunnels.
+    pub(crate) dice: H,
     pub(crate) bell: B,
     pub(crate) log: L,
 }
@@ -53,7 +56,9 @@ where
             alloc,
             ends,
             mut sessions,
+            tunnels,
             mut helper,
+            dice,
             bell,
             log,
         } = self;
@@ -61,28 +66,48 @@ where
             return;
         };
         let door = ServiceDoor::new(&mut sessions, &mut helper, &bell);
-        serve_at(rt, alloc, source, sink, door, &bell, log);
+        serve_at(rt, alloc, source, sink, door, tunnels, dice, &bell, log);
     }
 }
 
 // Serves the connection at the door, finishes it, and gives the place of a visit back to the door.
-fn serve_at<R, S, K, D, B, L>(rt: &R, alloc: Global, source: S, sink: K, door: D, bell: &B, log: L)
+fn serve_at<R, S, K, D, X, B, L>(
+    rt: &R,
+    alloc: Global,
+    source: S,
+    sink: K,
+    door: D,
+    tunnels: LockedShelf<Tunnel>,
+    dice: X,
+    bell: &B,
+    log: L,
+)
 where
     R: Threads + Wait + Copy + Send + Sync + 'static,
     S: Source + Send,
     K: Sink + Send,
     D: Door<Place = Place> + Drop,
+    X: Dice,
     B: Bell + Send,
     L: Log + Copy + Drop,
 {
     let mut source = Lookahead::new(source);
     let mut sink = sink;
     let mut door = NotingDoor { door, log };
-    let end = connection(rt, alloc, &mut source, &mut sink, &mut door, bell);
+    let (mut tunnels, mut dice) = (tunnels, dice);
+    let end = connection(
+        rt,
+        alloc,
+        &mut source,
+        &mut sink,
+        &mut door,
+        &mut tunnels,
+        &mut dice,
+        bell,
+    );
     sink.finish();
     if let ConnEnd::User(UserEnd::Served(visit)) = end {
         let Visit { id, place, .. } = visit;
-        note_visit(&log, id.as_str());
         door.give(rt, id.as_str(), place);
     }
 }

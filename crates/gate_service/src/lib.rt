@@ -1,8 +1,8 @@
 //! The service: it accepts connections, serves each in a job of its own, and keeps the table of sessions.
 //!
-//! `connection` is all that it does for one connection: it is a viewer's where its first byte is a digit. Its
-//! contract says what was read and written (`ConnRun` of `specs/Connections.antt`), and has what
-//! `user_serve::serve_user` says of a viewer's. `top` does `serve` and gives every other list of words to
+//! `connection` is all that it does for one connection: it is a viewer's where its first byte is a digit, and HTTP
+//! where it is another. Its contract says what was read and written (`ConnRun` of `specs/Connections.antt`, and of
+//! HTTP `HttpRun` of `specs/Requests.antt`), and has what `user_serve::serve_user` says of a viewer's. `top` does `serve` and gives every other list of words to
 //! `gate_script::command`.
 #![tactic(auto)]
 
@@ -12,9 +12,11 @@ mod lookahead;
 mod notes;
 mod noting;
 mod program;
+mod requests;
 mod routing;
 mod service;
 
 pub use lookahead::Lookahead;
 pub use program::{Host, top};
+pub use requests::HttpEnd;
 pub use routing::{ConnEnd, connection};

@@ -1,8 +1,8 @@
-//! A door that notes which sessions begin.
+//! A door that notes which sessions begin, and who leaves them.
 
 ghost use Rattle.std.specs.Prelude.{Option};
 
-use crate::notes::{note_begun, note_undone};
+use crate::notes::{note_begun, note_undone, note_visit};
 use gate_model::{Asked, Text};
 use gate_outside::{Counted, Way};
 use guac_handshake::{Ask, Begun, Door, Refused, Welcome};
@@ -10,7 +10,8 @@ use log::Log;
 use std::alloc::Global;
 use std::sync::Wait;
 
-/// A door, and where it is noted which sessions begin at it. It tells what that door tells.
+/// A door, and where it is noted which sessions begin at it and that a place of one comes back. It tells what that
+/// door tells.
 #[derive(Drop)]
 pub(crate) struct NotingDoor<D, L> {
     pub(crate) door: D,
@@ -83,6 +84,7 @@ impl<D: Door, L: Log + Drop> Door for NotingDoor<D, L> {
     }
 
     fn give<R: Wait>(&mut self, rt: &R, id: &str, place: D::Place) {
+        note_visit(&self.log, id);
         self.door.give(rt, id, place);
     }
 }

@@ -1,20 +1,26 @@
-//! By its first byte a connection is a viewer's, or another.
+//! By its first byte a connection is a viewer's, or HTTP.
 
 ghost use Rattle.std.specs.Prelude.{◌≡◌, ◌≤◌, ◌⊎◌, ◌++◌, ℕ, List};
-ghost use Rattle.gate_outside.specs.Edge.{Rose, came, gained};
+ghost use Rattle.gate_outside.specs.Edge.{AtEnd, Rose, came, gained};
 ghost use Rattle.guac_handshake.specs.Doors.{AreTaken, HasConflict, HasRefused};
 ghost use Rattle.guac_handshake.specs.declared.refused.Refused.TheVariants.{Closed, Forbidden, TooMany, Worn};
+ghost use Rattle.http_tunnel.specs.Tunnels.{AreHome};
 ghost use Rattle.user_serve.specs.Users.{HasGreeted, IfServed, LeavesDoor};
 ghost use Rattle.user_serve.specs.declared.ends.IntakeEnd.TheVariants as intakes;
 ghost use Rattle.user_serve.specs.declared.ends.OutletEnd.TheVariants as outlets;
 ghost use Rattle.user_serve.specs.declared.ends.UserEnd.TheVariants as users;
-ghost use Rattle.gate_service.specs.Connections.{ConnRun, IfNoUser, IfUser};
+ghost use Rattle.gate_service.specs.Connections.{ConnRun, IfUnserved, IfUser};
 ghost use Rattle.gate_service.specs.Lookaheads.{left_of, source_of};
+ghost use Rattle.gate_service.specs.Requests.{IsAnswer, IsDue};
+ghost use Rattle.gate_service.specs.declared.requests.HttpEnd.TheVariants as https;
 ghost use Rattle.gate_service.specs.declared.routing.ConnEnd.TheVariants as ends;
 
 use crate::Lookahead;
-use gate_outside::{Bell, Failed, Sink, Source};
+use crate::requests::{HttpEnd, serve_request};
+use gate_outside::{Bell, Dice, Failed, Sink, Source};
 use guac_handshake::Door;
+use http_tunnel::Tunnel;
+use id_table::Shelf;
 use shared_desk::Place;
 use std::alloc::Global;
 use std::sync::Wait;
@@ -26,8 +32,8 @@ use user_serve::{UserEnd, serve_user};
 pub enum ConnEnd {
     /// Its first byte is a digit, so it is a viewer's.
     User(UserEnd),
-    /// Its first byte is another. Nothing is read or written.
-    Other,
+    /// Its first byte is another, so it is HTTP.
+    Http(HttpEnd),
     /// Its bytes ended before the first.
     Ended,
     /// The read of its first byte failed.
@@ -37,14 +43,19 @@ pub enum ConnEnd {
 }
 
 /// Serves one connection. It looks at the first byte; where that is a digit, it serves a viewer by `serve_user`, over
-/// that byte and what comes behind it. The place of a visit is for the caller to give back to the door (this
-/// project's own).
-pub fn connection<R, S, K, D, B>(
+/// that byte and what comes behind it, and the place of a visit is for the caller to give back to the door. Where it
+/// is another, it reads one request and writes one response: that of `http_tunnel::tunnel_request` for a whole
+/// request, whose condition and promise on the tunnels it has, the refusal's status with code 768 for a request that
+/// is refused, and 500 with code 512 where memory is wanting. A connection that ends early, or whose read fails, is
+/// answered nothing (this project's own).
+pub fn connection<R, S, K, D, T, X, B>(
     rt: &R,
     alloc: Global,
     source: &mut Lookahead<S>,
     sink: &mut K,
     door: &mut D,
+    tunnels: &mut T,
+    dice: &mut X,
     bell: &B,
 ) -> ConnEnd
 where
@@ -52,12 +63,24 @@ where
     S: Source + Send,
     K: Sink + Send,
     D: Door<Place = Place>,
+    T: Shelf<Tunnel>,
+    X: Dice,
     B: Bell + Send,
-    ensures ran { (read : List ℕ) × (written : List ℕ) × (left_of S.left source.old ≡ came read (left_of S.left source.new)) × (K.written sink.new ≡ gained (K.written sink.old) written) × ConnRun (left_of S.left source.old) (left_of S.left source.new) result read written }
+    requires { AreHome (T.told tunnels.old) }
+    ensures home { AreHome (T.told tunnels.new) }
+    ensures ran { (read : List ℕ) × (written : List ℕ) × (left_of S.left source.old ≡ came read (left_of S.left source.new)) × (K.written sink.new ≡ gained (K.written sink.old) written) ×
+        ConnRun (IsDue (IsAnswer D.id_of (D.sessions door.old) (D.sessions door.new) (D.draws door.old) (D.asked door.old) (D.asked door.new) (D.out door.old) (D.out door.new) (T.told tunnels.old) (T.told tunnels.new) (Rose (D.dial_faults door.old) (D.dial_faults door.new)) (Rose (D.start_faults door.old) (D.start_faults door.new))) ((door.new ≡ door.old) × (tunnels.new ≡ tunnels.old) × (dice.new ≡ dice.old)))
+        (left_of S.left source.old) (left_of S.left source.new) result read written }
     ensures read_fault { result ≡ ends.ReadFault → Rose (S.faults (source_of source.old)) (S.faults (source_of source.new)) }
-    ensures untouched { IfNoUser result ((sink.new ≡ sink.old) × (door.new ≡ door.old)) }
+    ensures untouched { IfUnserved result ((sink.new ≡ sink.old) × (door.new ≡ door.old) × (tunnels.new ≡ tunnels.old) × (dice.new ≡ dice.old)) }
 
-    // What the contract of `serve_user` says of a viewer's end.
+    // The causes of the other ends of HTTP.
+    ensures http_ended { result ≡ ends.Http https.Ended → AtEnd (left_of S.left source.new) }
+    ensures http_read { result ≡ ends.Http https.ReadFault → Rose (S.faults (source_of source.old)) (S.faults (source_of source.new)) }
+    ensures http_write { result ≡ ends.Http https.WriteFault → Rose (K.faults sink.old) (K.faults sink.new) }
+
+    // What the contract of `serve_user` says of a viewer's end. It leaves the tunnels and the dice alone.
+    ensures apart { IfUser result (λ end. (tunnels.new ≡ tunnels.old) × (dice.new ≡ dice.old)) }
     ensures greeting { IfUser result (HasGreeted D.id_of (D.sessions door.old) (D.sessions door.new) (D.draws door.old) (left_of S.left source.old) (left_of S.left source.new) (K.written sink.old) (K.written sink.new) (D.asked door.old) (D.asked door.new)) }
     ensures door { IfUser result (LeavesDoor D.id_of (D.out door.old) (D.out door.new) (D.sessions door.old) (D.sessions door.new)) }
     ensures intake_fault { IfUser result (λ end. IfServed end (λ visit. visit.intake ≡ intakes.ReadFault → Rose (S.faults (source_of source.old)) (S.faults (source_of source.new)))) }
@@ -72,8 +95,8 @@ where
     ensures forbidden { result ≡ ends.User (users.Refused 771) → HasRefused (D.sessions door.new) Forbidden }
     ensures too_many { result ≡ ends.User (users.Refused 797) → HasRefused (D.sessions door.new) TooMany }
 
-    ensures later_dials { D.dial_faults door.old ≤ D.dial_faults door.new }
-    ensures later_starts { D.start_faults door.old ≤ D.start_faults door.new }
+    ensures later_dials { IfUser result (λ end. D.dial_faults door.old ≤ D.dial_faults door.new) }
+    ensures later_starts { IfUser result (λ end. D.start_faults door.old ≤ D.start_faults door.new) }
     ensures later_reads { S.faults (source_of source.old) ≤ S.faults (source_of source.new) }
     ensures later_writes { K.faults sink.old ≤ K.faults sink.new }
 {
@@ -85,6 +108,6 @@ where
     if byte.is_ascii_digit() {
         ConnEnd::User(serve_user(rt, alloc, source, sink, door, bell))
     } else {
-        ConnEnd::Other
+        ConnEnd::Http(serve_request(rt, alloc, source, sink, door, tunnels, dice, bell))
     }
 }

@@ -53,6 +53,9 @@ where
     let Ok(sessions) = LockedShelf::new(alloc) else {
         return 6;
     };
+    let Ok(tunnels) = LockedShelf::new(alloc) else {
+        return 6;
+    };
     let Ok(helper) = net.helper(alloc) else {
         return 6;
     };
@@ -64,6 +67,7 @@ where
     let mut service = Service {
         alloc,
         sessions,
+        tunnels,
         helper,
         bell,
         log,

@@ -30,7 +30,8 @@ draw    draws what a Telnet host sent, read from standard input, on a screen of 
         512) and ROWS rows (1 to 256), at most 8192 cells
 script  does the lines of a script, as start 80 24 none, join owner, server 48690d0a, read 1; its
         session may have ENTRIES entries (1 to 2^40, 2^40 where none is given)
-serve   serves viewers on a port of this machine, 4822 where none is given; serve --help tells more
+serve   serves viewers, by the Guacamole protocol and over HTTP, on a port of this machine, 4822
+        where none is given; serve --help tells more
 
 The answers go to standard output, the instructions that each frame has, and those that a viewer is
 given, to standard error.

@@ -5,9 +5,17 @@ use std::net::{Shutdown, TcpListener, TcpStream};
 use std::string::String;
 use std::time::Duration;
 
-/// Takes one connection, and sends back each byte that it gets, up to `q`. Then it says that it sends no more,
-/// and waits silently for the other side's end. It answers the printable bytes that it got.
-pub fn echo(rt: &HostRuntime, listener: &TcpListener) -> String {
+/// Takes two connections, one after the other, and answers what it heard of each.
+pub fn echo_both(rt: &HostRuntime, listener: &TcpListener) -> String {
+    let mut heard = echo(rt, listener);
+    let _ = heard.push_str(", then ");
+    let _ = heard.push_str(echo(rt, listener).as_str());
+    heard
+}
+
+// Takes one connection, and sends back each byte that it gets, up to `q`. Then it says that it sends no more,
+// and waits silently for the other side's end. It answers the printable bytes that it got.
+fn echo(rt: &HostRuntime, listener: &TcpListener) -> String {
     let mut heard = String::new(rt.alloc());
     if let Ok((mut stream, _)) = listener.accept() {
         let _ = stream.set_read_timeout(Some(Duration::from_secs(60)));

@@ -35,6 +35,25 @@ impl Viewer {
         Ok(())
     }
 
+    /// From now on a read fails where no byte came for so many milliseconds.
+    pub fn pause_after(&mut self, milliseconds: u64) -> Result<()> {
+        self.stream
+            .set_read_timeout(Some(Duration::from_millis(milliseconds)))?;
+        Ok(())
+    }
+
+    /// Reads to the end of the connection, or to a read that fails. Whether it was the end.
+    pub fn has_ended(&mut self) -> bool {
+        for _ in 0..100_000 {
+            match self.read() {
+                Ok(true) => {}
+                Ok(false) => return true,
+                Err(_) => return false,
+            }
+        }
+        false
+    }
+
     // Reads once. Whether there was something.
     fn read(&mut self) -> Result<bool> {
         let mut piece = [0u8; 4096];
@@ -54,11 +73,6 @@ impl Viewer {
             }
         }
         bail!("the connection has ended too early")
-    }
-
-    /// How often the text has come.
-    pub fn count(&self, text: &[u8]) -> usize {
-        count(&self.heard, text)
     }
 
     /// The ID that `ready` told.
@@ -111,8 +125,8 @@ fn find(heard: &[u8], text: &[u8]) -> Option<usize> {
         .position(|window| window == text)
 }
 
-// How often the text is there.
-fn count(heard: &[u8], text: &[u8]) -> usize {
+/// How often the text is there.
+pub fn count(heard: &[u8], text: &[u8]) -> usize {
     heard
         .windows(text.len().max(1))
         .filter(|window| *window == text)

@@ -1,0 +1,73 @@
+-- What a connection that isn't a viewer's read and wrote: one request, and one response (this project's own).
+use Rattle.std.specs.Prelude.{◌≡◌, ◌≤◌, ◌⊎◌, ℕ, List, [], length, take, Option}
+use Rattle.guac_handshake.specs.Doors.{Sessions}
+use Rattle.guac_handshake.specs.declared.request.Request.{Request as DoorRequest}
+use Rattle.http_front.specs.Requests.{IsUnfinished, Receives}
+use Rattle.http_front.specs.Responses.{response_text}
+use Rattle.http_front.specs.declared.request.Incoming.{Incoming}
+use Rattle.http_front.specs.declared.request.Incoming.TheVariants as incoming
+use Rattle.http_front.specs.declared.request.Request.{Request}
+use Rattle.http_front.specs.declared.response.Response.{Response}
+use Rattle.http_tunnel.specs.Requests.{IsResponse, Serves}
+use Rattle.http_tunnel.specs.Routes.{route_of}
+use Rattle.http_tunnel.specs.declared.tunnel.Tunnel.{Tunnel}
+use Rattle.id_table.specs.Maps.{Shelved}
+use Rattle.gate_service.specs.declared.requests.HttpEnd.{HttpEnd}
+use Rattle.gate_service.specs.declared.requests.HttpEnd.TheVariants.{Answered, Ended, ReadFault, WriteFault, NoMemory}
+
+-- the response meets the contract of `tunnel_request` for the whole request, by what the door and the shelf of
+-- tunnels tell before and after the call; the last two facts are the causes of the statuses 502 and 503
+abbrev pub IsAnswer : (List ℕ → Option (List ℕ)) → Option Sessions → Option Sessions → Option (ℕ → List ℕ) → Option (List DoorRequest) → Option (List DoorRequest) → Option ℕ → Option ℕ → Option (Shelved Tunnel) → Option (Shelved Tunnel) → Type 0 → Type 0 → Request → Response → Type 0
+IsAnswer id_of sessions sessions_new draws asked asked_new out out_new told told_new dialed started request response =
+    ((answered : _) × IsResponse answered response × Serves id_of sessions sessions_new draws asked asked_new out out_new told told_new request.body.now answered (route_of request.method request.target.now))
+    × (response.status ≡ 502 → dialed) × (response.status ≡ 503 → started)
+
+-- an empty response with this status and this code
+abbrev pub IsRefusal : ℕ → ℕ → Response → Type 0
+IsRefusal status code response = (response.status ≡ status) × (response.code ≡ code) × (response.body ≡ [])
+
+-- the response that is due for what came: for a whole request one that answers it; else the refusal, or that of want
+-- of memory, and then nothing else was done. Bytes that ended early are due none
+abbrev pub IsDue : (Request → Response → Type 0) → Type 0 → Incoming → Response → Type 0
+IsDue answers idle (incoming.Whole request) response = answers request response
+IsDue answers idle (incoming.Refused status) response = IsRefusal status 768 response × idle
+IsDue answers idle incoming.Ended response = ⊥
+IsDue answers idle incoming.ReadFault response = ⊥
+IsDue answers idle incoming.NoMemory response = IsRefusal 500 512 response × idle
+
+-- the bytes that were read are those of one request, and what was written came of the response that is due for it
+abbrev pub Replies : (Incoming → Response → Type 0) → (Response → Type 0) → List ℕ → Type 0
+Replies due wrote read = (came : Incoming) × (response : Response) × Receives read came × due came response × wrote response
+
+-- some front of the text
+abbrev pub IsFront : List ℕ → List ℕ → Type 0
+IsFront written text = (n : ℕ) × (n ≤ length text) × (written ≡ take n text)
+
+-- the response is written whole where its status is told, and a front of it where a write failed; at every other end
+-- nothing is written
+abbrev pub HttpRun : (Incoming → Response → Type 0) → HttpEnd → List ℕ → List ℕ → Type 0
+HttpRun due (Answered status) read written = Replies due (λ response. (response.status ≡ status) × (written ≡ response_text response)) read
+HttpRun due WriteFault read written = Replies due (λ response. IsFront written (response_text response)) read
+HttpRun due NoMemory read written = Replies due (λ response. written ≡ []) read
+HttpRun due Ended read written = IsUnfinished read × (written ≡ [])
+HttpRun due ReadFault read written = IsUnfinished read × (written ≡ [])
+
+-- .. the part of it that is written
+abbrev pub Wrote : Response → HttpEnd → List ℕ → Type 0
+Wrote response (Answered status) written = (response.status ≡ status) × (written ≡ response_text response)
+Wrote response WriteFault written = IsFront written (response_text response)
+Wrote response NoMemory written = written ≡ []
+Wrote response Ended written = ⊥
+Wrote response ReadFault written = ⊥
+
+-- why bytes are due no response
+abbrev pub IsSilent : Incoming → HttpEnd → Type 0
+IsSilent came end = ((came ≡ incoming.Ended) × (end ≡ Ended)) ⊎ ((came ≡ incoming.ReadFault) × (end ≡ ReadFault))
+
+-- a fact of the ends at which nothing was done
+abbrev pub OnSilent : HttpEnd → Type 0 → Type 0
+OnSilent (Answered status) P = Unit {0}
+OnSilent WriteFault P = Unit {0}
+OnSilent NoMemory P = Unit {0}
+OnSilent Ended P = P
+OnSilent ReadFault P = P
