@@ -33,6 +33,7 @@ use Rattle.service_door.specs.contracts.session.Session as session
 use Rattle.service_door.specs.contracts.session.Session.TheInside as whole_session
 use Rattle.gate_service.specs.contracts.jobs.ConnectionJob as connection
 use Rattle.gate_service.specs.contracts.jobs.Pair as pair
+use Rattle.gate_service.specs.contracts.jobs.RecorderAddress as address
 
 marks_send : IsSend marks.the_row
 marks_send = search (sendable, crosses) depth 20
@@ -102,6 +103,10 @@ tunnel_send : IsSend tunnel.the_row
 tunnel_send =
     declared_send tunnel.the_type (search (sendable, crosses) depth 20, (option_send reader.the_row reader_send, (writer_send, (search sendable depth 20, (search (sendable, crosses) depth 20, (search sendable, tt))))))
 
+-- where a recorder listens
+address_send : IsSend address.the_row
+address_send = search (sendable, crosses) depth 20
+
 pub connection_send : (S K H B L : RattleType) → IsSend S → IsSend K → IsSend H → IsSend B → IsSend L → IsSend (connection.the_row S K H B L)
 connection_send S K H B L s k h b l =
     declared_send (connection.the_type S K H B L) (
@@ -110,7 +115,7 @@ connection_send S K H B L s k h b l =
         Arc-send (mutex.the_row (option.the_row (pair.the_row S K))) (ends_send S K s k) (ends_sync S K s k),
         (
           locked_send session.the_row session_send,
-          (locked_send tunnel.the_row tunnel_send, (field_send H h, (field_send H h, (field_send B b, (field_send L l, tt))))),
+          (locked_send tunnel.the_row tunnel_send, (field_send H h, (field_send H h, (field_send B b, (option_send address.the_row address_send, (field_send L l, tt)))))),
         ),
       ),
     )

@@ -3,9 +3,9 @@
 ghost use Rattle.std.specs.Prelude.{◌≡◌, ◌≤◌, IfErr};
 ghost use Rattle.gate_outside.specs.Edge.{Rose};
 
-use crate::jobs::{ConnectionJob, Ends, Pair};
+use crate::jobs::{ConnectionJob, Ends, Pair, RecorderAddress};
 use crate::notes::{note_end, note_refused};
-use gate_model::{Instr, NoMemory};
+use gate_model::{Instr, NoMemory, Text};
 use gate_outside::{Bell, Dialer, Helper, Net, Sink, Spawner, write_all};
 use guac_instr::text_of;
 use http_tunnel::Tunnel;
@@ -17,7 +17,7 @@ use std::sync::{Arc, Mutex, Wait};
 use std::thread::Threads;
 
 /// What the service has for every connection: the tables of sessions and of tunnels, a helper of its own, the one
-/// bell, and where it notes.
+/// bell, the host and the port of the recorder of sessions, where one is wanted, and where it notes.
 #[derive(Drop)]
 pub(crate) struct Service<H, B, L> {
     pub(crate) alloc: Global,
@@ -25,6 +25,7 @@ pub(crate) struct Service<H, B, L> {
     pub(crate) tunnels: LockedShelf<Tunnel>,
     pub(crate) helper: H,
     pub(crate) bell: B,
+    pub(crate) recorder: Option<(Text, u16)>,
     pub(crate) log: L,
 }
 
@@ -108,9 +109,22 @@ where
             helper: self.helper.another(self.alloc)?,
             dice: self.helper.another(self.alloc)?,
             bell: self.bell.another(self.alloc)?,
+            recorder: copy_of(self.alloc, &self.recorder)?,
             log: self.log,
         })
     }
+}
+
+// The recorder's host and port once more.
+fn copy_of(
+    alloc: Global,
+    recorder: &Option<(Text, u16)>,
+) -> Result<Option<RecorderAddress>, NoMemory> {
+    let Some((host, port)) = recorder else {
+        return Ok(None);
+    };
+    let host = Text::of(String::from_str(alloc, host.as_str())?);
+    Ok(Some(RecorderAddress { host, port: *port }))
 }
 
 // Sends `error` with the status, and finishes the connection.

@@ -2,6 +2,7 @@
 
 use crate::noting::NotingDoor;
 use crate::{ConnEnd, Lookahead, connection};
+use gate_model::Text;
 use gate_outside::{Bell, Dice, Helper, Sink, Source};
 use guac_handshake::Door;
 use http_tunnel::Tunnel;
@@ -24,6 +25,13 @@ pub(crate) struct Pair<S, K> {
 /// The ends of a connection, which the job takes, or who couldn't start it.
 pub(crate) type Ends<S, K> = Arc<Mutex<Option<Pair<S, K>>>, Global>;
 
+/// Where a recorder listens.
+#[derive(Drop)]
+pub(crate) struct RecorderAddress {
+    pub(crate) host: Text,
+    pub(crate) port: u16,
+}
+
 /// The job that serves one connection.
 #[derive(Drop)]
 pub(crate) struct ConnectionJob<S, K, H, B, L> {
@@ -35,6 +43,7 @@ pub(crate) struct ConnectionJob<S, K, H, B, L> {
     /// Its dice draw the IDs of tunnels.
     pub(crate) dice: H,
     pub(crate) bell: B,
+    pub(crate) recorder: Option<RecorderAddress>,
     pub(crate) log: L,
 }
 
@@ -60,12 +69,14 @@ where
             mut helper,
             dice,
             bell,
+            recorder,
             log,
         } = self;
         let Some(Pair { source, sink }) = ends.lock(rt).take() else {
             return;
         };
-        let door = ServiceDoor::new(&mut sessions, &mut helper, &bell);
+        let recorder = recorder.map(|it| (it.host, it.port));
+        let door = ServiceDoor::new(&mut sessions, &mut helper, &bell, recorder);
         serve_at(rt, alloc, source, sink, door, tunnels, dice, &bell, log);
     }
 }

@@ -13,6 +13,16 @@ pub(crate) fn note_begun<L: Log>(log: &L, name: &str) {
     info!(log; "session {} has begun", short(name));
 }
 
+/// The session of this name has begun, and its recorder couldn't be had.
+pub(crate) fn note_unrecorded<L: Log>(log: &L, name: &str) {
+    warn!(log; "session {} isn't recorded, since its recorder couldn't be had", short(name));
+}
+
+/// A job of a session couldn't be started: its recorder's, or one without which it is taken back.
+pub(crate) fn note_unstarted<L: Log>(log: &L) {
+    warn!(log; "a job of a session couldn't be started");
+}
+
 /// The session of this name has begun, and a job of it couldn't be started.
 pub(crate) fn note_undone<L: Log>(log: &L, name: &str) {
     warn!(log; "session {} was taken back, since a job of it couldn't be started", short(name));

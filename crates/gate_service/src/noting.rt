@@ -2,10 +2,10 @@
 
 ghost use Rattle.std.specs.Prelude.{Option};
 
-use crate::notes::{note_begun, note_undone, note_visit};
+use crate::notes::{note_begun, note_undone, note_unrecorded, note_unstarted, note_visit};
 use gate_model::{Asked, Text};
 use gate_outside::{Counted, Way};
-use guac_handshake::{Ask, Begun, Door, Refused, Welcome};
+use guac_handshake::{Ask, Begun, Door, Recorder, Refused, Welcome};
 use log::Log;
 use std::alloc::Global;
 use std::sync::Wait;
@@ -33,6 +33,8 @@ impl<D: Door, L: Log + Drop> Door for NotingDoor<D, L> {
 
     type Sending = D::Sending;
 
+    type Recording = D::Recording;
+
     ghost id_of = { λ name. D.id_of name };
 
     ghost sessions = { λ d. D.sessions d.door };
@@ -52,10 +54,10 @@ impl<D: Door, L: Log + Drop> Door for NotingDoor<D, L> {
         rt: &R,
         alloc: Global,
         ask: &Ask,
-    ) -> Result<Begun<D::Place, D::Pump, D::Sending>, Refused> {
+    ) -> Result<Begun<D::Place, D::Pump, D::Sending, D::Recording>, Refused> {
         let opened = self.door.open(rt, alloc, ask);
         if let Ok(begun) = &opened {
-            note_begun(&self.log, begun.welcome.id.as_str());
+            note_opened(&self.log, begun.welcome.id.as_str(), &begun.recorder);
         }
         opened
     }
@@ -65,6 +67,7 @@ impl<D: Door, L: Log + Drop> Door for NotingDoor<D, L> {
     }
 
     fn note(&mut self) {
+        note_unstarted(&self.log);
         self.door.note();
     }
 
@@ -86,5 +89,14 @@ impl<D: Door, L: Log + Drop> Door for NotingDoor<D, L> {
     fn give<R: Wait>(&mut self, rt: &R, id: &str, place: D::Place) {
         note_visit(&self.log, id);
         self.door.give(rt, id, place);
+    }
+}
+
+// Notes that a session has begun, and whether its recorder couldn't be had.
+fn note_opened<L: Log, C>(log: &L, name: &str, recorder: &Recorder<C>) {
+    note_begun(log, name);
+    match recorder {
+        Recorder::Failed => note_unrecorded(log, name),
+        Recorder::Unwanted | Recorder::Ready(_) => {}
     }
 }

@@ -30,14 +30,14 @@ where
     ensures later { N.net_faults net.old ≤ N.net_faults net.new }
 {
     match options_of(alloc, words) {
-        Ok(options) => listen(rt, alloc, &options, net),
+        Ok(options) => listen(rt, alloc, options, net),
         Err(WordsFault::Usage) => 2,
         Err(WordsFault::NoMemory) => 6,
     }
 }
 
 // Listens, and serves every connection.
-fn listen<R, N>(rt: &R, alloc: Global, options: &Options, net: &mut N) -> u8
+fn listen<R, N>(rt: &R, alloc: Global, options: Options, net: &mut N) -> u8
 where
     R: Eprint + Threads + Wait + Copy + Send + Sync + Drop + 'static,
     N: Net,
@@ -70,6 +70,7 @@ where
         tunnels,
         helper,
         bell,
+        recorder: options.recorder,
         log,
     };
     accept_all(rt, &mut service, net)

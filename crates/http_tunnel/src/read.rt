@@ -240,7 +240,8 @@ fn read_lent<R: Wait, B: Bell>(
     answer_of(alloc, end, Bytes::of(text))
 }
 
-/// Reads for the viewer of a tunnel.
+/// Reads for the viewer of a tunnel. It rings no bell: a read has nothing new for anybody, and readers that rang would
+/// wake each other for ever.
 pub(crate) fn read<R: Wait, T: Shelf<Tunnel>, D: Door<Place = Place>, B: Bell>(
     rt: &R,
     alloc: Global,
@@ -259,7 +260,6 @@ pub(crate) fn read<R: Wait, T: Shelf<Tunnel>, D: Door<Place = Place>, B: Bell>(
             let Lent { mut reader, kept } = lent;
             let (result, left) = read_lent(rt, alloc, &mut reader, kept, bell);
             end_read(rt, tunnels, id, door, reader, left);
-            bell.ring();
             result
         }
         None => Err(Refusal::NotFound),

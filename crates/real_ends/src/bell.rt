@@ -44,7 +44,8 @@ impl Bell for ParkBell {
     fn another(&self, _alloc: Global) -> Result<ParkBell, NoMemory> {
         Ok(ParkBell {
             rings: Arc::try_clone(&self.rings)?,
-            answered: AtomicU64::new(self.answered.load(SeqCst)),
+            // What was rung so far is old to whoever begins to look now.
+            answered: AtomicU64::new(self.rings.load(SeqCst)),
         })
     }
 }

@@ -4,7 +4,7 @@ use Rattle.http_tunnel.proofs.TunnelReads.{ended_gone, ended_there, put_there}
 use Rattle.http_tunnel.proofs.read.end_lent.Goals as goal
 
 pub remove_read-requires : goal.remove_read-requires
-remove_read-requires g c = (c.type_bounds.static-D-Pump, (c.type_bounds.static-D-Sending, (c.type_bounds.send-D-Pump, (c.type_bounds.send-D-Sending, put_there c.args.id.now _ (g.T.Shelf.told c.args.tunnels.now) (g.T.Shelf.told c.back.new.self) c.back.ensures))))
+remove_read-requires g c = (c.type_bounds.static-D-Pump, (c.type_bounds.static-D-Sending, (c.type_bounds.static-D-Recording, (c.type_bounds.send-D-Pump, (c.type_bounds.send-D-Sending, (c.type_bounds.send-D-Recording, put_there c.args.id.now _ (g.T.Shelf.told c.args.tunnels.now) (g.T.Shelf.told c.back.new.self) c.back.ensures))))))
 
 pub returns-then-goes : goal.returns-then-goes
 returns-then-goes g c =

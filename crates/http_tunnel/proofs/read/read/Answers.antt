@@ -6,7 +6,7 @@ use Rattle.http_tunnel.proofs.Responses.{read_kind}
 use Rattle.http_tunnel.proofs.read.read.Goals as goal
 
 pub end_read-requires : goal.end_read-requires
-end_read-requires g c = (c.type_bounds.static-D-Pump, (c.type_bounds.static-D-Sending, (search (sendable, c.type_bounds.send-D-Pump) depth 20, (search (sendable, c.type_bounds.send-D-Sending) depth 20, begun_there c.args.id.now _ (g.T.Shelf.told c.args.tunnels.now) (g.T.Shelf.told c.begin_read.new.tunnels) c.in-Some.ensures))))
+end_read-requires g c = (c.type_bounds.static-D-Pump, (c.type_bounds.static-D-Sending, (c.type_bounds.static-D-Recording, (search (sendable, c.type_bounds.send-D-Pump) depth 20, (search (sendable, c.type_bounds.send-D-Sending) depth 20, (search (sendable, c.type_bounds.send-D-Recording) depth 20, begun_there c.args.id.now _ (g.T.Shelf.told c.args.tunnels.now) (g.T.Shelf.told c.begin_read.new.tunnels) c.in-Some.ensures))))))
 
 pub returns-in-Some-clause-read : goal.returns-in-Some-clause-read
 returns-in-Some-clause-read g c =

@@ -11,7 +11,7 @@ pub lend-requires : goal.lend-requires
 lend-requires g c = home_not_lent c.args.id.now (g.T.Shelf.told c.args.tunnels.now) c.requires
 
 pub end_write-requires : goal.end_write-requires
-end_write-requires g c = (c.type_bounds.static-D-Pump, (c.type_bounds.static-D-Sending, (search (sendable, c.type_bounds.send-D-Pump) depth 20, (search (sendable, c.type_bounds.send-D-Sending) depth 20, (is_lent c.args.id.now _ (g.T.Shelf.told c.args.tunnels.now) (g.T.Shelf.told c.lend.new.self) c.in-Some.ensures, lent_home c.args.id.now _ (g.T.Shelf.told c.args.tunnels.now) (g.T.Shelf.told c.lend.new.self) c.requires c.in-Some.ensures)))))
+end_write-requires g c = (c.type_bounds.static-D-Pump, (c.type_bounds.static-D-Sending, (c.type_bounds.static-D-Recording, (search (sendable, c.type_bounds.send-D-Pump) depth 20, (search (sendable, c.type_bounds.send-D-Sending) depth 20, (search (sendable, c.type_bounds.send-D-Recording) depth 20, (is_lent c.args.id.now _ (g.T.Shelf.told c.args.tunnels.now) (g.T.Shelf.told c.lend.new.self) c.in-Some.ensures, lent_home c.args.id.now _ (g.T.Shelf.told c.args.tunnels.now) (g.T.Shelf.told c.lend.new.self) c.requires c.in-Some.ensures)))))))
 
 pub returns-in-Some-clause-wrote : goal.returns-in-Some-clause-wrote
 returns-in-Some-clause-wrote g c =

@@ -1,6 +1,7 @@
 use denote.Exit.{no}
 use denote.Param.{param}
 use denote.Param.Send.{arg_send, param_send}
+use Rattle.service_door.proofs.Crosses.{recorder_send}
 use Rattle.gate_service.proofs.Crosses.{pump_send, sending_send}
 use Rattle.gate_service.proofs.jobs.ConnectionJob.run.Goals as goal
 
@@ -12,3 +13,7 @@ serve_at-requires-send-D-Pump g c κs within =
 pub serve_at-requires-send-D-Sending : goal.serve_at-requires-send-D-Sending
 serve_at-requires-send-D-Sending g c κs within =
     param_send 8 _ (arg_send _ no _ (sending_send (param 6 g.row.H-Output) (param 3 g.row.B) c.type_bounds.send-H-Output c.type_bounds.send-B))
+
+pub serve_at-requires-send-D-Recording : goal.serve_at-requires-send-D-Recording
+serve_at-requires-send-D-Recording g c κs within =
+    param_send 9 _ (arg_send _ no _ (recorder_send (param 6 g.row.H-Output) (param 3 g.row.B) c.type_bounds.send-H-Output c.type_bounds.send-B))
