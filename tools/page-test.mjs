@@ -11,7 +11,8 @@ const module = (name) => import(`${top}web/${name}.js`);
 const { Unreadable, instructionsOf, textOf } = await module('instructions');
 const { Layers } = await module('layers');
 const { keysymOfEvent, keysymsOf } = await module('keysyms');
-const { formOf, linkOf, requestOf } = await module('request');
+const { Rest } = await module('rest');
+const { formOf, joinBy, linkOf, requestOf, titleOf } = await module('request');
 
 let passed = 0;
 let failed = 0;
@@ -53,11 +54,27 @@ for (const [key, code, keysym] of [['Enter', 'Enter', 0xff0d], ['Backspace', 'Ba
   ['Control', 'ControlRight', 0xffe4], ['Alt', 'AltLeft', 0xffe9], ['A', 'KeyA', 0x41], ['€', 'KeyE', 0x010020ac], ['Dead', 'BracketLeft', null], ['AudioVolumeUp', '', null]]) check(`the key ${key}`, keysym, keysymOfEvent({ key, code }));
 
 // Addresses.
-check('a link to look on', { id: '$1', readOnly: true }, requestOf('#id=$1&read-only'));
+check('an address to look on', { id: '$1', readOnly: true }, requestOf('#id=$1&read-only'));
 check('nothing asked', null, requestOf(''));
 check('a form that joins', { id: '$1', 'read-only': 'false' }, formOf({ id: '$1', readOnly: false }));
-check('a form that opens', { hostname: 'h', port: '23', sharing: 'view', width: '640', height: '384' }, formOf(requestOf('#hostname=h&sharing=view')));
-check('a link for others', 'https://h/a/#id=%241&read-only', linkOf({ id: '$1', readOnly: true }, 'https://h/a/#id=$1&read-only'));
+check('a form that opens', { hostname: 'h', port: '23', sharing: 'none', width: '640', height: '384' }, formOf(requestOf('#hostname=h')));
+check('a form of a size', { hostname: 'h', port: '2323', sharing: 'none', width: '1056', height: '800' }, formOf(requestOf('#hostname=h&port=2323&columns=132&rows=50')));
+const ID = '$01234567-89ab-4cde-8f01-23456789abcd';
+const LINK = `https://h/a/#id=%24${ID.slice(1)}`;
+check('a link for others', LINK, linkOf({ id: ID, readOnly: false }, 'https://h/a/#x'));
+check('a link to look on', `${LINK}&read-only`, linkOf({ id: ID, readOnly: true }, LINK));
+check('an ID that is joined', LINK, joinBy(ID, false, 'https://h/a/'));
+check('a link that is joined', `${LINK}&read-only`, joinBy(`${LINK}&read-only`, false, 'https://h/b/'));
+check('a link that is looked on', `${LINK}&read-only`, joinBy(LINK, true, 'https://h/b/'));
+check('a link of a class', `https://h/class/${ID}/#id=%24${ID.slice(1)}`, joinBy(`https://h/class/${ID}/`, false, 'https://h/b/'));
+check('titles', ['h', 'session $01234567', 'looking on at $01234567'], [{ hostname: 'h' }, { id: ID, readOnly: false }, { id: ID, readOnly: true }].map(titleOf));
+
+// Rests get longer, and one that is cut ends at once.
+const rest = new Rest();
+const lasted = async (act) => { const start = performance.now(); await act(); return performance.now() - start; };
+for (let n = 0; n < 5; n++) await rest.once();
+check('the sixth rest is long', true, await lasted(() => rest.once()) > 150);
+check('a rest that is cut', true, await lasted(async () => { const end = rest.once(); rest.cut(); await end; }) < 100);
 
 // Recordings: the page's layer 0 against the gateway's own canvas.
 const [guacgate, look] = ['guacgate', 'look'].map((name) => `${top}crates/${name}/out/${name}`);

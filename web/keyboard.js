@@ -16,7 +16,8 @@ export class Keyboard {
     field.addEventListener('keyup', (event) => this.#release(event.code));
     field.addEventListener('input', (event) => { if (!event.isComposing) this.#takeField(); });
     field.addEventListener('compositionend', () => this.#takeField());
-    field.addEventListener('paste', (event) => this.#paste(event));
+    // What is pasted falls into the field, too. It may have come by Control, which is let go first.
+    field.addEventListener('paste', () => this.#releaseAll(isControlOrAlt));
     // The browser tells no release of a key that is let go elsewhere.
     field.addEventListener('blur', () => this.#releaseAll(() => true));
   }
@@ -45,17 +46,11 @@ export class Keyboard {
     for (const [code, keysym] of [...this.#down]) if (isOne(keysym)) this.#release(code);
   }
 
-  // What stands in the field was made by an input method.
+  // What stands in the field was pasted, or made by an input method.
   #takeField() {
     const text = this.#field.value;
     this.#field.value = '';
     this.#type(text);
-  }
-
-  #paste(event) {
-    event.preventDefault();
-    this.#releaseAll(isControlOrAlt);
-    this.#type(event.clipboardData.getData('text/plain'));
   }
 
   #type(text) {

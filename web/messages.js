@@ -27,8 +27,8 @@ export function meaningOf({ code, status }) {
 }
 
 /** Who may type, as far as the page knows: its own viewer's rights are told by nobody. */
-export function rightsOf({ id, readOnly, sharing }) {
+export function rightsOf({ id, readOnly }) {
   if (readOnly) return 'You look on. Your keys are not sent.';
-  if (id) return 'Your keys are sent. They count if this session lets those who join type.';
-  return { none: 'You may type. Nobody else may join.', view: 'You may type. Others may look on.', control: 'You and others may type.' }[sharing];
+  if (id) return 'Your keys count if this session lets those who join type.';
+  return 'You may type. Nobody else may join.';
 }

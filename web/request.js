@@ -2,7 +2,7 @@
 //
 //   #id=$UUID                      joins a session, and types if the session lets joiners type
 //   #id=$UUID&read-only            joins a session, and only looks on
-//   #hostname=HOST&port=PORT&sharing=view&columns=80&rows=24      opens a session
+//   #hostname=HOST&port=PORT&columns=80&rows=24      fills the form that opens a session
 
 /** How many pixels a cell has. */
 const CELL = { width: 8, height: 16 };
@@ -16,18 +16,30 @@ export function requestOf(fragment) {
   return sessionOf(Object.fromEntries(given));
 }
 
-/** A session that is to be opened, of the fields of the form. */
-export function sessionOf({ hostname, port = '23', columns = '80', rows = '24', sharing = 'none' }) {
-  return { hostname, port, columns, rows, sharing, readOnly: false };
+/** A session that is to be opened, of the fields of the form. Nobody is told its ID, so nobody else may join. */
+export function sessionOf({ hostname, port = '23', columns = '80', rows = '24' }) {
+  return { hostname, port, columns, rows, readOnly: false };
 }
 
 /** The fields of the tunnel's form for it. */
-export function formOf({ id, readOnly, hostname, port, columns, rows, sharing }) {
+export function formOf({ id, readOnly, hostname, port, columns, rows }) {
   if (id) return { id, 'read-only': String(readOnly) };
-  return { hostname, port, sharing, width: String(columns * CELL.width), height: String(rows * CELL.height) };
+  return { hostname, port, sharing: 'none', width: String(columns * CELL.width), height: String(rows * CELL.height) };
 }
 
-/** The address that others join by, where the session's ID is known. Who only looks on hands on a link to look on. */
+/** The address that others join by, where the session's ID is known. */
 export function linkOf({ id, readOnly }, address) {
   return `${address.split('#')[0]}#id=${encodeURIComponent(id)}${readOnly ? '&read-only' : ''}`;
+}
+
+/** The address that joins the session of a text, which is its ID or a link to it. A link keeps its own way. */
+export function joinBy(text, readOnly, address) {
+  const [id] = text.replace('%24', '$').match(/\$[0-9a-f-]{36}/);
+  return linkOf({ id, readOnly: readOnly || /[#&]read-only/.test(text) }, /^https?:/.test(text) ? text : address);
+}
+
+/** What a window with it is called. A session's first digits tell it from others, and lead nobody into it. */
+export function titleOf({ id, hostname, readOnly }) {
+  if (!id) return hostname;
+  return `${readOnly ? 'looking on at' : 'session'} ${id.slice(0, 9)}`;
 }

@@ -53,8 +53,8 @@ class TelnetServer:
 class Gateway:
     """The gateway, which listens on a port of this machine."""
 
-    def __init__(self, seed):
-        self.port = free_port()
+    def __init__(self, seed, port=None):
+        self.port = port or free_port()
         self.process = subprocess.Popen([GATEWAY, "serve", "--seed", seed, "--port", str(self.port)], stderr=subprocess.DEVNULL)
         for _ in range(100):
             with contextlib.suppress(OSError), socket.create_connection((ADDRESS, self.port)):
@@ -69,10 +69,11 @@ class Gateway:
 
 class WebServer:
     """Hands out the page's files, and hands requests of `/tunnel` on. It keeps the texts that reads were given, by
-    tunnel."""
+    tunnel. Where `forged` is set, reads are answered with that instead."""
 
     def __init__(self, gateway_port):
         self.texts = {}
+        self.forged = None
         owner = self
 
         class Handler(http.server.SimpleHTTPRequestHandler):
@@ -99,11 +100,20 @@ class WebServer:
                     answer = gateway.getresponse()
                     text = answer.read()
                 except OSError:
-                    return self.send_error(502)
+                    with contextlib.suppress(OSError):
+                        self.send_error(502)
+                    return
+                if owner.forged is not None and "?read:" in self.path:
+                    text = owner.forged
                 owner.note(self.path, answer.status, text)
+                # A browser that was closed takes no answer any more.
+                with contextlib.suppress(OSError):
+                    self.answer(answer, text)
+
+            def answer(self, answer, text):
                 self.send_response(answer.status)
                 for name, value in answer.getheaders():
-                    self.send_header(name, value)
+                    self.send_header(name, str(len(text)) if name == "Content-Length" else value)
                 self.end_headers()
                 self.wfile.write(text)
 
@@ -171,10 +181,15 @@ class Viewer:
         self.socket.close()
 
 
-def owner(gateway_port, telnet_port, sharing):
+def owner(gateway_port, telnet_port, sharing, width=640, height=384):
     """A viewer that opens a session."""
     ask = instruction("connect", "VERSION_1_1_0", ADDRESS, str(telnet_port), "", "", sharing)
-    return Viewer(gateway_port, instruction("select", "telnet"), instruction("size", "640", "384", "96"), ask)
+    return Viewer(gateway_port, instruction("select", "telnet"), instruction("size", str(width), str(height), "96"), ask)
+
+
+def screen_of(stream):
+    """The screen that a stream leaves, as text, from `look`."""
+    return subprocess.run([LOOK], input=stream, stdout=subprocess.PIPE, stderr=subprocess.DEVNULL).stdout.decode()
 
 
 def picture_at(stream, stamp):

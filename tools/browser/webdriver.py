@@ -1,4 +1,6 @@
 """A browser that is steered through chromedriver, by the requests of WebDriver (W3C) that the tests need."""
+import base64
+import contextlib
 import json
 import subprocess
 import time
@@ -8,10 +10,11 @@ ELEMENT = "element-6066-11e4-a52e-4f735466cecf"
 
 
 class Driver:
-    """A running chromedriver. It ends with the `with` block."""
+    """A running chromedriver. It ends with the `with` block, and so does each browser that is still open."""
 
     def __init__(self, port):
         self.port = port
+        self.pages = []
 
     def __enter__(self):
         self.process = subprocess.Popen(["chromedriver", f"--port={self.port}"], stdout=subprocess.DEVNULL, stderr=subprocess.DEVNULL)
@@ -24,6 +27,9 @@ class Driver:
         raise RuntimeError("chromedriver doesn't answer")
 
     def __exit__(self, *_):
+        for page in list(self.pages):
+            with contextlib.suppress(OSError):
+                page.close()
         self.process.terminate()
         self.process.wait()
 
@@ -39,17 +45,24 @@ class Page:
 
     ARGUMENTS = ["--headless=new", "--no-sandbox", "--disable-gpu", "--disable-dev-shm-usage", "--window-size=1000,700"]
 
-    def __init__(self, driver, address):
+    def __init__(self, driver, address, *arguments):
         self.driver = driver
-        options = {"goog:chromeOptions": {"args": self.ARGUMENTS}}
+        options = {"goog:chromeOptions": {"args": [*self.ARGUMENTS, *arguments]}}
         made = driver.call("POST", "/session", {"capabilities": {"alwaysMatch": options}})
         self.path = f"/session/{made['sessionId']}"
+        driver.pages.append(self)
+        self.post("/url", url=address)
+
+    def go(self, address):
+        """Opens another address anew, even one that differs behind its `#` alone."""
+        self.post("/url", url="about:blank")
         self.post("/url", url=address)
 
     def post(self, path, **given):
         return self.driver.call("POST", self.path + path, given)
 
     def close(self):
+        self.driver.pages.remove(self)
         self.driver.call("DELETE", self.path)
 
     def run(self, script, *arguments):
@@ -83,6 +96,15 @@ class Page:
             steps += [{"type": "keyUp", "value": it} for it in reversed(held)]
         self.post("/actions", actions=[{"type": "key", "id": "keyboard", "actions": steps}])
 
+    def compose(self, steps, text):
+        """Lets an input method show each of the steps, and then type the text."""
+        for step in steps:
+            self.command("Input.imeSetComposition", text=step, selectionStart=len(step), selectionEnd=len(step))
+        self.command("Input.insertText", text=text)
+
+    def command(self, name, **given):
+        """A command of Chromium's own protocol, for what WebDriver has no request."""
+        return self.post("/goog/cdp/execute", cmd=name, params=given)
+
     def screenshot(self):
-        import base64
         return base64.b64decode(self.driver.call("GET", self.path + "/screenshot"))

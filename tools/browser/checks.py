@@ -1,0 +1,17 @@
+"""Counts what is compared."""
+
+counts = {"passed": 0, "failed": 0}
+
+
+def check(name, wanted, got):
+    if wanted == got:
+        counts["passed"] += 1
+        return
+    counts["failed"] += 1
+    print(f"FAILED {name}\n  wanted: {wanted!r:.200}\n  got:    {got!r:.200}")
+
+
+def verdict():
+    """Tells the counts, and answers the status of the program."""
+    print("{passed} passed, {failed} failed".format(**counts))
+    return 1 if counts["failed"] else 0
