@@ -1,7 +1,7 @@
 //! A row is run over memory.
 
 use crate::row::Row;
-use crate::turns::{LineSink, LineSource};
+use crate::turns::{LineSink, LineSource, NoFrames};
 use anyhow::{Result, anyhow};
 use gate_outside::{MemSink, MemSource};
 use gate_script::command;
@@ -18,6 +18,9 @@ pub fn difference(alloc: Global, row: &Row) -> Result<Option<String>> {
     let ends = row.ends;
     if ends.turns > 0 {
         return late(alloc, row);
+    }
+    if row.frames.is_none() && ends.frames == 0 {
+        return without_frames(alloc, row);
     }
     let mut source = MemSource::new(
         row.input.to_vec(alloc)?,
@@ -43,6 +46,31 @@ pub fn difference(alloc: Global, row: &Row) -> Result<Option<String>> {
         .is_some_and(|wanted| !wanted.is_met(frames.written()))
     {
         Some(shown(alloc, "frames", frames.written())?)
+    } else {
+        None
+    })
+}
+
+// What the row gives, where its frames aren't compared: there may be very many.
+fn without_frames(alloc: Global, row: &Row) -> Result<Option<String>> {
+    let ends = row.ends;
+    let mut source = MemSource::new(
+        row.input.to_vec(alloc)?,
+        ends.piece.max(1),
+        [ends.source].to_vec(alloc)?,
+    );
+    let mut answers = sink(alloc, ANSWERS_ROOM, 64, ends.answers)?;
+    let status = command(
+        alloc,
+        row.words.as_slice(),
+        &mut source,
+        &mut answers,
+        &mut NoFrames,
+    );
+    Ok(if status != row.status {
+        Some(format!(in alloc; "status {status}")?)
+    } else if !row.answers.is_met(answers.written()) {
+        Some(shown(alloc, "answers", answers.written())?)
     } else {
         None
     })

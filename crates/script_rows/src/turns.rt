@@ -1,4 +1,4 @@
-//! Ends that show whether a run answers each line before it reads the next one.
+//! Ends that show whether a run answers each line before it reads the next one, and one that keeps nothing.
 
 ghost use Rattle.std.specs.Prelude.{None};
 
@@ -55,6 +55,22 @@ impl Sink for LineSink {
     fn write(&mut self, piece: &[u8]) -> Result<usize, Failed> {
         let lines = piece.iter().filter(|byte| **byte == b'\n').count() as u64;
         self.answered.set(self.answered.get().saturating_add(lines));
+        Ok(piece.len())
+    }
+
+    fn finish(&mut self) {}
+}
+
+/// Keeps nothing of what is written.
+#[derive(Drop)]
+pub struct NoFrames;
+
+impl Sink for NoFrames {
+    ghost written = { λ _. None };
+
+    ghost faults = { λ _. 0 };
+
+    fn write(&mut self, piece: &[u8]) -> Result<usize, Failed> {
         Ok(piece.len())
     }
 
