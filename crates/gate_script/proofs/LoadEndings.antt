@@ -1,15 +1,16 @@
 -- What each status says of a load.
 use Rattle.std.proofs.Common.{◌≡◌, ℕ, ◌≤◌, List, [], ◌∷◌, ◌⊎◌, inl, inr, refl, ap, sym, ◌∙◌, subst, arith}
-use Rattle.std.specs.Prelude.{Option, Some, None, Result, Ok, Err}
+use Rattle.std.specs.Prelude.{◌↔◌, Option, Some, None, Result, Ok, Err}
 use Rattle.gate_outside.specs.Edge.{Rose, gained}
 use Rattle.gate_outside.proofs.Moved.{came-none}
 use Rattle.script_lines.specs.declared.form.Form.{Form}
 use Rattle.script_lines.specs.declared.form.Form.TheVariants.{Text, Load}
+use Rattle.script_lines.specs.declared.text_form.TextForm.{TextForm}
 use Rattle.script_lines.specs.declared.order.Order.{Order}
 use Rattle.gate_script.specs.declared.refused.Refused.TheVariants.{BadLine, Worn}
 use Rattle.gate_script.specs.declared.stop.Stop.{Stop}
 use Rattle.gate_script.specs.declared.stop.Stop.TheVariants.{ReadFault, WriteFault, NoMemory, Refused}
-use Rattle.gate_script.specs.Outcomes.{LoadCutShort, LoadHalted, LoadOutcome, Loaded, Outcome, Ran, WroteSo}
+use Rattle.gate_script.specs.Outcomes.{IsStatus, LinesOutcome, LoadCutShort, LoadHalted, LoadOutcome, Loaded, Outcome, Ran, WroteSo}
 use Rattle.gate_script.specs.Plays.{Tells}
 use Rattle.gate_script.specs.Sinks.{Sinks, Gains, HaveFailed}
 use Rattle.gate_script.specs.Running.{AllDone, Ended}
@@ -70,6 +71,36 @@ module _ (seed rounds k : ℕ) (b n : Sinks) (a' : Option (List ℕ)) where
 -- a load read nothing
 pub load_ran : (seed rounds k : ℕ) (left wrote wrote' framed framed' : Option (List ℕ)) → WroteSo wrote wrote' framed framed' (LoadOutcome k seed rounds []) → Ran left left wrote wrote' framed framed' (Outcome k (Load seed rounds) left)
 load_ran seed rounds k left wrote wrote' framed framed' w = record { bytes = []; a = w.a; f = w.f; read = sym (came-none left); answered = w.answered; framed_on = w.framed_on; holds = w.holds }
+
+-- the lines of an input are an outcome of their form
+pub text_ran : (form : TextForm) (k : ℕ) (left left' wrote wrote' framed framed' : Option (List ℕ)) → Ran left left' wrote wrote' framed framed' (LinesOutcome k form left') → Ran left left' wrote wrote' framed framed' (Outcome k (Text form) left')
+text_ran form k left left' wrote wrote' framed framed' r = record { bytes = r.bytes; a = r.a; f = r.f; read = r.read; answered = r.answered; framed_on = r.framed_on; holds = r.holds }
+
+-- words of a form have another status than 2
+pub text_is_used : {A : Type 0} → (k : ℕ) → IsStatus k → k ≡ 2 → A
+text_is_used k (inl e) is = absurd (omega (arith, e, is))
+text_is_used k (inr (inl e)) is = absurd (omega (arith, e, is))
+text_is_used k (inr (inr (inl e))) is = absurd (omega (arith, e, is))
+text_is_used k (inr (inr (inr (inl e)))) is = absurd (omega (arith, e, is))
+text_is_used k (inr (inr (inr (inr (inl e))))) is = absurd (omega (arith, e, is))
+text_is_used k (inr (inr (inr (inr (inr e))))) is = absurd (omega (arith, e, is))
+
+pub load_is_used : {A : Type 0} → (k : ℕ) → (k ≡ 0) ⊎ (k ≡ 5) ⊎ (k ≡ 6) → k ≡ 2 → A
+load_is_used k (inl e) is = absurd (omega (arith, e, is))
+load_is_used k (inr (inl e)) is = absurd (omega (arith, e, is))
+load_is_used k (inr (inr e)) is = absurd (omega (arith, e, is))
+
+-- a load doesn't read, so no read fails
+pub load_reads_none : {A : Type 0} → (k : ℕ) → (k ≡ 0) ⊎ (k ≡ 5) ⊎ (k ≡ 6) → k ≡ 4 → A
+load_reads_none k (inl e) is = absurd (omega (arith, e, is))
+load_reads_none k (inr (inl e)) is = absurd (omega (arith, e, is))
+load_reads_none k (inr (inr e)) is = absurd (omega (arith, e, is))
+
+none_is_some : {A : Type 0} → (form : Form) → ◌≡◌ {A = Option Form} (Some form) None → A
+none_is_some form e = absurd cc
+
+pub used : (o : Option Form) (form : Form) (k : ℕ) → o ≡ Some form → (k ≡ 2 → ⊥) → (o ≡ None) ↔ (k ≡ 2)
+used o form k is other = (λ e. none_is_some form (sym is ∙ e), λ e. absurd (other e))
 
 -- the form that the words give is one
 pub same_form : (s t : Form) → Some s ≡ Some t → s ≡ t

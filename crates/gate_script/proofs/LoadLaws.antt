@@ -1,7 +1,7 @@
 -- What each line of a load does: it adds one entry at most, and to the totals what its kind says. And no line of a
 -- load is refused.
 use Rattle.std.proofs.Common.{◌≡◌, ℕ, zero, suc, ◌+◌, ◌-◌, ◌<◌, ◌≤◌, ◌^◌, List, [], ◌∷◌, ◌++◌, ◌⊎◌, inl, inr, length, take, drop, map, reverse, Bool, true, false, refl, ap, sym, ◌∙◌, subst, append-nil, append_assoc, add-one, arith, length-append, length-take, length-drop}
-use Rattle.std.specs.Prelude.{Result, Ok, Err, All, Option, Some, None, OnOk, ◌||◌, ◌&&◌, not, count_by, ◌==◌, nat_le, if◌then◌else◌}
+use Rattle.std.specs.Prelude.{Result, Ok, Err, All, Option, Some, None, OnOk, ◌||◌, ◌&&◌, not, count_by, ◌==◌, nat_le, if◌then◌else◌, slice_index_or}
 use Rattle.std.specs.List.{list_any}
 use Rattle.std.specs.Option.{is_some, option_map}
 use Rattle.std.proofs.lemmas.Bool.{leb-true}
@@ -33,7 +33,7 @@ use Rattle.gate_model.specs.session.Refusals.{close_cause, first_of, only_if, fe
 use Rattle.script_lines.specs.declared.line.Line.{Line}
 use Rattle.script_lines.specs.declared.line.Line.TheVariants.{Blank as blank, Bad as bad, At as moment, Start as start, Server as server, Join as join, Read as read, Write as write, Take as take_up_to, Leave as leave, Close as close, Pixel as pixel, Same as same, Acknowledge as acknowledge, Done as done, Press as press_key, Totals as tell_totals}
 use Rattle.script_lines.specs.declared.order.Order.{Order}
-use Rattle.script_lines.specs.declared.order.Order.TheVariants.{Untold}
+use Rattle.script_lines.specs.declared.order.Order.TheVariants.{Told, Untold}
 use Rattle.script_lines.specs.declared.size.Size.{Size}
 use Rattle.script_lines.specs.declared.totals.Totals.{Totals}
 use Rattle.script_lines.specs.Grammar.{in_place, is_start, starts}
@@ -54,8 +54,8 @@ use Rattle.gate_script.specs.Told.{worn_by}
 use Rattle.gate_script.specs.Plays.{AreTotals, Answers, Begins, Calls, Does, Play, Plays, Writes, acknowledgement, event_of, feeds, is_press, press, presses}
 use Rattle.gate_script.specs.Outcomes.{Answered, IsRefused, IsTooLong, Makes}
 use Rattle.gate_script.specs.Sinks.{Sinks}
-use Rattle.gate_script.specs.Running.{AllDone, At, Goes, RefusedOf, StandsAt, StoppedIn}
-use Rattle.gate_script.specs.Loading.{AreLoads, IsLevel, LoadAt, LoadEnds, LoadStopped, MayFollow, counted, is_some_list, kind_of, takes_behind}
+use Rattle.gate_script.specs.Running.{AllDone, At, Ends, Goes, RefusedOf, StandsAt, StoppedIn}
+use Rattle.gate_script.specs.Loading.{AreLoads, IsLevel, LoadAt, LoadEnds, LoadStopped, MayFollow, TotalsEnd, counted, is_some_list, kind_of, takes_behind}
 use Rattle.gate_script.proofs.OneFault.{line_adds}
 use Rattle.gate_script.proofs.RunLaws.{none_done, nothing_done, stopped-later}
 use Rattle.gate_script.proofs.StepLaws.{take_is}
@@ -362,6 +362,30 @@ load_stopped all ReadFault b n loads few s = s
 load_stopped all WriteFault b n loads few s = s
 load_stopped all NoMemory b n loads few s = s
 
+-- the line of the totals isn't refused either
+totals_not_refused : {A : Type 0} → (totals : Totals) (refused : Refusal) (orders : List Order) (p : Play) → IsRefused refused (Told (tell_totals totals)) orders p → A
+totals_not_refused totals (BadLine n) orders p (inl e, number) = absurd (let w : ◌≡◌ {A = Line} (tell_totals totals) bad = e in cc)
+totals_not_refused totals (BadLine n) orders p (inr long, number) = absurd long
+totals_not_refused totals (Worn n) orders p w = absurd (let m : ◌≡◌ {A = Option Event} None (Some w.1.event) = w.1.makes in cc)
+
+first_of_both : (x y : Order) (xs ys : List Order) → x ∷ xs ≡ y ∷ ys → x ≡ y
+first_of_both x y xs ys e = ap (λ (l : List Order). slice_index_or l 0 x) e
+
+rest_of_both : (x y : Order) (xs ys : List Order) → x ∷ xs ≡ y ∷ ys → xs ≡ ys
+rest_of_both x y xs ys e = ap (drop 1) e
+
+pub totals_stop : (totals : Totals) (orders : List Order) (stop : Stop) (b n : Sinks) → AreLoads orders → length orders ≤ most_entries → StoppedIn (Told (tell_totals totals) ∷ orders) stop b n → LoadStopped (Told (tell_totals totals) ∷ orders) stop b n
+totals_stop totals orders (Refused refused) b n loads few s = by s.first.0 s.first.1
+  where
+    by : (more : List Order) → Told (tell_totals totals) ∷ orders ≡ more ++ s.next ∷ s.orders → LoadStopped (Told (tell_totals totals) ∷ orders) (Refused refused) b n
+    by [] e = totals_not_refused totals refused s.orders s.done.play (subst (λ (o : Order). IsRefused refused o s.orders s.done.play) (sym (first_of_both (Told (tell_totals totals)) s.next orders s.orders e)) s.is_refused)
+    by (m ∷ more) e =
+        load_stopped orders (Refused refused) b n loads few
+        record { orders = s.orders; next = s.next; first = (more, rest_of_both (Told (tell_totals totals)) m orders (more ++ s.next ∷ s.orders) e); done = s.done; is_refused = s.is_refused }
+totals_stop totals orders ReadFault b n loads few s = s
+totals_stop totals orders WriteFault b n loads few s = s
+totals_stop totals orders NoMemory b n loads few s = s
+
 -- ---- where a line may stand
 
 pub may_be_placed : (b : Bool) (line : Line) → MayFollow b line → in_place b line ≡ line
@@ -462,6 +486,9 @@ no_memory_before orders line l b n w = none_done orders l.run b n w.at (Untold l
 pub no_memory_behind : (orders : List Order) (r : Run) (b n : Sinks) → At orders r b n → LoadStopped orders NoMemory b n
 no_memory_behind orders r b n at = none_done orders r b n at []
 
+pub no_memory_totals : (orders : List Order) (totals : Totals) (l : Load) (b n : Sinks) → LoadAt orders l b n → LoadStopped (Told (tell_totals totals) ∷ orders) NoMemory b n
+no_memory_totals orders totals l b n w = none_done orders l.run b n w.at (Told (tell_totals totals) ∷ [])
+
 -- what stopped a load stopped more of it
 pub stopped_more : (orders all : List Order) (stop : Stop) (b n : Sinks) → IsLater orders all → LoadStopped orders stop b n → LoadStopped all stop b n
 stopped_more orders all (Refused refused) b n more s = absurd s
@@ -536,6 +563,15 @@ takes_are word rounds (suc takes) = ap (λ (l : List Order). Untold (take_up_to 
 
 pub one_take_more : (orders : List Order) (takes : ℕ) → takes_behind orders (takes + 1) ≡ Untold (take_up_to 65536) ∷ takes_behind orders takes
 one_take_more orders takes = ap (takes_behind orders) (add-one takes)
+
+-- the totals are told of an open session, or the load stops in them
+pub totals_placed : (totals : Totals) (b : Bool) → b ≡ true → in_place b (tell_totals totals) ≡ tell_totals totals
+totals_placed totals b e = rw e refl
+
+module _ (orders : List Order) (l : Load) (b n m : Sinks) (w : LoadAt orders l b n) where
+  pub totals_told : (r : Result (Unit {0}) Stop) (run' : Run) → l.run.lines < most_entries → Ends (Told (tell_totals l.totals) ∷ orders) r run' b m → OnOk r (Goes (Told (tell_totals l.totals)) orders w.at.play run' b m) → TotalsEnd orders l.totals w.at.play.history r b m
+  totals_told (Ok u) run' few ends goes = record { done = record { play = goes.next.play; told = goes.next.told; lawful = goes.next.lawful }; same = ap (λ (p : Play). p.history) goes.does.2.same }
+  totals_told (Err stop) run' few ends goes = totals_stop l.totals orders stop b m w.loads (omega (arith, few, w.at.count)) ends
 
 -- nothing waits
 pub none_waits : (level : Level) (h : History) → IsLevel level h → level.pending ≡ 0 → untaken h ≡ []

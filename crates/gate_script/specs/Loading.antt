@@ -5,9 +5,9 @@ use Rattle.gate_model.specs.Limits.{most_entries}
 use Rattle.gate_model.specs.session.History.{History}
 use Rattle.gate_model.specs.session.Output.{out, taken, untaken}
 use Rattle.script_lines.specs.declared.line.Line.{Line}
-use Rattle.script_lines.specs.declared.line.Line.TheVariants.{Start, Server, Take as take_up_to, Press as press_key}
+use Rattle.script_lines.specs.declared.line.Line.TheVariants.{Start, Server, Take as take_up_to, Press as press_key, Totals as tell_totals}
 use Rattle.script_lines.specs.declared.order.Order.{Order}
-use Rattle.script_lines.specs.declared.order.Order.TheVariants.{Untold}
+use Rattle.script_lines.specs.declared.order.Order.TheVariants.{Told, Untold}
 use Rattle.script_lines.specs.declared.totals.Totals.{Totals}
 use Rattle.script_lines.specs.Lines.{line_in}
 use Rattle.load_lines.specs.Words.{drawn}
@@ -85,6 +85,15 @@ pub record LoadTaken (orders : List Order) (l : Load) (began now : Sinks) : Type
 abbrev pub TakesEnd : List Order → Result (Unit {0}) Stop → Load → Sinks → Sinks → Type 0
 TakesEnd orders (Ok done) l began now = (takes : ℕ) × LoadTaken (takes_behind orders takes) l began now
 TakesEnd orders (Err stop) l began now = (takes : ℕ) × LoadStopped (takes_behind orders takes) stop began now
+
+-- the totals were told, which left the history as it was
+pub record TotalsAreTold (orders : List Order) (totals : Totals) (h : History) (began now : Sinks) : Type 0 where
+  pub done : AllDone (Told (tell_totals totals) ∷ orders) began now
+  pub same : done.play.history ≡ h
+
+abbrev pub TotalsEnd : List Order → Totals → History → Result (Unit {0}) Stop → Sinks → Sinks → Type 0
+TotalsEnd orders totals h (Ok done) began now = TotalsAreTold orders totals h began now
+TotalsEnd orders totals h (Err stop) began now = LoadStopped (Told (tell_totals totals) ∷ orders) stop began now
 
 -- how a whole load ends
 pub record LoadIsDone (seed rounds : ℕ) (began now : Sinks) : Type 0 where

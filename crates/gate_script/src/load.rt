@@ -6,11 +6,12 @@ ghost use Rattle.script_lines.specs.declared.order.Order.{Order as Orders};
 ghost use Rattle.script_lines.specs.declared.order.Order.TheVariants.{Untold};
 ghost use Rattle.script_lines.specs.Grammar.{is_start};
 ghost use Rattle.script_lines.specs.Lines.{IsInRange};
-ghost use Rattle.load_lines.specs.Rounds.{IsRoundLine, load_begins, untold};
+ghost use Rattle.load_lines.specs.Words.{drawn};
+ghost use Rattle.load_lines.specs.Rounds.{IsRoundLine, load_begins, takes_done, untold};
 ghost use Rattle.gate_script.specs.Plays.{Play};
 ghost use Rattle.gate_script.specs.Sinks.{Sinks, held};
 ghost use Rattle.gate_script.specs.Running.{StandsAt};
-ghost use Rattle.gate_script.specs.Loading.{IsLevel, LoadAt, LoadEnds, LoadRunEnds, MayFollow, TakesEnd, counted, kind_of};
+ghost use Rattle.gate_script.specs.Loading.{IsLevel, LoadAt, LoadEnds, LoadRunEnds, MayFollow, TakesEnd, TotalsEnd, counted, kind_of};
 
 use crate::kind::Kind;
 use crate::level::Level;
@@ -68,13 +69,47 @@ impl Load {
         ensures { LoadRunEnds seed rounds result (held (A.written answers.old) (A.faults answers.old) (F.written frames.old) (F.faults frames.old)) (held (A.written answers.new) (A.faults answers.new) (F.written frames.new) (F.faults frames.new)) }
     {
         self.open(alloc, answers, frames)?;
+        self.rounds(alloc, seed, rounds, answers, frames)?;
+        self.take_all(alloc, answers, frames)?;
+        self.tell(alloc, answers, frames)
+    }
+
+    // Does the rounds under the seed, and the turn behind them.
+    fn rounds<A: Sink, F: Sink>(
+        &mut self,
+        alloc: Global,
+        seed: u64,
+        rounds: u32,
+        answers: &mut A,
+        frames: &mut F,
+    ) -> Result<(), Stop>
+        requires open { is_some self.old.run.state.session ≡ true }
+        requires few { rounds ≤ 1000000 }
+        ensures step { (began : Sinks) → LoadAt load_begins self.old began (held (A.written answers.old) (A.faults answers.old) (F.written frames.old) (F.faults frames.old)) → LoadEnds (takes_done (drawn seed) rounds 0) result self.new began (held (A.written answers.new) (A.faults answers.new) (F.written frames.new) (F.faults frames.new)) }
+        ensures open { OnOk result (is_some self.new.run.state.session ≡ true) }
+    {
         let mut drawn = Rounds::new(alloc, seed);
         for _round in 0..rounds {
             let lines = drawn.next_round(alloc)?;
             self.lines(alloc, lines, answers, frames)?;
         }
-        self.lines(alloc, drawn.last_turn(alloc)?, answers, frames)?;
-        self.take_all(alloc, answers, frames)?;
+        let turn = drawn.last_turn(alloc)?;
+        self.lines(alloc, turn, answers, frames)
+    }
+
+    // Tells the totals.
+    fn tell<A: Sink, F: Sink>(
+        &mut self,
+        alloc: Global,
+        answers: &mut A,
+        frames: &mut F,
+    ) -> Result<(), Stop>
+        requires open { is_some self.old.run.state.session ≡ true }
+        ensures { (orders : List Orders) (began : Sinks) → (w : LoadAt orders self.old began (held (A.written answers.old) (A.faults answers.old) (F.written frames.old) (F.faults frames.old))) → TotalsEnd orders self.old.totals w.at.play.history result began (held (A.written answers.new) (A.faults answers.new) (F.written frames.new) (F.faults frames.new)) }
+    {
+        if self.run.lines >= MOST_ENTRIES {
+            return Err(Stop::NoMemory);
+        }
         let totals = Line::Totals(self.totals);
         self.run.order(alloc, Order::Told(totals), answers, frames)
     }
@@ -104,7 +139,8 @@ impl Load {
         frames: &mut F,
     ) -> Result<(), Stop>
         requires open { is_some self.old.run.state.session ≡ true }
-        ensures { (orders : List Orders) (began : Sinks) → LoadAt orders self.old began (held (A.written answers.old) (A.faults answers.old) (F.written frames.old) (F.faults frames.old)) → TakesEnd orders result self.new began (held (A.written answers.new) (A.faults answers.new) (F.written frames.new) (F.faults frames.new)) }
+        ensures step { (orders : List Orders) (began : Sinks) → LoadAt orders self.old began (held (A.written answers.old) (A.faults answers.old) (F.written frames.old) (F.faults frames.old)) → TakesEnd orders result self.new began (held (A.written answers.new) (A.faults answers.new) (F.written frames.new) (F.faults frames.new)) }
+        ensures open { OnOk result (is_some self.new.run.state.session ≡ true) }
     {
         for _taken in 0..MOST_TAKES {
             if self.level().pending == 0 {

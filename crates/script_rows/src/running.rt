@@ -1,7 +1,7 @@
 //! A row is run over memory.
 
 use crate::row::Row;
-use crate::turns::{LineSink, LineSource, NoFrames};
+use crate::turns::{LineSink, LineSource, Tally};
 use anyhow::{Result, anyhow};
 use gate_outside::{MemSink, MemSource};
 use gate_script::command;
@@ -20,7 +20,7 @@ pub fn difference(alloc: Global, row: &Row) -> Result<Option<String>> {
         return late(alloc, row);
     }
     if row.frames.is_none() && ends.frames == 0 {
-        return without_frames(alloc, row);
+        return twice(alloc, row);
     }
     let mut source = MemSource::new(
         row.input.to_vec(alloc)?,
@@ -51,8 +51,32 @@ pub fn difference(alloc: Global, row: &Row) -> Result<Option<String>> {
     })
 }
 
-// What the row gives, where its frames aren't compared: there may be very many.
-fn without_frames(alloc: Global, row: &Row) -> Result<Option<String>> {
+// What a run gave, with a sum over its frames, of which there may be very many.
+#[derive(Drop)]
+struct Outcome {
+    status: u8,
+    answers: Vec<u8>,
+    frames: Tally,
+}
+
+// What the row gives, where its frames aren't compared with a text. It is run twice, and gives the same again.
+fn twice(alloc: Global, row: &Row) -> Result<Option<String>> {
+    let first = outcome(alloc, row)?;
+    let second = outcome(alloc, row)?;
+    Ok(if first.status != row.status {
+        let status = first.status;
+        Some(format!(in alloc; "status {status}")?)
+    } else if !row.answers.is_met(&first.answers) {
+        Some(shown(alloc, "answers", &first.answers)?)
+    } else if second.answers != first.answers || second.frames != first.frames {
+        Some(shown(alloc, "answers of the second run", &second.answers)?)
+    } else {
+        None
+    })
+}
+
+// What a run of the row gives.
+fn outcome(alloc: Global, row: &Row) -> Result<Outcome> {
     let ends = row.ends;
     let mut source = MemSource::new(
         row.input.to_vec(alloc)?,
@@ -60,19 +84,18 @@ fn without_frames(alloc: Global, row: &Row) -> Result<Option<String>> {
         [ends.source].to_vec(alloc)?,
     );
     let mut answers = sink(alloc, ANSWERS_ROOM, 64, ends.answers)?;
+    let mut frames = Tally { count: 0, sum: 0 };
     let status = command(
         alloc,
         row.words.as_slice(),
         &mut source,
         &mut answers,
-        &mut NoFrames,
+        &mut frames,
     );
-    Ok(if status != row.status {
-        Some(format!(in alloc; "status {status}")?)
-    } else if !row.answers.is_met(answers.written()) {
-        Some(shown(alloc, "answers", answers.written())?)
-    } else {
-        None
+    Ok(Outcome {
+        status,
+        answers: answers.written().to_vec(alloc)?,
+        frames,
     })
 }
 

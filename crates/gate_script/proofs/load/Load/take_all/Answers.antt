@@ -10,8 +10,8 @@ use Rattle.gate_script.specs.Sinks.{held}
 use Rattle.gate_script.proofs.LoadLaws.{no_memory_behind, none_waits, one_take_more, round_follows}
 use Rattle.gate_script.proofs.load.Load.take_all.Goals as goal
 
-pub returns-then-level-eq0 : goal.returns-then-level-eq0
-returns-then-level-eq0 g c = λ orders began w.
+pub returns-then-level-eq0-clause-step : goal.returns-then-level-eq0-clause-step
+returns-then-level-eq0-clause-step g c = λ orders began w.
     let s = c.loop-taken.invariant.done orders began w in
     (c.loop-taken._taken, record { stands = s; all_taken = none_waits c.level.result s.at.play.history (c.level.ensures s.at.play s.at.stands) c.if-level-eq0.true })
 
@@ -26,8 +26,8 @@ loop-taken-preserved g c = record {
       subst (λ (os : List Order). LoadAt os c.line.new.self began n) (sym (one_take_more orders c.loop-taken._taken)) (c.in_ok-line.ensures.step (takes_behind orders c.loop-taken._taken) began (c.loop-taken.invariant.done orders began w));
 }
 
-pub returns-in_err-line : goal.returns-in_err-line
-returns-in_err-line g c = λ orders began w.
+pub returns-in_err-line-clause-step : goal.returns-in_err-line-clause-step
+returns-in_err-line-clause-step g c = λ orders began w.
     let p = err_from_is_err_and c.from_residual.result c.from_residual.ensures.1 in
     let stop = c.in_err-line.field-0.0 in
     let e : c.from_residual.result ≡ Err stop = p.1 ∙ ap (λ (s : Stop). Err s) p.2 in
@@ -35,8 +35,8 @@ returns-in_err-line g c = λ orders began w.
     subst (λ (x : Result (Unit {0}) Stop). TakesEnd orders x c.line.new.self began n) (sym e)
     (suc c.loop-taken._taken, c.in_err-line.ensures.step (takes_behind orders c.loop-taken._taken) began (c.loop-taken.invariant.done orders began w))
 
-pub returns : goal.returns
-returns g c = λ orders began w.
+pub returns-clause-step : goal.returns-clause-step
+returns-clause-step g c = λ orders began w.
     let s = c.loop-taken.invariant.done orders began w in
     let n = held (g.A.Sink.written c.loop-taken.answers) (g.A.Sink.faults c.loop-taken.answers) (g.F.Sink.written c.loop-taken.frames) (g.F.Sink.faults c.loop-taken.frames) in
     (c.loop-taken._taken, no_memory_behind (takes_behind orders c.loop-taken._taken) c.loop-taken.self.run began n s.at)
