@@ -38,11 +38,11 @@ module _ (word : Words) where
   rounds_later k zero le =
       let e : k ≡ zero = omega (arith, le) in
       subst (λ (m : ℕ). IsLater (rounds_done word k) (rounds_done word m)) e ([], refl)
-  rounds_later k (suc n) le = by (nat_le k n) refl
+  rounds_later k (suc n) le = by (nat_le k n) refl (λ less. rounds_later k n less)
     where
-      by : (b : Bool) → nat_le k n ≡ b → IsLater (rounds_done word k) (rounds_done word (suc n))
-      by true e = one_later (rounds_done word k) n (rounds_later k n (leb-true k n e))
-      by false e =
+      by : (b : Bool) → nat_le k n ≡ b → (k ≤ n → IsLater (rounds_done word k) (rounds_done word n)) → IsLater (rounds_done word k) (rounds_done word (suc n))
+      by true e before = one_later (rounds_done word k) n (before (leb-true k n e))
+      by false e before =
           let less = leb-false k n e in
           let same : k ≡ suc n = omega (arith, less, le) in
           subst (λ (m : ℕ). IsLater (rounds_done word k) (rounds_done word m)) same ([], refl)

@@ -8,14 +8,14 @@ use Rattle.gate_script.proofs.commands.command.Goals as goal
 -- the lines of an input
 
 pub returns-in-Some-Text-clause-usage : goal.returns-in-Some-Text-clause-usage
-returns-in-Some-Text-clause-usage g c = used _ (Text c.in-Some-Text.form) c.text.result (sym c.in-Some-Text.ensures.exact) (λ e. text_is_used c.text.result c.text.ensures.only e)
+returns-in-Some-Text-clause-usage g c = used _ c.in-Some-Text.field-0 c.text.result (sym c.in-Some-Text.ensures.exact) (λ e. text_is_used c.text.result c.text.ensures.only e)
 
 pub returns-in-Some-Text-clause-nothing : goal.returns-in-Some-Text-clause-nothing
 returns-in-Some-Text-clause-nothing g c = λ e. text_is_used c.text.result c.text.ensures.only e
 
 pub returns-in-Some-Text-clause-outcome : goal.returns-in-Some-Text-clause-outcome
 returns-in-Some-Text-clause-outcome g c = λ form is.
-    let same : Text c.in-Some-Text.form ≡ form = same_form (Text c.in-Some-Text.form) form (c.in-Some-Text.ensures.exact ∙ is) in
+    let same : Text c.in-Some-Text.form ≡ form = sym c.in-Some-Text.field-0-is ∙ same_form c.in-Some-Text.field-0 form (c.in-Some-Text.ensures.exact ∙ is) in
     let before = g.S.Source.left c.args.source.now in
     let left = g.S.Source.left c.text.new.source in
     subst (λ (x : Form). Ran before left (g.A.Sink.written c.args.answers.now) (g.A.Sink.written c.text.new.answers) (g.F.Sink.written c.args.frames.now) (g.F.Sink.written c.text.new.frames) (Outcome c.text.result x left)) same
@@ -24,14 +24,14 @@ returns-in-Some-Text-clause-outcome g c = λ form is.
 -- the lines of a load
 
 pub returns-in-Some-Load-clause-usage : goal.returns-in-Some-Load-clause-usage
-returns-in-Some-Load-clause-usage g c = used _ (Load c.in-Some-Load.seed c.in-Some-Load.rounds) c.load.result (sym c.in-Some-Load.ensures.exact) (λ e. load_is_used c.load.result c.load.ensures.only e)
+returns-in-Some-Load-clause-usage g c = used _ c.in-Some-Load.field-0 c.load.result (sym c.in-Some-Load.ensures.exact) (λ e. load_is_used c.load.result c.load.ensures.only e)
 
 pub returns-in-Some-Load-clause-nothing : goal.returns-in-Some-Load-clause-nothing
 returns-in-Some-Load-clause-nothing g c = λ e. load_is_used c.load.result c.load.ensures.only e
 
 pub returns-in-Some-Load-clause-outcome : goal.returns-in-Some-Load-clause-outcome
 returns-in-Some-Load-clause-outcome g c = λ form is.
-    let same : Load c.in-Some-Load.seed c.in-Some-Load.rounds ≡ form = same_form (Load c.in-Some-Load.seed c.in-Some-Load.rounds) form (c.in-Some-Load.ensures.exact ∙ is) in
+    let same : Load c.in-Some-Load.seed c.in-Some-Load.rounds ≡ form = sym c.in-Some-Load.field-0-is ∙ same_form c.in-Some-Load.field-0 form (c.in-Some-Load.ensures.exact ∙ is) in
     let left = g.S.Source.left c.args.source.now in
     subst (λ (x : Form). Ran left left (g.A.Sink.written c.args.answers.now) (g.A.Sink.written c.load.new.answers) (g.F.Sink.written c.args.frames.now) (g.F.Sink.written c.load.new.frames) (Outcome c.load.result x left)) same
     (load_ran c.in-Some-Load.seed c.in-Some-Load.rounds c.load.result left (g.A.Sink.written c.args.answers.now) (g.A.Sink.written c.load.new.answers) (g.F.Sink.written c.args.frames.now) (g.F.Sink.written c.load.new.frames) c.load.ensures.outcome)

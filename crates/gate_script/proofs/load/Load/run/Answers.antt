@@ -20,9 +20,9 @@ returns-in_err-open g c =
 
 pub returns-in_err-rounds : goal.returns-in_err-rounds
 returns-in_err-rounds g c =
-    let p = err_from_is_err_and c.from_residual.result c.from_residual.ensures.1 in
+    let p = err_from_is_err_and c.from_residual-in_err-rounds.result c.from_residual-in_err-rounds.ensures.1 in
     let stop = c.in_err-rounds.field-0.0 in
-    let e : c.from_residual.result ≡ Err stop = p.1 ∙ ap (λ (s : Stop). Err s) p.2 in
+    let e : c.from_residual-in_err-rounds.result ≡ Err stop = p.1 ∙ ap (λ (s : Stop). Err s) p.2 in
     let b = held (g.A.Sink.written c.args.answers.now) (g.A.Sink.faults c.args.answers.now) (g.F.Sink.written c.args.frames.now) (g.F.Sink.faults c.args.frames.now) in
     let n = held (g.A.Sink.written c.rounds.new.answers) (g.A.Sink.faults c.rounds.new.answers) (g.F.Sink.written c.rounds.new.frames) (g.F.Sink.faults c.rounds.new.frames) in
     subst (λ (x : Result (Unit {0}) Stop). LoadRunEnds c.args.seed c.args.rounds x b n) (sym e)
@@ -30,9 +30,9 @@ returns-in_err-rounds g c =
 
 pub returns-in_err-take_all : goal.returns-in_err-take_all
 returns-in_err-take_all g c =
-    let p = err_from_is_err_and c.from_residual.result c.from_residual.ensures.1 in
+    let p = err_from_is_err_and c.from_residual-in_err-take_all.result c.from_residual-in_err-take_all.ensures.1 in
     let stop = c.in_err-take_all.field-0.0 in
-    let e : c.from_residual.result ≡ Err stop = p.1 ∙ ap (λ (s : Stop). Err s) p.2 in
+    let e : c.from_residual-in_err-take_all.result ≡ Err stop = p.1 ∙ ap (λ (s : Stop). Err s) p.2 in
     let b = held (g.A.Sink.written c.args.answers.now) (g.A.Sink.faults c.args.answers.now) (g.F.Sink.written c.args.frames.now) (g.F.Sink.faults c.args.frames.now) in
     let n = held (g.A.Sink.written c.take_all.new.answers) (g.A.Sink.faults c.take_all.new.answers) (g.F.Sink.written c.take_all.new.frames) (g.F.Sink.faults c.take_all.new.frames) in
     let at_turn = c.in_ok-rounds.ensures.step b (c.in_ok-open.ensures.step b (c.requires.stands b)) in
