@@ -4,15 +4,15 @@ use Rattle.std.specs.Prelude.{Option, Some, None, Result, Ok, Err}
 use Rattle.gate_model.specs.Sequences.{IsLater}
 use Rattle.gate_outside.specs.Edge.{AtEnd, Rose, came, gained}
 use Rattle.gate_outside.proofs.Moved.{gained-gained, came-none}
-use Rattle.script_lines.specs.declared.form.Form.{Form}
-use Rattle.script_lines.specs.declared.form.Form.TheVariants.{Draw, Script}
+use Rattle.script_lines.specs.declared.text_form.TextForm.{TextForm}
+use Rattle.script_lines.specs.declared.text_form.TextForm.TheVariants.{Draw, Script}
 use Rattle.gate_script.specs.declared.refused.Refused.{Refused as Refusal}
 use Rattle.gate_script.specs.declared.refused.Refused.TheVariants.{BadLine, Worn}
 use Rattle.gate_script.specs.declared.stop.Stop.{Stop}
 use Rattle.gate_script.specs.declared.stop.Stop.TheVariants.{ReadFault, WriteFault, NoMemory, Refused}
 use Rattle.script_lines.specs.declared.order.Order.{Order}
 use Rattle.script_lines.specs.Grammar.{lines_of, whole_lines, all_lines}
-use Rattle.gate_script.specs.Outcomes.{AreFirst, Finished, Interrupted, Refuses, Ends, Halted, Ran, LinesOutcome, Outcome, last_line}
+use Rattle.gate_script.specs.Outcomes.{AreFirst, Finished, Interrupted, Refuses, Ends, Halted, Ran, LinesOutcome, last_line}
 use Rattle.gate_script.specs.Outcomes.{WriteFault as write_fault}
 use Rattle.gate_script.specs.Plays.{Tells}
 use Rattle.gate_script.specs.Sinks.{Sinks, Gains, HaveFailed}
@@ -21,7 +21,7 @@ use Rattle.gate_script.proofs.TakenLaws.{tells}
 use Rattle.gate_script.proofs.InputLaws.{no_pieces, run_stopped}
 use Rattle.gate_script.proofs.RunLaws.{front}
 
-module _ (form : Form) (left : Option (List ℕ)) (bytes a f : List ℕ) where
+module _ (form : TextForm) (left : Option (List ℕ)) (bytes a f : List ℕ) where
   at_done : AtEnd left × Finished form bytes a f → LinesOutcome 0 form left bytes a f
   at_done p = record { done = λ e. p; bad_script = λ e. absurd (omega arith); read_fault = λ e. absurd (omega arith); write_fault = λ e. absurd (omega arith); memory = λ e. absurd (omega arith); worn = λ e. absurd (omega arith); only = inl refl }
 
@@ -38,14 +38,9 @@ module _ (form : Form) (left : Option (List ℕ)) (bytes a f : List ℕ) where
   at_refused (BadLine number) p = record { done = λ e. absurd (omega arith); bad_script = λ e. (number, p); read_fault = λ e. absurd (omega arith); write_fault = λ e. absurd (omega arith); memory = λ e. absurd (omega arith); worn = λ e. absurd (omega arith); only = inr (inl refl) }
   at_refused (Worn entries) p = record { done = λ e. absurd (omega arith); bad_script = λ e. absurd (omega arith); read_fault = λ e. absurd (omega arith); write_fault = λ e. absurd (omega arith); memory = λ e. absurd (omega arith); worn = λ e. (entries, p); only = inr (inr (inr (inr (inr refl)))) }
 
--- each form has its own
-by_form : (form : Form) (status : ℕ) (left : Option (List ℕ)) (bytes a f : List ℕ) → LinesOutcome status form left bytes a f → Outcome status form left bytes a f
-by_form (Draw size) status left bytes a f o = o
-by_form (Script entries) status left bytes a f o = o
-
-module _ (form : Form) (k : ℕ) (left0 left : Option (List ℕ)) (b n : Sinks) (a' : Option (List ℕ)) where
+module _ (form : TextForm) (k : ℕ) (left0 left : Option (List ℕ)) (b n : Sinks) (a' : Option (List ℕ)) where
   -- no last answer was due
-  unchanged : (status : ℕ) (bytes own_a own_f : List ℕ) → left0 ≡ came bytes left → Gains b n own_a own_f → (k ≡ status) × (a' ≡ n.wrote) → LinesOutcome status form left bytes own_a own_f → Ran left0 left b.wrote a' b.framed n.framed (Outcome k form left)
+  unchanged : (status : ℕ) (bytes own_a own_f : List ℕ) → left0 ≡ came bytes left → Gains b n own_a own_f → (k ≡ status) × (a' ≡ n.wrote) → LinesOutcome status form left bytes own_a own_f → Ran left0 left b.wrote a' b.framed n.framed (LinesOutcome k form left)
   unchanged status bytes own_a own_f came_is gains same o = record {
     bytes = bytes;
     a = own_a;
@@ -53,11 +48,11 @@ module _ (form : Form) (k : ℕ) (left0 left : Option (List ℕ)) (b n : Sinks) 
     read = came_is;
     answered = same.1 ∙ gains.answered;
     framed_on = gains.framed;
-    holds = by_form form k left bytes own_a own_f (subst (λ (j : ℕ). LinesOutcome j form left bytes own_a own_f) (sym same.0) o);
+    holds = (subst (λ (j : ℕ). LinesOutcome j form left bytes own_a own_f) (sym same.0) o);
   }
 
   -- more of the answers was written
-  said : (status : ℕ) (bytes own_a own_f more : List ℕ) → left0 ≡ came bytes left → Gains b n own_a own_f → k ≡ status → a' ≡ gained n.wrote more → LinesOutcome status form left bytes (own_a ++ more) own_f → Ran left0 left b.wrote a' b.framed n.framed (Outcome k form left)
+  said : (status : ℕ) (bytes own_a own_f more : List ℕ) → left0 ≡ came bytes left → Gains b n own_a own_f → k ≡ status → a' ≡ gained n.wrote more → LinesOutcome status form left bytes (own_a ++ more) own_f → Ran left0 left b.wrote a' b.framed n.framed (LinesOutcome k form left)
   said status bytes own_a own_f more came_is gains is put o = record {
     bytes = bytes;
     a = own_a ++ more;
@@ -65,7 +60,7 @@ module _ (form : Form) (k : ℕ) (left0 left : Option (List ℕ)) (b n : Sinks) 
     read = came_is;
     answered = put ∙ (ap (λ (x : Option (List ℕ)). gained x more) gains.answered ∙ gained-gained b.wrote own_a more);
     framed_on = gains.framed;
-    holds = by_form form k left bytes (own_a ++ more) own_f (subst (λ (j : ℕ). LinesOutcome j form left bytes (own_a ++ more) own_f) (sym is) o);
+    holds = (subst (λ (j : ℕ). LinesOutcome j form left bytes (own_a ++ more) own_f) (sym is) o);
   }
 
   -- what all done orders tell
@@ -77,7 +72,7 @@ module _ (form : Form) (k : ℕ) (left0 left : Option (List ℕ)) (b n : Sinks) 
 
   -- the last answer was due
   last_said : (Fault : Type 0) (bytes : List ℕ) (all : List Order) → ((orders : List Order) → IsLater orders all → AreFirst form bytes left orders) → left0 ≡ came bytes left → (refused : Refusal) → RefusedOf all refused b n → LastSaid refused k Fault n.wrote a'
-      → Ran left0 left b.wrote a' b.framed n.framed (Outcome k form left)
+      → Ran left0 left b.wrote a' b.framed n.framed (LinesOutcome k form left)
   last_said Fault bytes all are came_is refused s (inl w) =
       let t = s.done.told in
       said (refused_status refused) bytes t.answers t.framings (last_line refused) came_is t.gains w.0 w.1
@@ -105,7 +100,7 @@ module _ (form : Form) (k : ℕ) (left0 left : Option (List ℕ)) (b n : Sinks) 
 
   -- what the status says of a run that stopped
   stopped : (Fault : Type 0) (bytes : List ℕ) (all : List Order) → ((orders : List Order) → IsLater orders all → AreFirst form bytes left orders) → left0 ≡ came bytes left → (stop : Stop) → StoppedIn all stop b n → Ended (Err stop) k Fault n.wrote a'
-      → Ran left0 left b.wrote a' b.framed n.framed (Outcome k form left)
+      → Ran left0 left b.wrote a' b.framed n.framed (LinesOutcome k form left)
   stopped Fault bytes all are came_is WriteFault s e = unchanged 5 bytes s.own_a s.own_f came_is s.gains e (at_write_fault form left bytes s.own_a s.own_f (inl (record {
     lines = s.orders;
     play = s.play;
@@ -122,12 +117,12 @@ module _ (form : Form) (k : ℕ) (left0 left : Option (List ℕ)) (b n : Sinks) 
   stopped Fault bytes all are came_is ReadFault s e = absurd s
 
   stopped_either : (Fault : Type 0) (bytes : List ℕ) → left0 ≡ came bytes left → (stop : Stop) → StoppedIn (whole_lines form bytes) stop b n ⊎ (AtEnd left × StoppedIn (all_lines form bytes) stop b n) → Ended (Err stop) k Fault n.wrote a'
-      → Ran left0 left b.wrote a' b.framed n.framed (Outcome k form left)
+      → Ran left0 left b.wrote a' b.framed n.framed (LinesOutcome k form left)
   stopped_either Fault bytes came_is stop (inl s) e = stopped Fault bytes (whole_lines form bytes) (λ orders later. inl later) came_is stop s e
   stopped_either Fault bytes came_is stop (inr s) e = stopped Fault bytes (all_lines form bytes) (λ orders later. inr (s.0, later)) came_is stop s.1 e
 
   -- what the status says
-  pub outcome_of : (Fault Last : Type 0) (r : Result (Unit {0}) Stop) → HasRead left0 left (λ bytes. RunEnds form bytes left Fault r b n) → Ended r k Last n.wrote a' → Ran left0 left b.wrote a' b.framed n.framed (Outcome k form left)
+  pub outcome_of : (Fault Last : Type 0) (r : Result (Unit {0}) Stop) → HasRead left0 left (λ bytes. RunEnds form bytes left Fault r b n) → Ended r k Last n.wrote a' → Ran left0 left b.wrote a' b.framed n.framed (LinesOutcome k form left)
   outcome_of Fault Last (Ok u) ran e =
       let d = ran.holds.1 in
       unchanged 0 ran.bytes d.told.answers d.told.framings ran.came_is d.told.gains e (at_done form left ran.bytes d.told.answers d.told.framings (ran.holds.0, record { play = d.play; tells = all_told (all_lines form ran.bytes) d }))
@@ -138,7 +133,7 @@ module _ (form : Form) (k : ℕ) (left0 left : Option (List ℕ)) (b n : Sinks) 
   outcome_of Fault Last (Err NoMemory) ran e = stopped_either Last ran.bytes ran.came_is NoMemory ran.holds e
   outcome_of Fault Last (Err (Refused refused)) ran e = stopped_either Last ran.bytes ran.came_is (Refused refused) ran.holds e
 
-module _ (form : Form) (bytes : List ℕ) (left : Option (List ℕ)) (Fault Last : Type 0) (k : ℕ) (a' : Option (List ℕ)) (b n : Sinks) where
+module _ (form : TextForm) (bytes : List ℕ) (left : Option (List ℕ)) (Fault Last : Type 0) (k : ℕ) (a' : Option (List ℕ)) (b n : Sinks) where
   -- the status of a read fault has its cause
   pub read_cause : (r : Result (Unit {0}) Stop) → RunEnds form bytes left Fault r b n → Ended r k Last n.wrote a' → k ≡ 4 → Fault
   read_cause (Ok u) ends e is = absurd (omega (arith, e.0, is))
@@ -192,17 +187,9 @@ failed_in a a' a'' f f' le le' (inl (inr rose)) = inr rose
 failed_in a a' a'' f f' le le' (inr rose) = inl (omega (arith, le, rose))
 
 -- the run stopped before it read
-pub not_opened : (form : Form) (left : Option (List ℕ)) (Fault : Type 0) (b n : Sinks) (stop : Stop) → StoppedIn (lines_of form []) stop b n → HasRead left left (λ bytes. RunEnds form bytes left Fault (Err stop) b n)
+pub not_opened : (form : TextForm) (left : Option (List ℕ)) (Fault : Type 0) (b n : Sinks) (stop : Stop) → StoppedIn (lines_of form []) stop b n → HasRead left left (λ bytes. RunEnds form bytes left Fault (Err stop) b n)
 not_opened form left Fault b n stop s = record {
   bytes = [];
   came_is = sym (came-none left);
   holds = run_stopped form [] left Fault b n stop (subst (λ (ps : List (List ℕ)). StoppedIn (lines_of form ps) stop b n) (sym (no_pieces form)) s);
 }
-
--- the form that the words give is one
-pub same_form : (s t : Form) → Some s ≡ Some t → s ≡ t
-same_form s t e = ap (or_else s) e
-  where
-    or_else : Form → Option Form → Form
-    or_else s None = s
-    or_else s (Some t) = t

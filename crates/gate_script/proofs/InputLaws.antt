@@ -12,8 +12,8 @@ use Rattle.std.specs.Prelude.{◌^◌}
 use Rattle.gate_outside.specs.Edge.{AtEnd, came, Rose}
 use Rattle.gate_script.specs.declared.session.Session.{Session}
 use Rattle.gate_outside.proofs.Moved.{came-none}
-use Rattle.script_lines.specs.declared.form.Form.{Form}
-use Rattle.script_lines.specs.declared.form.Form.TheVariants.{Draw, Script}
+use Rattle.script_lines.specs.declared.text_form.TextForm.{TextForm}
+use Rattle.script_lines.specs.declared.text_form.TextForm.TheVariants.{Draw, Script}
 use Rattle.gate_script.specs.declared.run.Run.{Run}
 use Rattle.script_lines.specs.declared.size.Size.{Size}
 use Rattle.gate_script.specs.declared.stop.Stop.{Stop}
@@ -33,16 +33,16 @@ reverse-cons : {A : Type 0} (x : A) (xs : List A) → reverse (x ∷ xs) ≡ rev
 reverse-cons x xs = reverse-append (x ∷ []) xs
 
 -- a piece has some bytes
-some_most : (form : Form) → 0 < most_of form
+some_most : (form : TextForm) → 0 < most_of form
 some_most (Draw size) = omega arith
 some_most (Script entries) = omega arith
 
-nothing-whole : (form : Form) → first_piece (most_of form) [] ≡ None
+nothing-whole : (form : TextForm) → first_piece (most_of form) [] ≡ None
 nothing-whole (Draw size) = refl
 nothing-whole (Script entries) = refl
 
 -- all that was done so far
-pub done_so_far : (form : Form) (pieces : List (List ℕ)) (r : Run) (b n : Sinks) → HasDone form pieces r b n → AllDone (lines_of form pieces) b n
+pub done_so_far : (form : TextForm) (pieces : List (List ℕ)) (r : Run) (b n : Sinks) → HasDone form pieces r b n → AllDone (lines_of form pieces) b n
 done_so_far form pieces r b n had = all_done (lines_of form pieces) r b n had.at
 
 -- a call stopped for want of memory after these orders
@@ -50,7 +50,7 @@ pub short_after : (orders all : List Order) (b n : Sinks) → AllDone orders b n
 short_after orders all b n d more = record { orders = orders; first = more; done = d }
 
 -- the lines of more pieces go on with those of these
-pub lines-later : (form : Form) (ps qs : List (List ℕ)) → IsLater ps qs → IsLater (lines_of form ps) (lines_of form qs)
+pub lines-later : (form : TextForm) (ps qs : List (List ℕ)) → IsLater ps qs → IsLater (lines_of form ps) (lines_of form qs)
 lines-later form ps qs p = subst (λ (l : List (List ℕ)). IsLater (lines_of form ps) (lines_of form l)) (sym p.1) (more form p.0)
   where
     draws : (size : Size) (ms : List (List ℕ)) → IsLater (draw_lines size ps) (draw_lines size (ms ++ ps))
@@ -64,16 +64,16 @@ lines-later form ps qs p = subst (λ (l : List (List ℕ)). IsLater (lines_of fo
         let order : Order = told (judged entries (list_any starts (script_lines entries (ms ++ ps))) (total (ms ++ ps)) m) in
         (order ∷ q.0, ap (λ (l : List Order). order ∷ l) q.1)
 
-    more : (form : Form) (ms : List (List ℕ)) → IsLater (lines_of form ps) (lines_of form (ms ++ ps))
+    more : (form : TextForm) (ms : List (List ℕ)) → IsLater (lines_of form ps) (lines_of form (ms ++ ps))
     more (Draw size) ms = draws size ms
     more (Script entries) ms = scripts entries ms
 
 -- the lines at the end of the input go on with the others
-pub ending-later : (form : Form) (lines : List Order) → IsLater lines (ending form lines)
+pub ending-later : (form : TextForm) (lines : List Order) → IsLater lines (ending form lines)
 ending-later (Draw size) lines = (told Done ∷ [], refl)
 ending-later (Script entries) lines = ([], refl)
 
-module _ (form : Form) where
+module _ (form : TextForm) where
   module _ (before piece : List ℕ) (pieces : List (List ℕ)) (cut : read_stream (first_piece (most_of form)) before ≡ (reverse pieces, piece)) where
     cut-more : (more : List ℕ) → read_stream (first_piece (most_of form)) (before ++ more) ≡ after (reverse pieces) (read_stream (first_piece (most_of form)) (piece ++ more))
     cut-more more = resumes (first_piece (most_of form)) (pieces_are_read (most_of form) (some_most form)) before more ∙ ap (λ (r : List (List ℕ) × List ℕ). after r.0 (read_stream (first_piece (most_of form)) (r.1 ++ more))) cut
@@ -190,41 +190,41 @@ module _ (form : Form) where
   run_finished bytes left Fault b n (Err ReadFault) at_end e = absurd e
 
 -- nothing was read, for want of memory
-pub no_room : (form : Form) (piece : List ℕ) (r : Run) (left : Option (List ℕ)) (Fault : Type 0) (b n : Sinks) → HasCut form [] piece r b n → RunEnds form [] left Fault (Err NoMemory) b n
+pub no_room : (form : TextForm) (piece : List ℕ) (r : Run) (left : Option (List ℕ)) (Fault : Type 0) (b n : Sinks) → HasCut form [] piece r b n → RunEnds form [] left Fault (Err NoMemory) b n
 no_room form piece r left Fault b n h = inl (short_after (whole_lines form []) (whole_lines form []) b n (read_failed form [] piece r r b n n h) ([], refl))
 
 -- no bytes make no pieces
-pub no_pieces : (form : Form) → reverse (whole_pieces (most_of form) []) ≡ []
+pub no_pieces : (form : TextForm) → reverse (whole_pieces (most_of form) []) ≡ []
 no_pieces form = ap (λ (q : List (List ℕ) × List ℕ). reverse q.0) (read-unfinished (first_piece (most_of form)) (pieces_are_read (most_of form) (some_most form)) [] (nothing-whole form))
 
-pub no_piece : (form : Form) → first_piece (most_of form) [] ≡ None
+pub no_piece : (form : TextForm) → first_piece (most_of form) [] ≡ None
 no_piece form = nothing-whole form
 
 -- a fault of the source that a part of the run met is one of the run
-pub fault_earlier : (form : Form) (bytes : List ℕ) (left : Option (List ℕ)) (Fault Fault' : Type 0) (stop : Stop) (b n : Sinks) → (Fault → Fault') → RunEnds form bytes left Fault (Err stop) b n → RunEnds form bytes left Fault' (Err stop) b n
+pub fault_earlier : (form : TextForm) (bytes : List ℕ) (left : Option (List ℕ)) (Fault Fault' : Type 0) (stop : Stop) (b n : Sinks) → (Fault → Fault') → RunEnds form bytes left Fault (Err stop) b n → RunEnds form bytes left Fault' (Err stop) b n
 fault_earlier form bytes left Fault Fault' ReadFault b n more ends = (more ends.0, ends.1)
 fault_earlier form bytes left Fault Fault' WriteFault b n more ends = ends
 fault_earlier form bytes left Fault Fault' NoMemory b n more ends = ends
 fault_earlier form bytes left Fault Fault' (Refused refused) b n more ends = ends
 
 -- the last read gave nothing, and the input was finished
-pub read_ends : (form form1 form2 : Form) (some : Bool) (bytes piece : List ℕ) (r : Run) (left : Option (List ℕ)) (Fault : Type 0) (b n n' : Sinks) (result : Result (Unit {0}) Stop) → form1 ≡ form → form2 ≡ form1 → some ≡ false
+pub read_ends : (form form1 form2 : TextForm) (some : Bool) (bytes piece : List ℕ) (r : Run) (left : Option (List ℕ)) (Fault : Type 0) (b n n' : Sinks) (result : Result (Unit {0}) Stop) → form1 ≡ form → form2 ≡ form1 → some ≡ false
     → AtEndUnless some left × HasCut form1 bytes piece r b n → (HasCut form2 bytes piece r b n → LastEnds (all_lines form2 bytes) result b n') → RunEnds form bytes left Fault result b n'
 read_ends form form1 form2 some bytes piece r left Fault b n n' result is1 is2 none h finish =
     let both : form2 ≡ form = is2 ∙ is1 in
     run_finished form bytes left Fault b n' result (subst (λ (x : Bool). AtEndUnless x left) none h.0)
-    (subst (λ (x : Form). LastEnds (all_lines x bytes) result b n') both (finish (subst (λ (x : Form). HasCut x bytes piece r b n) (sym is2) h.1)))
+    (subst (λ (x : TextForm). LastEnds (all_lines x bytes) result b n') both (finish (subst (λ (x : TextForm). HasCut x bytes piece r b n) (sym is2) h.1)))
 
 -- what a run has read is bounded
 pub few_read : (r : Run) → IsReady r → r.read ≤ 2 ^ 56
 few_read r ready = by_form r.form r.state.session ready.form
   where
-    by_form : (form : Form) (session : Option Session) → IsReadyFor form session r.read → r.read ≤ 2 ^ 56
+    by_form : (form : TextForm) (session : Option Session) → IsReadyFor form session r.read → r.read ≤ 2 ^ 56
     by_form (Draw size) None p = absurd p.0
     by_form (Draw size) (Some s) p = omega (arith, p.1, p.0.few)
     by_form (Script entries) session p = omega (arith, p.1)
 
-pub short_piece : (form : Form) (piece : List ℕ) → first_piece (most_of form) piece ≡ None → length piece < 262146
+pub short_piece : (form : TextForm) (piece : List ℕ) → first_piece (most_of form) piece ≡ None → length piece < 262146
 short_piece (Draw size) piece e = omega (arith, (begun 65536 piece e).short)
 short_piece (Script entries) piece e = omega (arith, (begun 262146 piece e).short)
 

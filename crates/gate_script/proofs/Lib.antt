@@ -1,3 +1,4 @@
+pub mod SeeingLaws
 pub mod ShownLaws
 pub mod StepLaws
 pub mod TakenLaws
@@ -14,3 +15,6 @@ pub mod OnePlay
 pub mod OneAnswer
 pub mod OneRun
 pub mod OneFault
+pub mod LoadLaws
+pub mod LoadEndings
+pub mod LoadRun

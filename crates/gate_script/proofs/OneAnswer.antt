@@ -19,11 +19,12 @@ use Rattle.gate_model.specs.session.History.{History}
 use Rattle.gate_model.specs.session.Rights.{is_live}
 use Rattle.guac_framing.specs.declared.next.BadAt.{BadAt}
 use Rattle.script_lines.specs.declared.line.Line.{Line}
-use Rattle.script_lines.specs.declared.line.Line.TheVariants.{Blank as blank, Bad as bad, At as moment, Start as start, Server as server, Join as join, Read as read, Write as write, Take as take_up_to, Leave as leave, Close as close, Pixel as pixel, Same as same, Acknowledge as acknowledge, Done as done}
+use Rattle.script_lines.specs.declared.totals.Totals.{Totals}
+use Rattle.script_lines.specs.declared.line.Line.TheVariants.{Blank as blank, Bad as bad, At as moment, Start as start, Server as server, Join as join, Read as read, Write as write, Take as take_up_to, Leave as leave, Close as close, Pixel as pixel, Same as same, Acknowledge as acknowledge, Done as done, Press as press_key, Totals as tell_totals}
 use Rattle.script_lines.specs.declared.reading.Reading.{Reading}
 use Rattle.script_lines.specs.declared.reading.Reading.TheVariants.{Whole, Cut, Bad, TooMany}
-use Rattle.gate_script.specs.Plays.{Answers, Calls, Compares, Does, DoesReading, Play, Writes}
-use Rattle.gate_script.specs.Told.{answer_line, answer_to, bad_text_line, blank_and, given_line, kind_word, pixel_line, taken_text, took_line, write_answer}
+use Rattle.gate_script.specs.Plays.{Answers, Calls, Compares, Does, DoesReading, Play, TellsTotals, Writes}
+use Rattle.gate_script.specs.Told.{answer_line, answer_to, bad_text_line, blank_and, given_line, kind_word, pixel_line, taken_text, took_line, totals_lines, write_answer}
 
 -- ---- every answer has some bytes
 
@@ -125,6 +126,16 @@ module _ (p q : Play) (a f : List ℕ) (none : a ≡ []) where
     | inr s ↦ subst (λ (l : List ℕ). 1 ≤ length l) (sym s.1) (answer_some _ _)
   ]
 
+lines_some : (totals : Totals) (joins stamp sum : ℕ) (agree : Bool) → 1 ≤ length (totals_lines totals joins stamp sum agree)
+lines_some totals joins stamp sum agree = longer _ _ (longer _ _ (longer _ _ (longer _ _ (longer _ _ (longer _ _ (answer_some _ _))))))
+  where
+    longer : (xs ys : List ℕ) → 1 ≤ length xs → 1 ≤ length (xs ++ ys)
+    longer xs ys some = omega (arith, length-append xs ys, some)
+
+totals_some : (totals : Totals) (h : History) (answer : List ℕ) → TellsTotals totals h answer → 1 ≤ length answer
+totals_some totals h answer (inl w) = subst (λ (l : List ℕ). 1 ≤ length l) (sym w.1) (lines_some totals _ _ _ true)
+totals_some totals h answer (inr w) = subst (λ (l : List ℕ). 1 ≤ length l) (sym w.1) (lines_some totals _ _ _ false)
+
 pub silent : (line : Line) (p q : Play) (a f : List ℕ) → Does line p q a f → a ≡ [] → p ≡ q
 silent blank p q a f does none = sym does.same
 silent bad p q a f does none = absurd does
@@ -141,3 +152,5 @@ silent (pixel viewer x y) p q a f does none = told_some p q a f none p _ (looked
 silent (same one other) p q a f does none = told_some p q a f none p does.0 (compared_some p q a f none p.history one other does.0 does.1) does.2
 silent (acknowledge viewer) p q a f does none = wrote_some p q a f none viewer 0 _ does
 silent done p q a f does none = told_some p q a f none _ _ (answer_some _ _) does
+silent (press_key viewer keysym) p q a f does none = wrote_some p q a f none viewer 0 _ does
+silent (tell_totals totals) p q a f does none = told_some p q a f none p does.0 (totals_some totals p.history does.0 does.1) does.2

@@ -10,9 +10,9 @@ use Rattle.gate_model.specs.declared.event.Event.{Event}
 use Rattle.gate_model.specs.declared.event.Event.TheVariants.{Write as write_acts}
 use Rattle.gate_model.specs.session.Calls.{Step}
 use Rattle.gate_model.specs.session.History.{History}
-use Rattle.script_lines.specs.declared.form.Form.TheVariants.{Script}
+use Rattle.script_lines.specs.declared.text_form.TextForm.TheVariants.{Script}
 use Rattle.script_lines.specs.declared.line.Line.{Line}
-use Rattle.script_lines.specs.declared.line.Line.TheVariants.{Blank as blank, Bad as bad, At as moment, Start as start, Server as server, Join as join, Read as read, Write as write, Take as take_up_to, Leave as leave, Close as close, Pixel as pixel, Same as same, Acknowledge as acknowledge, Done as done}
+use Rattle.script_lines.specs.declared.line.Line.TheVariants.{Blank as blank, Bad as bad, At as moment, Start as start, Server as server, Join as join, Read as read, Write as write, Take as take_up_to, Leave as leave, Close as close, Pixel as pixel, Same as same, Acknowledge as acknowledge, Done as done, Press as press_key, Totals as tell_totals}
 use Rattle.script_lines.specs.declared.order.Order.{Order}
 use Rattle.script_lines.specs.declared.reading.Reading.{Reading}
 use Rattle.script_lines.specs.declared.reading.Reading.TheVariants.{Whole, Cut, Bad, TooMany}
@@ -51,7 +51,7 @@ module _ (p q : Play) (a f : List ℕ) where
   reading_adds (Bad at) viewer w = play_adds _ w.same (inl refl)
   reading_adds TooMany viewer w = absurd w
 
-  line_adds : (line : Line) → Does line p q a f → HasOneMore p.history q.history
+  pub line_adds : (line : Line) → Does line p q a f → HasOneMore p.history q.history
   line_adds blank w = play_adds _ w.same (inl refl)
   line_adds bad w = absurd w
   line_adds (moment now) w = play_adds _ w.same (inl refl)
@@ -67,6 +67,8 @@ module _ (p q : Play) (a f : List ℕ) where
   line_adds (same one other) w = play_adds _ w.2.same (inl refl)
   line_adds (acknowledge viewer) w = write_adds viewer 0 _ w
   line_adds done w = play_adds _ w.same (inl refl)
+  line_adds (press_key viewer keysym) w = write_adds viewer 0 _ w
+  line_adds (tell_totals totals) w = play_adds _ w.2.same (inl refl)
 
 -- ---- where a fault of a sink came
 

@@ -15,13 +15,14 @@ use Rattle.gate_model.specs.declared.written.Written.{Written}
 use Rattle.gate_model.specs.picture.Layers.{Same as AreAlike}
 use Rattle.gate_model.specs.session.History.{History}
 use Rattle.script_lines.specs.declared.line.Line.{Line}
-use Rattle.script_lines.specs.declared.line.Line.TheVariants.{Blank as blank, Bad as bad, At as moment, Start as start, Server as server, Join as join, Read as read, Write as write, Take as take_up_to, Leave as leave, Close as close, Pixel as pixel, Same as same, Acknowledge as acknowledge, Done as done}
+use Rattle.script_lines.specs.declared.line.Line.TheVariants.{Blank as blank, Bad as bad, At as moment, Start as start, Server as server, Join as join, Read as read, Write as write, Take as take_up_to, Leave as leave, Close as close, Pixel as pixel, Same as same, Acknowledge as acknowledge, Done as done, Press as press_key, Totals as tell_totals}
+use Rattle.script_lines.specs.declared.totals.Totals.{Totals}
 use Rattle.script_lines.specs.declared.order.Order.{Order}
 use Rattle.script_lines.specs.declared.reading.Reading.{Reading}
 use Rattle.script_lines.specs.declared.reading.Reading.TheVariants.{Whole, Cut, Bad, TooMany}
 use Rattle.script_lines.specs.Lines.{line_in, told_by}
 use Rattle.gate_script.specs.Told.{answer_to, differ_line, framings, same_line, write_answer}
-use Rattle.gate_script.specs.Plays.{Play, Plays, Does, DoesReading, Begins, Calls, Answers, Compares, Writes, acknowledgement, seen}
+use Rattle.gate_script.specs.Plays.{Play, Plays, Does, DoesReading, Begins, Calls, Answers, Compares, Writes, acknowledgement, seen, TellsTotals, press}
 use Rattle.gate_script.proofs.OneReading.{reading_same}
 use Rattle.gate_script.proofs.OneStep.{start_same, step_same}
 
@@ -90,6 +91,13 @@ module _ (p q q' : Play) (a a' f f' x y : List ℕ) where
       by (inr s) (inl t) = absurd (s.0 t.0)
       by (inr s) (inr t) = s.1 ∙ sym t.1
 
+  -- the totals have one answer
+  totalled : (totals : Totals) (h : History) (b c : List ℕ) → TellsTotals totals h b → TellsTotals totals h c → b ≡ c
+  totalled totals h b c (inl u) (inl w) = u.1 ∙ sym w.1
+  totalled totals h b c (inl u) (inr w) = absurd (w.0 u.0)
+  totalled totals h b c (inr u) (inl w) = absurd (u.0 w.0)
+  totalled totals h b c (inr u) (inr w) = u.1 ∙ sym w.1
+
   pub does_same : (line : Line) → Does line p q a f → Does line p q' a' f' → f ++ x ≡ f' ++ y → IsOne q q' a a' f f'
   does_same blank one other e = answers_same p _ _ refl one other
   does_same bad one other e = absurd one
@@ -107,6 +115,8 @@ module _ (p q q' : Play) (a a' f f' x y : List ℕ) where
   does_same (same left right) one other e = answers_same p one.0 other.0 (compared p.history left right one.0 other.0 one.1 other.1) one.2 other.2
   does_same (acknowledge viewer) one other e = writes_same viewer (acknowledgement p.history) 0 one other e
   does_same done one other e = answers_same p _ _ refl one other
+  does_same (press_key viewer keysym) one other e = writes_same viewer (press keysym) 0 one other e
+  does_same (tell_totals totals) one other e = answers_same p one.0 other.0 (totalled totals p.history one.0 other.0 one.1 other.1) one.2 other.2
 
 -- ---- all orders
 

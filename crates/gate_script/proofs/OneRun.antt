@@ -19,10 +19,10 @@ use Rattle.gate_model.specs.session.Calls.{Step}
 use Rattle.gate_model.specs.session.History.{History}
 use Rattle.gate_model.specs.session.Output.{out, taken}
 use Rattle.std.specs.Prelude.{take}
-use Rattle.script_lines.specs.declared.form.Form.{Form}
-use Rattle.script_lines.specs.declared.form.Form.TheVariants.{Script}
+use Rattle.script_lines.specs.declared.text_form.TextForm.{TextForm}
+use Rattle.script_lines.specs.declared.text_form.TextForm.TheVariants.{Script}
 use Rattle.script_lines.specs.declared.line.Line.{Line}
-use Rattle.script_lines.specs.declared.line.Line.TheVariants.{Blank as blank, Bad as bad, At as moment, Start as start, Server as server, Join as join, Read as read, Write as write, Take as take_up_to, Leave as leave, Close as close, Pixel as pixel, Same as same, Acknowledge as acknowledge, Done as done}
+use Rattle.script_lines.specs.declared.line.Line.TheVariants.{Blank as blank, Bad as bad, At as moment, Start as start, Server as server, Join as join, Read as read, Write as write, Take as take_up_to, Leave as leave, Close as close, Pixel as pixel, Same as same, Acknowledge as acknowledge, Done as done, Press as press_key, Totals as tell_totals}
 use Rattle.script_lines.specs.declared.order.Order.{Order}
 use Rattle.script_lines.specs.declared.order.Order.TheVariants.{Told as told, Untold as untold}
 use Rattle.script_lines.specs.declared.reading.Reading.{Reading}
@@ -86,7 +86,7 @@ interrupted_once form bytes a b f one other =
 later_still : (xs ys zs : List Order) → IsLater xs ys → IsLater ys zs → IsLater xs zs
 later_still xs ys zs p q = (q.0 ++ p.0, q.1 ∙ (ap (λ (l : List Order). q.0 ++ l) p.1 ∙ sym (append_assoc q.0 p.0 xs)))
 
-whole_are_first : (form : Form) (bytes : List ℕ) → IsLater (whole_lines form bytes) (all_lines form bytes)
+whole_are_first : (form : TextForm) (bytes : List ℕ) → IsLater (whole_lines form bytes) (all_lines form bytes)
 whole_are_first form bytes =
     let whole : List (List ℕ) = whole_pieces (most_of form) bytes in
     let last : List (List ℕ) = last_piece (unfinished (most_of form) bytes) in
@@ -94,7 +94,7 @@ whole_are_first form bytes =
     (lines-later form (reverse whole) (reverse (whole ++ last)) (reverse last, reverse-append whole last))
     (ending-later form (lines_of form (reverse (whole ++ last))))
 
-pub first_of_all : (form : Form) (bytes : List ℕ) (left : Option (List ℕ)) (orders : List Order) → AreFirst form bytes left orders → IsLater orders (all_lines form bytes)
+pub first_of_all : (form : TextForm) (bytes : List ℕ) (left : Option (List ℕ)) (orders : List Order) → AreFirst form bytes left orders → IsLater orders (all_lines form bytes)
 first_of_all form bytes left orders (inl first) = later_still orders (whole_lines form bytes) (all_lines form bytes) first (whole_are_first form bytes)
 first_of_all form bytes left orders (inr first) = first.1
 
@@ -239,6 +239,8 @@ module _ (p q : Play) (a f : List ℕ) where
   worn_not_done (same one other) r n w worn does = no_event w.event w.makes
   worn_not_done (acknowledge viewer) r n w worn does = worn_not_written viewer 0 _ w.event r n (some_event _ w.event w.makes) w.step worn does
   worn_not_done done r n w worn does = no_event w.event w.makes
+  worn_not_done (press_key viewer keysym) r n w worn does = worn_not_written viewer 0 _ w.event r n (some_event _ w.event w.makes) w.step worn does
+  worn_not_done (tell_totals totals) r n w worn does = no_event w.event w.makes
 
   too_long_not_done : {A : Type 0} → (line : Line) → IsTooLong line → Does line p q a f → A
   too_long_not_done (write viewer text) long does = absurd (subst (λ (k : Reading). DoesReading k viewer p q a f) (reading_same text does.0 TooMany does.1 long) does.2)
@@ -256,6 +258,8 @@ module _ (p q : Play) (a f : List ℕ) where
   too_long_not_done (same one other) long does = absurd long
   too_long_not_done (acknowledge viewer) long does = absurd long
   too_long_not_done done long does = absurd long
+  too_long_not_done (press_key viewer keysym) long does = absurd long
+  too_long_not_done (tell_totals totals) long does = absurd long
 
   bad_not_done : {A : Type 0} → (line : Line) → (line ≡ bad) ⊎ IsTooLong line → Does line p q a f → A
   bad_not_done line (inl is) does = absurd (subst (λ (l : Line). Does l p q a f) is does)
@@ -290,6 +294,8 @@ makes_once (pixel viewer x y) p d e w v = some_event d e (sym w ∙ v)
 makes_once (same one other) p d e w v = some_event d e (sym w ∙ v)
 makes_once (acknowledge viewer) p d e w v = some_event d e (sym w ∙ v)
 makes_once done p d e w v = some_event d e (sym w ∙ v)
+makes_once (press_key viewer keysym) p d e w v = some_event d e (sym w ∙ v)
+makes_once (tell_totals totals) p d e w v = some_event d e (sym w ∙ v)
 
 -- a line outside the grammar makes none
 bad_makes_none : {A : Type 0} → (line : Line) (p : Play) (e : Event) → (line ≡ bad) ⊎ IsTooLong line → Makes line p e → A
@@ -309,6 +315,8 @@ bad_makes_none (pixel viewer x y) p e (inr long) w = absurd long
 bad_makes_none (same one other) p e (inr long) w = absurd long
 bad_makes_none (acknowledge viewer) p e (inr long) w = absurd long
 bad_makes_none done p e (inr long) w = absurd long
+bad_makes_none (press_key viewer keysym) p e (inr long) w = absurd long
+bad_makes_none (tell_totals totals) p e (inr long) w = absurd long
 
 -- an order is refused for one cause
 refused_once : (refused again : Refused) (order : Order) (orders : List Order) (p : Play) → IsRefused refused order orders p → IsRefused again order orders p → refused ≡ again
@@ -323,7 +331,7 @@ refused_once (Worn n) (Worn m) order orders p w v =
     some_number : (n m : ℕ) → Some n ≡ Some m → n ≡ m
     some_number n m e = cc
 
-module _ (form : Form) (bytes f : List ℕ) (left : Option (List ℕ)) where
+module _ (form : TextForm) (bytes f : List ℕ) (left : Option (List ℕ)) where
   -- no run went on behind the order that the other one refused
   no_longer : {A : Type 0} → (a b : List ℕ) (refused again : Refused) (one : Refuses form bytes a f left refused) (other : Refuses form bytes b f left again) (more : List Order) → other.lines ≡ more ++ (one.next ∷ one.lines) → A
   no_longer a b refused again one other more is =

@@ -7,10 +7,10 @@ use Rattle.std.proofs.lemmas.List.{take-append-drop}
 use Rattle.gate_model.specs.Sequences.{IsLater, BeginsWith}
 use Rattle.gate_outside.specs.Edge.{GainedFront, Rose, gained}
 use Rattle.gate_outside.proofs.Moved.{gained-none, gained-gained}
-use Rattle.script_lines.specs.declared.form.Form.{Form}
-use Rattle.script_lines.specs.declared.form.Form.TheVariants.{Draw, Script}
+use Rattle.script_lines.specs.declared.text_form.TextForm.{TextForm}
+use Rattle.script_lines.specs.declared.text_form.TextForm.TheVariants.{Draw, Script}
 use Rattle.script_lines.specs.declared.line.Line.{Line}
-use Rattle.script_lines.specs.declared.line.Line.TheVariants.{Blank, Bad, At as moment, Start, Server, Join, Read, Write, Take, Leave, Close, Pixel, Same, Acknowledge, Done}
+use Rattle.script_lines.specs.declared.line.Line.TheVariants.{Blank, Bad, At as moment, Start, Server, Join, Read, Write, Take, Leave, Close, Pixel, Same, Acknowledge, Done, Press, Totals}
 use Rattle.script_lines.specs.declared.order.Order.{Order}
 use Rattle.script_lines.specs.declared.order.Order.TheVariants.{Told as told, Untold as untold}
 use Rattle.script_lines.specs.Lines.{line_in, told_by}
@@ -36,7 +36,7 @@ use Rattle.script_lines.specs.declared.size.Size.{Size}
 use Rattle.desk_core.specs.Desk.{Stands}
 use Rattle.desk_core.specs.Laws.{DesksAreTrue, DesksAreWhole}
 use Rattle.gate_script.specs.Sinks.{Sinks, Gains, GainsFronts, HaveFailed, Wrote, held}
-use Rattle.gate_script.specs.Running.{AllDone, At, Ends, HasDone, IsOpen, LastEnds, LeavesOpen, LineEnds, LineIsDone, OrderDone, OrderEnds, PieceEnds, ShortOf, StandsAt, StoppedIn, Told, stop_of}
+use Rattle.gate_script.specs.Running.{AllDone, At, Ends, Goes, HasDone, IsOpen, LastEnds, LeavesOpen, LineEnds, LineIsDone, OrderDone, OrderEnds, PieceEnds, ShortOf, StandsAt, StoppedIn, Told, stop_of}
 use Rattle.gate_script.proofs.TakenLaws.{printed, tells}
 
 -- ---- in memory
@@ -58,6 +58,8 @@ no_call (Pixel viewer x y) call placed = cc
 no_call (Same one other) call placed = cc
 no_call (Acknowledge viewer) call placed = cc
 no_call Done call placed = cc
+no_call (Press viewer keysym) call placed = cc
+no_call (Totals totals) call placed = cc
 
 -- what a session's call did
 pub called : (line : Line) (p : Play) (now : ℕ) (s n : Session) (r : Result (Unit {0}) Halt) (o o' : Reply) → StandsAt p now (Some s) → ((h : History) → IsAt s h → CallEnds line (play now h) r n o o') → LineEnds line p r record { moment = now; session = Some n; reply = o' } o o'
@@ -85,6 +87,8 @@ leaves_open Close s n (Ok u) call o = tt
 leaves_open (Pixel viewer x y) s n (Ok u) call o = tt
 leaves_open (Same one other) s n (Ok u) call o = tt
 leaves_open Done s n (Ok u) call o = tt
+leaves_open (Press viewer keysym) s n (Ok u) call o = tt
+leaves_open (Totals totals) s n (Ok u) call o = tt
 
 -- the session has started
 pub has_started : (line : Line) (p : Play) (now : ℕ) (n : Session) (o o' : Reply) → p ≡ play now [] → LineDone line (play now []) n o o' → LineIsDone line p record { moment = now; session = Some n; reply = o' } o o'
@@ -273,6 +277,26 @@ module _ (orders : List Order) (r : Run) (b n : Sinks) (at : At orders r b n) wh
       by (Err NoMemory) w = absurd w
       by (Err (Refused refused)) w = absurd w
 
+  -- .. and the run goes on from the play before
+  pub order_goes : (is_true : DesksAreTrue) (is_whole : DesksAreWhole) (order : Order) (r' : Run) (n' : Sinks) (d : OrderDone order at.play r'.state) (opened : is_some r'.state.session ≡ (starts order || is_some r.state.session)) (count : r'.lines ≡ r.lines + 1) (result : Result (Unit {0}) Stop)
+      → Wrote result n n' r'.state.reply.answer.items r'.state.reply.frame.items → OnOk result (Goes order orders at.play r' b n')
+  order_goes is_true is_whole order r' n' d opened count (Ok u) w =
+      let wrote = subst (λ (f : List ℕ). Wrote (Ok u) n n' (told_by order d.answer) f) d.frame_is (subst (λ (a : List ℕ). Wrote (Ok u) n n' a r'.state.reply.frame.items) d.answer_is w) in
+      record {
+        next = record {
+          play = d.after;
+          told = told-more order orders at.play b n at.told d.after d.answer d.framing n' d.does wrote;
+          lawful = lawful_at is_true is_whole d.after r'.state.moment r'.state.session d.stands;
+          stands = d.stands;
+          opened = ap (λ (x : Bool). starts order || x) at.opened ∙ sym opened;
+          count = omega (arith, count, at.count);
+        };
+        answer = d.answer;
+        framing = d.framing;
+        does = d.does;
+      }
+  order_goes is_true is_whole order r' n' d opened count (Err stop) w = tt
+
 -- what stopped in some orders stopped in more of them
 later : {A : Type 0} (xs ys zs : List A) → IsLater xs ys → IsLater ys zs → IsLater xs zs
 later xs ys zs p q = (q.0 ++ p.0, q.1 ∙ (ap (λ l. q.0 ++ l) p.1 ∙ sym (append_assoc q.0 p.0 xs)))
@@ -317,12 +341,12 @@ pub still_at : (orders : List Order) (r r' : Run) (b n : Sinks) → r'.state ≡
 still_at orders r r' b n same count at = record { play = at.play; told = at.told; lawful = at.lawful; stands = rw same at.stands; opened = rw same at.opened; count = count ∙ at.count }
 
 -- the orders of one more piece of `draw`
-pub draw_more : (form : Form) (size : Size) (pieces : List (List ℕ)) (piece : List ℕ) → form ≡ Draw size → untold (Acknowledge 1) ∷ untold (Read 1) ∷ told (Server piece) ∷ lines_of form pieces ≡ lines_of form (piece ∷ pieces)
+pub draw_more : (form : TextForm) (size : Size) (pieces : List (List ℕ)) (piece : List ℕ) → form ≡ Draw size → untold (Acknowledge 1) ∷ untold (Read 1) ∷ told (Server piece) ∷ lines_of form pieces ≡ lines_of form (piece ∷ pieces)
 draw_more (Draw s) size pieces piece is = refl
 draw_more (Script entries) size pieces piece is = absurd (let w : Script entries ≡ Draw size = is in cc)
 
 -- a piece of a script is the line that it is judged to be
-pub script_more : (form : Form) (entries : ℕ) (pieces : List (List ℕ)) (piece : List ℕ) (opened : Bool) (read : ℕ) → form ≡ Script entries → list_any starts (lines_of form pieces) ≡ opened → read ≡ total pieces
+pub script_more : (form : TextForm) (entries : ℕ) (pieces : List (List ℕ)) (piece : List ℕ) (opened : Bool) (read : ℕ) → form ≡ Script entries → list_any starts (lines_of form pieces) ≡ opened → read ≡ total pieces
     → told (judged entries opened read piece) ∷ lines_of form pieces ≡ lines_of form (piece ∷ pieces)
 script_more (Script e) entries pieces piece opened read is opens at = let same : e ≡ entries = is_of is in rw (sym same, sym opens, at) refl
   where
@@ -330,36 +354,36 @@ script_more (Script e) entries pieces piece opened read is opens at = let same :
     is_of q = cc
 script_more (Draw size) entries pieces piece opened read is opens at = absurd (let w : Draw size ≡ Script entries = is in cc)
 
-pub draw_begins : (form : Form) (size : Size) → form ≡ Draw size → told (Join Owner) ∷ told (Start size Nobody most_entries) ∷ [] ≡ lines_of form []
+pub draw_begins : (form : TextForm) (size : Size) → form ≡ Draw size → told (Join Owner) ∷ told (Start size Nobody most_entries) ∷ [] ≡ lines_of form []
 draw_begins (Draw s) size is = let same : s ≡ size = is_of is in rw (sym same) refl
   where
     is_of : Draw s ≡ Draw size → s ≡ size
     is_of q = cc
 draw_begins (Script entries) size is = absurd (let w : Script entries ≡ Draw size = is in cc)
 
-pub script_begins : (form : Form) (entries : ℕ) → form ≡ Script entries → [] ≡ lines_of form []
+pub script_begins : (form : TextForm) (entries : ℕ) → form ≡ Script entries → [] ≡ lines_of form []
 script_begins (Script e) entries is = refl
 script_begins (Draw size) entries is = absurd (let w : Draw size ≡ Script entries = is in cc)
 
-pub draw_ending : (form : Form) (size : Size) (orders : List Order) → form ≡ Draw size → told Done ∷ orders ≡ ending form orders
+pub draw_ending : (form : TextForm) (size : Size) (orders : List Order) → form ≡ Draw size → told Done ∷ orders ≡ ending form orders
 draw_ending (Draw s) size orders is = refl
 draw_ending (Script entries) size orders is = absurd (let w : Script entries ≡ Draw size = is in cc)
 
-pub script_ending : (form : Form) (entries : ℕ) (orders : List Order) → form ≡ Script entries → orders ≡ ending form orders
+pub script_ending : (form : TextForm) (entries : ℕ) (orders : List Order) → form ≡ Script entries → orders ≡ ending form orders
 script_ending (Script e) entries orders is = refl
 script_ending (Draw size) entries orders is = absurd (let w : Draw size ≡ Script entries = is in cc)
 
 -- what stopped in a call stopped in its piece
-pub piece_stops : (form : Form) (pieces : List (List ℕ)) (orders : List Order) (r : Run) (b n : Sinks) (result : Result (Unit {0}) Stop) (stop : Stop) → orders ≡ lines_of form pieces → result ≡ Err stop → StoppedIn orders stop b n → PieceEnds form pieces result r b n
+pub piece_stops : (form : TextForm) (pieces : List (List ℕ)) (orders : List Order) (r : Run) (b n : Sinks) (result : Result (Unit {0}) Stop) (stop : Stop) → orders ≡ lines_of form pieces → result ≡ Err stop → StoppedIn orders stop b n → PieceEnds form pieces result r b n
 piece_stops form pieces orders r b n result stop is failed s = subst (λ (x : Result (Unit {0}) Stop). PieceEnds form pieces x r b n) (sym failed) (subst (λ (os : List Order). StoppedIn os stop b n) is s)
 
 -- what a call did, its piece did
-pub piece_ends : (form : Form) (pieces : List (List ℕ)) (orders : List Order) (r : Run) (b n : Sinks) (result : Result (Unit {0}) Stop) → orders ≡ lines_of form pieces → r.read ≡ total pieces → Ends orders result r b n → PieceEnds form pieces result r b n
+pub piece_ends : (form : TextForm) (pieces : List (List ℕ)) (orders : List Order) (r : Run) (b n : Sinks) (result : Result (Unit {0}) Stop) → orders ≡ lines_of form pieces → r.read ≡ total pieces → Ends orders result r b n → PieceEnds form pieces result r b n
 piece_ends form pieces orders r b n (Ok u) is read e = record { at = subst (λ (os : List Order). At os r b n) is e; read = read }
 piece_ends form pieces orders r b n (Err stop) is read e = subst (λ (os : List Order). StoppedIn os stop b n) is e
 
 -- its bytes were read
-pub piece_read : (form : Form) (pieces : List (List ℕ)) (piece : List ℕ) (orders : List Order) (r r' : Run) (b n : Sinks) → orders ≡ lines_of form (piece ∷ pieces) → r'.state ≡ r.state → r'.lines ≡ r.lines → r'.read ≡ total pieces + length piece → At orders r b n → HasDone form (piece ∷ pieces) r' b n
+pub piece_read : (form : TextForm) (pieces : List (List ℕ)) (piece : List ℕ) (orders : List Order) (r r' : Run) (b n : Sinks) → orders ≡ lines_of form (piece ∷ pieces) → r'.state ≡ r.state → r'.lines ≡ r.lines → r'.read ≡ total pieces + length piece → At orders r b n → HasDone form (piece ∷ pieces) r' b n
 piece_read form pieces piece orders r r' b n is same count read at = record { at = still_at (lines_of form (piece ∷ pieces)) r r' b n same count (subst (λ (os : List Order). At os r b n) is at); read = read }
 
 -- an open session has started, so its calls stand in place

@@ -47,13 +47,13 @@ use Rattle.gate_script.specs.declared.halt.Halt.TheVariants.{NoMemory, OutsideGr
 use Rattle.gate_script.specs.declared.reply.Reply.{Reply}
 use Rattle.script_lines.specs.declared.size.Size.{Size}
 use Rattle.script_lines.specs.declared.line.Line.{Line}
-use Rattle.script_lines.specs.declared.line.Line.TheVariants.{Start as start, Server as server, Join as join, Read as read, Write as write, Take as take_up_to, Leave as leave, Close as close, Acknowledge as acknowledge, Done as done}
-use Rattle.gate_script.specs.Told.{answer_line, answer_to, frames_line, framings, joined_line, read_told, refused_line, written_line, write_answer, pixel_line, same_line, differ_line, took_line}
-use Rattle.gate_script.specs.Plays.{Play, Does, Calls, Answers, Writes, acknowledgement, setup_of, seen, pixel_answer, Compares}
-use Rattle.gate_script.specs.Seeing.{Canvases, AreShown, PlaysOn, TakesAway, canvas_at}
+use Rattle.script_lines.specs.declared.line.Line.TheVariants.{Start as start, Server as server, Join as join, Read as read, Write as write, Take as take_up_to, Leave as leave, Close as close, Acknowledge as acknowledge, Done as done, Press as press_key, Totals as tell_totals}
+use Rattle.gate_script.specs.Told.{answer_line, answer_to, frames_line, framings, joined_line, read_told, refused_line, written_line, write_answer, pixel_line, same_line, differ_line, took_line, totals_lines}
+use Rattle.gate_script.specs.Plays.{Play, Does, Calls, Answers, Writes, acknowledgement, setup_of, seen, pixel_answer, Compares, press, Agree, TellsTotals, rows_sum, sum_seen}
+use Rattle.gate_script.specs.Seeing.{AgreeWithFirst, Canvases, AreShown, PlaysOn, TakesAway, canvas_at}
 use Rattle.gate_script.specs.Calls.{Adds, Appends, CallEnds, Halts, IsAt, LineDone, StartEnds, WriteEnds, play, read_shown}
 use Rattle.gate_script.proofs.StepLaws.{Gave, IsGiven, feed_adds, feed_stopped, join_adds, join_stopped, read_adds, read_stopped, write_adds, write_stopped, leave_adds, leave_stopped, close_adds, close_stopped, take_is}
-use Rattle.gate_script.proofs.ShownLaws.{shown_none, shown_plain, shown_join, shown_read, shown_still, shown_leave, given_by_join}
+use Rattle.gate_script.proofs.ShownLaws.{at_place, shown_none, shown_plain, shown_join, shown_read, shown_still, shown_leave, given_by_join}
 use Rattle.canvas.specs.Kept.{KeptLayer}
 use Rattle.canvas.specs.Standing.{Stands as stands_for, dot_at}
 use Rattle.canvas.specs.declared.dot.Dot.{Dot}
@@ -62,6 +62,12 @@ use Rattle.script_lines.specs.Acts.{IsReading}
 use Rattle.gate_model.specs.picture.Shape.{AreReadable}
 use Rattle.gate_model.specs.picture.Layers.{Layers, Same, draw, nothing, visible}
 use Rattle.gate_script.specs.declared.session.Session.{Session}
+use Rattle.script_lines.specs.declared.totals.Totals.{Totals}
+use Rattle.std.proofs.lemmas.Bool.{leb-true, leb-false}
+use Rattle.std.proofs.lemmas.Bool.Decides.{eqb_tells}
+use Rattle.std.proofs.lemmas.List.{get_or_past}
+use Rattle.std.proofs.Common.{◌+◌, ◌<◌, ◌⊎◌, get_or}
+use Rattle.std.specs.Prelude.{Option, None, nat_le}
 
 -- the line was done by a session that stands for the history then
 pub line_ends : (line : Line) (p : Play) (h : History) (n : Session) (o o' : Reply) (answer shown : List ℕ) → Does line p (play p.now h) answer shown → Stands n.desk h → AreShown n.canvases.items h → (r : Result (Unit {0}) Halt) → Adds r o o' answer shown → CallEnds line p r n o o'
@@ -336,6 +342,13 @@ module _ (now : ℕ) (s : Session) (o o' : Reply) (h : History) (at : IsAt s h) 
       by (Err OutsideGrammar) w = absurd w
       by (Err (Worn entries)) w = (was_written (Err (write_worn entries)), record { event = write_acts viewer (acknowledgement h); makes = refl; step = w }, refl)
 
+  -- they were the press of a key
+  pub presses_key : (viewer keysym : ℕ) (n : Session) (r : Result (Unit {0}) Halt) → WriteEnds viewer (press keysym) 0 p r n o o' → CallEnds (press_key viewer keysym) p r n o o'
+  presses_key viewer keysym n (Ok u) w = record { history = w.history; answer = w.answer; framing = w.framing; does = w.writes; at = w.at; appends = w.appends }
+  presses_key viewer keysym n (Err NoMemory) w = tt
+  presses_key viewer keysym n (Err OutsideGrammar) w = absurd w
+  presses_key viewer keysym n (Err (Worn entries)) w = (was_written (Err (write_worn entries)), record { event = write_acts viewer (press keysym); makes = refl; step = w }, refl)
+
   -- bytes were taken for the host, and filled the buffer
   pub bytes_taken : (most count : ℕ) (closed : Bool) (before after : List ℕ) (n : Session) → length before ≡ min (length (out h) - taken h) most → length after ≡ length before → Answered h (take_most (length before)) (was_taken (take count after) closed) n.desk [] [] → n.canvases.items ≡ s.canvases.items
       → (r : Result (Unit {0}) Halt) → Adds r o o' (took_line after) [] → CallEnds (take_up_to most) p r n o o'
@@ -433,3 +446,73 @@ module _ (now : ℕ) (s : Session) (o o' : Reply) (h : History) (at : IsAt s h) 
 
   pub not_compared : (one other : ℕ) (cs : Canvases) → cs ≡ s.canvases.items → false ≡ (is_some (canvas_at cs one) && is_some (canvas_at cs other)) → Compares h one other (refused_line not_found)
   not_compared one other cs cs_are is = inl (both_live one other cs false cs_are is, refl)
+
+  -- ---- what a run comes to
+
+  shows_at : (v : ℕ) → IfSome (canvas_at s.canvases.items v) (λ canvas. stands_for canvas (seen h v))
+  shows_at v = at.shown.shows v
+
+  both_there : (v : ℕ) → (is_live h 1 && is_live h v) ≡ true → (is_some (canvas_at s.canvases.items 1) && is_some (canvas_at s.canvases.items v)) ≡ true
+  both_there v live = rw (at.shown.there 1, at.shown.there v) live
+
+  nobody : (v : ℕ) → canvas_at s.canvases.items v ≡ None → (is_live h 1 && is_live h v) ≡ true → ⊥
+  nobody v none live =
+      let w = both_there v live in
+      let e : (is_some (canvas_at s.canvases.items 1) && false) ≡ true = subst (λ (o : Option (List KeptLayer)). (is_some (canvas_at s.canvases.items 1) && is_some o) ≡ true) none w in
+      by (is_some (canvas_at s.canvases.items 1)) e
+    where
+      by : (b : Bool) → (b && false) ≡ true → ⊥
+      by true e = cc
+      by false e = cc
+
+  alike_at : (v : ℕ) → AgreeWithFirst s.canvases.items true → (is_live h 1 && is_live h v) ≡ true → Same (seen h 1) (seen h v)
+  alike_at v agree live = by (eqb_tells v 0) (eqb_tells_less v)
+    where
+      eqb_tells_less : (v : ℕ) → (v - 1 < length s.canvases.items) ⊎ (length s.canvases.items ≤ v - 1)
+      eqb_tells_less v = less_or (nat_le (length s.canvases.items) (v - 1)) refl
+        where
+          less_or : (b : Bool) → nat_le (length s.canvases.items) (v - 1) ≡ b → (v - 1 < length s.canvases.items) ⊎ (length s.canvases.items ≤ v - 1)
+          less_or true e = inr (leb-true (length s.canvases.items) (v - 1) e)
+          less_or false e = inl (leb-false (length s.canvases.items) (v - 1) e)
+
+      by : (((v == 0) ≡ true) × (v ≡ 0)) ⊎ (((v == 0) ≡ false) × (v ≡ 0 → ⊥)) → (v - 1 < length s.canvases.items) ⊎ (length s.canvases.items ≤ v - 1) → Same (seen h 1) (seen h v)
+      by (inl q) less = absurd (nobody v (ap (canvas_at s.canvases.items) q.1) live)
+      by (inr q) (inl less) =
+          let place = at_place s.canvases.items v q.1 in
+          agree (v - 1) less (seen h 1) (seen h v) (shows_at 1) (subst (λ (o : Option (List KeptLayer)). IfSome o (λ canvas. stands_for canvas (seen h v))) place (shows_at v))
+          (subst (λ (o : Option (List KeptLayer)). (is_some (canvas_at s.canvases.items 1) && is_some o) ≡ true) place (both_there v live))
+      by (inr q) (inr past) = absurd (nobody v (at_place s.canvases.items v q.1 ∙ get_or_past s.canvases.items (v - 1) None past) live)
+
+  unlike_at : AgreeWithFirst s.canvases.items false → Agree h → ⊥
+  unlike_at w agree =
+      let v : ℕ = w.0 + 1 in
+      let back : v - 1 ≡ w.0 = omega arith in
+      let place : canvas_at s.canvases.items v ≡ get_or s.canvases.items w.0 None = at_place s.canvases.items v (λ zero_. absurd (omega (arith, zero_))) ∙ ap (λ (k : ℕ). get_or s.canvases.items k None) back in
+      let there : (is_some (canvas_at s.canvases.items 1) && is_some (canvas_at s.canvases.items v)) ≡ true = subst (λ (o : Option (List KeptLayer)). (is_some (canvas_at s.canvases.items 1) && is_some o) ≡ true) (sym place) w.1.there in
+      let live : (is_live h 1 && is_live h v) ≡ true = rw (sym (at.shown.there 1), sym (at.shown.there v)) there in
+      w.1.differ (seen h 1) (seen h v) (shows_at 1) (subst (λ (o : Option (List KeptLayer)). IfSome o (λ canvas. stands_for canvas (seen h v))) place (shows_at v)) (agree v live)
+
+  sum_of : (sum : ℕ) (b : Bool) → is_live h 1 ≡ b → (b ≡ false → sum ≡ 0) → (b ≡ true → sum ≡ rows_sum (seen h 1 visible) (seen h 1 visible).height) → sum ≡ (if b then rows_sum (seen h 1 visible) (seen h 1 visible).height else 0)
+  sum_of sum true live none some = some refl
+  sum_of sum false live none some = none refl
+
+  pub totals_are_told : (totals : Totals) (joins stamp sum : ℕ) (agree : Bool) (cs : Canvases) → cs ≡ s.canvases.items → joins ≡ length s.canvases.items → stamp ≡ newest h
+      → (is_some (canvas_at cs 1) ≡ false → sum ≡ 0) → ((m : Layers) → is_some (canvas_at cs 1) ≡ true → IfSome (canvas_at cs 1) (λ canvas. stands_for canvas m) → sum ≡ rows_sum (m visible) (m visible).height)
+      → AgreeWithFirst s.canvases.items agree → TellsTotals totals h (totals_lines totals joins stamp sum agree)
+  totals_are_told totals joins stamp sum agree cs cs_are joins_are stamp_is none some agrees = by agree agrees
+    where
+      live : (b : Bool) → is_live h 1 ≡ b → is_some (canvas_at cs 1) ≡ b
+      live b e = ap (λ (l : Canvases). is_some (canvas_at l 1)) cs_are ∙ (at.shown.there 1 ∙ e)
+
+      shown : IfSome (canvas_at cs 1) (λ canvas. stands_for canvas (seen h 1))
+      shown = subst (λ (l : Canvases). IfSome (canvas_at l 1) (λ canvas. stands_for canvas (seen h 1))) (sym cs_are) (shows_at 1)
+
+      sum_is : sum ≡ sum_seen h
+      sum_is = sum_of sum (is_live h 1) refl (λ e. none (live false e)) (λ e. some (seen h 1) (live true e) shown)
+
+      joins_is : joins ≡ joined h
+      joins_is = joins_are ∙ at.shown.count
+
+      by : (agree : Bool) → AgreeWithFirst s.canvases.items agree → TellsTotals totals h (totals_lines totals joins stamp sum agree)
+      by true w = inl (λ v live. alike_at v w live, rw (joins_is, stamp_is, sum_is) refl)
+      by false w = inr (unlike_at w, rw (joins_is, stamp_is, sum_is) refl)

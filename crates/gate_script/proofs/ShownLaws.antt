@@ -45,7 +45,7 @@ none_at v = by (v == 0)
     by false = refl
 
 -- a viewer with a number from 1 on
-at_place : (cs : Canvases) (v : ℕ) → v ≢ 0 → canvas_at cs v ≡ get_or cs (v - 1) None
+pub at_place : (cs : Canvases) (v : ℕ) → v ≢ 0 → canvas_at cs v ≡ get_or cs (v - 1) None
 at_place cs v some = by (eqb_tells v 0)
   where
     by : (((v == 0) ≡ true) × (v ≡ 0)) ⊎ (((v == 0) ≡ false) × (v ≡ 0 → ⊥)) → canvas_at cs v ≡ get_or cs (v - 1) None

@@ -22,12 +22,12 @@ use Rattle.script_lines.specs.declared.reading.Reading.{Reading}
 use Rattle.script_lines.specs.declared.reading.Reading.TheVariants.{Whole, Cut, Bad, TooMany}
 use Rattle.script_lines.specs.Hexadecimal.{digits_of, lower_digit}
 use Rattle.script_lines.specs.declared.line.Line.{Line}
-use Rattle.script_lines.specs.declared.line.Line.TheVariants.{Blank as blank, Bad as bad, At as moment, Start as start, Server as server, Join as join, Read as read, Write as write, Take as take_up_to, Leave as leave, Close as close, Pixel as pixel, Same as same, Acknowledge as acknowledge, Done as done}
+use Rattle.script_lines.specs.declared.line.Line.TheVariants.{Blank as blank, Bad as bad, At as moment, Start as start, Server as server, Join as join, Read as read, Write as write, Take as take_up_to, Leave as leave, Close as close, Pixel as pixel, Same as same, Acknowledge as acknowledge, Done as done, Press as press_key, Totals as tell_totals}
 use Rattle.script_lines.specs.declared.order.Order.{Order}
 use Rattle.script_lines.specs.Lines.{line_in}
 use Rattle.gate_script.specs.Told.{answer_to, taken_text, took_line}
 use Rattle.gate_script.proofs.StepLaws.{take_is}
-use Rattle.gate_script.specs.Plays.{Play, Plays, Does, DoesReading, Begins, Calls, Answers, Writes, Prints, IsLawful, Tells, acknowledgement}
+use Rattle.gate_script.specs.Plays.{Play, Plays, Does, DoesReading, Begins, Calls, Answers, Writes, Prints, IsLawful, Tells, acknowledgement, press}
 
 both : {A : Type 0} (x y : A) (xs ys : List A) → x ∷ xs ≡ y ∷ ys → (x ≡ y) × (xs ≡ ys)
 both x y xs ys e = (cc, cc)
@@ -192,6 +192,8 @@ module _ (bytes own : List ℕ) where
   line_sends (same one other) p q a f does none s = answers_send p q does.0 a f does.2 none s
   line_sends (acknowledge viewer) p q a f does none s = acts_send viewer (acknowledgement p.history) 0 p q a f does none s
   line_sends done p q a f does none s = subst (λ (k : Play). AreSent k.history (bytes ++ own)) (sym does.same) (none_printed p.history none s)
+  line_sends (press_key viewer keysym) p q a f does none s = acts_send viewer (press keysym) 0 p q a f does none s
+  line_sends (tell_totals totals) p q a f does none s = answers_send p q does.0 a f does.2 none s
 
 sends : (orders : List Order) (q : Play) (a f bytes : List ℕ) → Plays orders q a f bytes → AreSent q.history bytes
 sends [] q a f bytes w = subst (λ (k : Play). AreSent k.history bytes) (sym w.0) (record { first = w.3; there = omega arith })

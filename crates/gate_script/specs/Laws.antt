@@ -2,8 +2,8 @@
 use Rattle.std.specs.Prelude.{◌≡◌, ℕ, List, ◌∷◌, ◌⊎◌, Option}
 use Rattle.gate_model.specs.declared.entry.Entry.{Entry}
 use Rattle.gate_model.specs.session.History.{History}
-use Rattle.script_lines.specs.declared.form.Form.{Form}
-use Rattle.script_lines.specs.declared.form.Form.TheVariants.{Script}
+use Rattle.script_lines.specs.declared.text_form.TextForm.{TextForm}
+use Rattle.script_lines.specs.declared.text_form.TextForm.TheVariants.{Script}
 use Rattle.script_lines.specs.declared.order.Order.{Order}
 use Rattle.gate_script.specs.declared.refused.Refused.{Refused}
 use Rattle.gate_script.specs.Outcomes.{CutInNewest, CutShort, Finished, Halted, Interrupted, LastCutShort, Refuses}
@@ -27,15 +27,15 @@ FramesFixAllButTheNewest = (order : Order) (orders : List Order) (p q : Play) (a
 
 -- two runs of all orders that read the same bytes and wrote the same frames are one play, and have the same answers
 abbrev pub FinishedIsOnePlay : Type 0
-FinishedIsOnePlay = (form : Form) (bytes a b f : List ℕ) (one : Finished form bytes a f) (other : Finished form bytes b f) → (one.play ≡ other.play) × (a ≡ b)
+FinishedIsOnePlay = (form : TextForm) (bytes a b f : List ℕ) (one : Finished form bytes a f) (other : Finished form bytes b f) → (one.play ≡ other.play) × (a ≡ b)
 
 -- so are two that a fault of the source ended
 abbrev pub InterruptedIsOnePlay : Type 0
-InterruptedIsOnePlay = (form : Form) (bytes a b f : List ℕ) (one : Interrupted form bytes a f) (other : Interrupted form bytes b f) → (one.play ≡ other.play) × (a ≡ b)
+InterruptedIsOnePlay = (form : TextForm) (bytes a b f : List ℕ) (one : Interrupted form bytes a f) (other : Interrupted form bytes b f) → (one.play ≡ other.play) × (a ≡ b)
 
 -- so are two that a refused order ended: it is the same order, refused for the same
 abbrev pub RefusesIsOnePlay : Type 0
-RefusesIsOnePlay = (form : Form) (bytes a b f : List ℕ) (left : Option (List ℕ)) (refused again : Refused) (one : Refuses form bytes a f left refused) (other : Refuses form bytes b f left again)
+RefusesIsOnePlay = (form : TextForm) (bytes a b f : List ℕ) (left : Option (List ℕ)) (refused again : Refused) (one : Refuses form bytes a f left refused) (other : Refuses form bytes b f left again)
     → (one.play ≡ other.play) × (a ≡ b) × (refused ≡ again) × (one.lines ≡ other.lines)
 
 -- so are two runs of a script that want of memory ended, where they wrote the same answers too
@@ -53,7 +53,7 @@ abbrev pub AgreeButForTheNewest : History → History → Type 0
 AgreeButForTheNewest h k = (g : History) × HasOneMore g h × HasOneMore g k
 
 -- in this play a fault of a sink came: its newest order was cut short, or the last answer behind all its orders
-abbrev pub EndsByFault : Form → List ℕ → List ℕ → List ℕ → Option (List ℕ) → Play → Type 0
+abbrev pub EndsByFault : TextForm → List ℕ → List ℕ → List ℕ → Option (List ℕ) → Play → Type 0
 EndsByFault form bytes a f left p = ((cut : CutShort form bytes a f left) × (cut.play ≡ p)) ⊎ ((last : LastCutShort form bytes a f left) × (last.refuses.play ≡ p))
 
 -- the histories of two runs of a script that wrote the same answers and frames agree but for the newest entry

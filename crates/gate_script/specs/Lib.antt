@@ -1,5 +1,5 @@
 -- In reading order: what lines do and tell, how a run ends, what viewers see, what a session's calls do,
--- what the sinks hold, where a run stands, what the lines and the frames fix.
+-- what the sinks hold, where a run stands, where a load stands, what the lines and the frames fix.
 pub mod Told
 pub mod Plays
 pub mod Outcomes
@@ -8,4 +8,5 @@ pub mod Seeing
 pub mod Calls
 pub mod Sinks
 pub mod Running
+pub mod Loading
 pub mod Laws

@@ -7,8 +7,13 @@ use Rattle.gate_model.specs.session.Calls.{Step}
 use Rattle.gate_outside.specs.Edge.{AtEnd, came, gained}
 use Rattle.gate_model.specs.declared.act.Act.{Act}
 use Rattle.gate_model.specs.declared.event.Event.TheVariants.{Write as write_acts}
+use Rattle.script_lines.specs.declared.text_form.TextForm.{TextForm}
 use Rattle.script_lines.specs.declared.form.Form.{Form}
-use Rattle.script_lines.specs.declared.form.Form.TheVariants.{Draw, Script}
+use Rattle.script_lines.specs.declared.form.Form.TheVariants.{Text, Load}
+use Rattle.script_lines.specs.declared.totals.Totals.{Totals}
+use Rattle.load_lines.specs.Words.{drawn}
+use Rattle.load_lines.specs.Rounds.{load_orders}
+use Rattle.gate_model.specs.session.Output.{untaken}
 use Rattle.script_lines.specs.declared.line.Line.{Line}
 use Rattle.script_lines.specs.declared.line.Line.TheVariants.{Bad, Write}
 use Rattle.script_lines.specs.declared.order.Order.{Order}
@@ -19,20 +24,20 @@ use Rattle.script_lines.specs.Lines.{line_in, told_by}
 use Rattle.gate_script.specs.declared.refused.Refused.{Refused}
 use Rattle.gate_script.specs.declared.refused.Refused.TheVariants.{BadLine, Worn}
 use Rattle.gate_script.specs.Told.{bad_line, worn_line, worn_by}
-use Rattle.gate_script.specs.Plays.{Play, Does, Plays, event_of, Tells}
+use Rattle.gate_script.specs.Plays.{AreTotals, Play, Does, Plays, event_of, Tells}
 
 -- the orders are some first ones of those that the bytes read make: of the whole pieces, or at the end of
 -- the input of all of them
-abbrev pub AreFirst : Form → List ℕ → Option (List ℕ) → List Order → Type 0
+abbrev pub AreFirst : TextForm → List ℕ → Option (List ℕ) → List Order → Type 0
 AreFirst form bytes left lines = IsLater lines (whole_lines form bytes) ⊎ (AtEnd left × IsLater lines (all_lines form bytes))
 
 -- every order that the bytes make was done, and all that they tell was written
-pub record Finished (form : Form) (bytes a f : List ℕ) : Type 0 where
+pub record Finished (form : TextForm) (bytes a f : List ℕ) : Type 0 where
   pub play : Play
   pub tells : Tells (all_lines form bytes) play a f
 
 -- a read fault: every order of the whole pieces was done
-pub record Interrupted (form : Form) (bytes a f : List ℕ) : Type 0 where
+pub record Interrupted (form : TextForm) (bytes a f : List ℕ) : Type 0 where
   pub play : Play
   pub tells : Tells (whole_lines form bytes) play a f
 
@@ -64,7 +69,7 @@ last_line (BadLine number) = bad_line number
 last_line (Worn entries) = worn_line entries
 
 -- the next order was refused after these, of which all was written
-pub record Refuses (form : Form) (bytes a f : List ℕ) (left : Option (List ℕ)) (refused : Refused) : Type 0 where
+pub record Refuses (form : TextForm) (bytes a f : List ℕ) (left : Option (List ℕ)) (refused : Refused) : Type 0 where
   pub lines : List Order
   pub next : Order
   pub play : Play
@@ -73,13 +78,13 @@ pub record Refuses (form : Form) (bytes a f : List ℕ) (left : Option (List ℕ
   pub is_refused : IsRefused refused next lines play
 
 -- the last answer of the run was written after all the others
-pub record Ends (form : Form) (bytes a f : List ℕ) (left : Option (List ℕ)) (refused : Refused) : Type 0 where
+pub record Ends (form : TextForm) (bytes a f : List ℕ) (left : Option (List ℕ)) (refused : Refused) : Type 0 where
   pub written : List ℕ
   pub refuses : Refuses form bytes written f left refused
   pub answers_are : a ≡ written ++ last_line refused
 
 -- want of memory: some first orders were done, and all that they tell was written
-pub record Halted (form : Form) (bytes a f : List ℕ) (left : Option (List ℕ)) : Type 0 where
+pub record Halted (form : TextForm) (bytes a f : List ℕ) (left : Option (List ℕ)) : Type 0 where
   pub lines : List Order
   pub play : Play
   pub first : AreFirst form bytes left lines
@@ -111,7 +116,7 @@ EndsInNewest (order ∷ orders) q a f = CutInNewest order orders q a f
 
 -- a fault of a sink: each sink has a front of what some first orders tell, and just the newest of them is
 -- cut short
-pub record CutShort (form : Form) (bytes a f : List ℕ) (left : Option (List ℕ)) : Type 0 where
+pub record CutShort (form : TextForm) (bytes a f : List ℕ) (left : Option (List ℕ)) : Type 0 where
   pub lines : List Order
   pub play : Play
   pub answers : List ℕ
@@ -124,7 +129,7 @@ pub record CutShort (form : Form) (bytes a f : List ℕ) (left : Option (List �
 
 -- a fault of the answers' sink in the last answer of the run: all that the orders tell was written, and then a
 -- front of that answer
-pub record LastCutShort (form : Form) (bytes a f : List ℕ) (left : Option (List ℕ)) : Type 0 where
+pub record LastCutShort (form : TextForm) (bytes a f : List ℕ) (left : Option (List ℕ)) : Type 0 where
   pub refused : Refused
   pub written : List ℕ
   pub refuses : Refuses form bytes written f left refused
@@ -132,7 +137,7 @@ pub record LastCutShort (form : Form) (bytes a f : List ℕ) (left : Option (Lis
   pub answer_begins : BeginsWith (last_line refused) own_a
   pub answered : a ≡ written ++ own_a
 
-abbrev pub WriteFault : Form → List ℕ → List ℕ → List ℕ → Option (List ℕ) → Type 0
+abbrev pub WriteFault : TextForm → List ℕ → List ℕ → List ℕ → Option (List ℕ) → Type 0
 WriteFault form bytes a f left = CutShort form bytes a f left ⊎ LastCutShort form bytes a f left
 
 -- what a call read and wrote, where the ends tell it
@@ -145,12 +150,20 @@ pub record Ran (left left' wrote wrote' framed framed' : Option (List ℕ)) (P :
   pub framed_on : framed' ≡ gained framed f
   pub holds : P bytes a f
 
+-- what a call wrote that reads nothing
+pub record WroteSo (wrote wrote' framed framed' : Option (List ℕ)) (P : List ℕ → List ℕ → Type 0) : Type 0 where
+  pub a : List ℕ
+  pub f : List ℕ
+  pub answered : wrote' ≡ gained wrote a
+  pub framed_on : framed' ≡ gained framed f
+  pub holds : P a f
+
 -- the statuses of a run over lines
 abbrev pub IsStatus : ℕ → Type 0
 IsStatus status = (status ≡ 0) ⊎ (status ≡ 3) ⊎ (status ≡ 4) ⊎ (status ≡ 5) ⊎ (status ≡ 6) ⊎ (status ≡ 7)
 
 -- what each status says of the bytes read, the answers and the frames, where the form does lines
-pub record LinesOutcome (status : ℕ) (form : Form) (left : Option (List ℕ)) (bytes a f : List ℕ) : Type 0 where
+pub record LinesOutcome (status : ℕ) (form : TextForm) (left : Option (List ℕ)) (bytes a f : List ℕ) : Type 0 where
   pub done : status ≡ 0 → AtEnd left × Finished form bytes a f
   pub bad_script : status ≡ 3 → (number : ℕ) × Ends form bytes a f left (BadLine number)
   pub read_fault : status ≡ 4 → Interrupted form bytes a f
@@ -159,7 +172,48 @@ pub record LinesOutcome (status : ℕ) (form : Form) (left : Option (List ℕ)) 
   pub worn : status ≡ 7 → (entries : ℕ) × Ends form bytes a f left (Worn entries)
   pub only : IsStatus status
 
+-- every line that the words drawn make was done, and takes until nothing waited; and all that they tell was
+-- written: of the answers the last seven, whose totals are those of the history
+pub record Loaded (seed rounds : ℕ) (a f : List ℕ) : Type 0 where
+  pub takes : ℕ
+  pub totals : Totals
+  pub play : Play
+  pub tells : Tells (load_orders (drawn seed) rounds takes totals) play a f
+  pub are_totals : AreTotals totals play.history
+  pub all_taken : untaken play.history ≡ []
+
+-- the orders are some first ones of those of a load
+abbrev pub AreFirstLoads : ℕ → ℕ → List Order → Type 0
+AreFirstLoads seed rounds orders = (takes : ℕ) × (totals : Totals) × IsLater orders (load_orders (drawn seed) rounds takes totals)
+
+-- a fault of a sink, in the newest of some first orders
+pub record LoadCutShort (seed rounds : ℕ) (a f : List ℕ) : Type 0 where
+  pub lines : List Order
+  pub play : Play
+  pub answers : List ℕ
+  pub framings : List ℕ
+  pub first : AreFirstLoads seed rounds lines
+  pub tells : Tells lines play answers framings
+  pub answers_begin : BeginsWith answers a
+  pub framings_begin : BeginsWith framings f
+  pub newest : EndsInNewest lines play a f
+
+-- want of memory, after some first orders
+pub record LoadHalted (seed rounds : ℕ) (a f : List ℕ) : Type 0 where
+  pub lines : List Order
+  pub play : Play
+  pub first : AreFirstLoads seed rounds lines
+  pub tells : Tells lines play a f
+
+-- what each status says of the answers and the frames of a load, which reads nothing. Other statuses don't come.
+pub record LoadOutcome (status seed rounds : ℕ) (bytes a f : List ℕ) : Type 0 where
+  pub nothing_read : bytes ≡ []
+  pub done : status ≡ 0 → Loaded seed rounds a f
+  pub write_fault : status ≡ 5 → LoadCutShort seed rounds a f
+  pub memory : status ≡ 6 → LoadHalted seed rounds a f
+  pub only : (status ≡ 0) ⊎ (status ≡ 5) ⊎ (status ≡ 6)
+
 -- .. by the form of the words
 abbrev pub Outcome : ℕ → Form → Option (List ℕ) → List ℕ → List ℕ → List ℕ → Type 0
-Outcome status (Draw size) left bytes a f = LinesOutcome status (Draw size) left bytes a f
-Outcome status (Script entries) left bytes a f = LinesOutcome status (Script entries) left bytes a f
+Outcome status (Text form) left bytes a f = LinesOutcome status form left bytes a f
+Outcome status (Load seed rounds) left bytes a f = LoadOutcome status seed rounds bytes a f

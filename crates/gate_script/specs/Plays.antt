@@ -1,7 +1,7 @@
 -- What the lines of orders do: from the moment and the history before to those after, with what they tell (this
 -- project's own). The history has the newest entry first, and is empty before `start`.
-use Rattle.std.specs.Prelude.{◌≡◌, ℕ, List, [], ◌∷◌, ◌++◌, take, true, false, ◌&&◌, if◌then◌else◌, ◌⊎◌, codes, Option, Some, None, Result}
-use Rattle.gate_model.specs.declared.act.Act.TheVariants.{Sync as act_sync}
+use Rattle.std.specs.Prelude.{◌≡◌, ℕ, List, [], ◌∷◌, ◌++◌, zero, suc, ◌+◌, take, Bool, true, false, ◌&&◌, if◌then◌else◌, count_by, ◌⊎◌, codes, Option, Some, None, Result}
+use Rattle.gate_model.specs.declared.act.Act.TheVariants.{Key as key_act, Sync as act_sync}
 use Rattle.gate_model.specs.declared.answer.Answer.{Answer}
 use Rattle.gate_model.specs.declared.answer.Answer.TheVariants.{Write as was_written}
 use Rattle.gate_model.specs.declared.cause.Cause.TheVariants.{Stopped}
@@ -13,11 +13,15 @@ use Rattle.gate_model.specs.declared.sharing.Share.{Share}
 use Rattle.gate_model.specs.declared.act.Act.{Act}
 use Rattle.gate_model.specs.declared.written.Written.{Written}
 use Rattle.gate_model.specs.declared.write_refusal.WriteRefusal.{WriteRefusal}
-use Rattle.gate_model.specs.picture.Layers.{Layers, Same, draw, nothing, visible}
-use Rattle.gate_model.specs.session.History.{History, newest, next_stamp}
+use Rattle.gate_model.specs.declared.entry.Entry.TheVariants.{Feed as fed_entry, Write as write_entry}
+use Rattle.gate_model.specs.declared.colour.Colour.{Colour}
+use Rattle.gate_model.specs.picture.Layers.{Layer, Layers, Same, draw, nothing, visible}
+use Rattle.gate_model.specs.session.History.{History, joined, newest, next_stamp}
 use Rattle.gate_model.specs.session.Delivered.{delivered}
 use Rattle.gate_model.specs.session.Output.{out, taken}
 use Rattle.gate_model.specs.session.Rights.{is_live}
+use Rattle.canvas.specs.declared.dot.Dot.{Dot}
+use Rattle.canvas.specs.declared.dot.Dot.TheVariants.{Outside as outside, Clear as clear, Painted as painted}
 use Rattle.canvas.specs.Standing.{dot_at}
 use Rattle.script_lines.specs.declared.reading.Reading.{Reading}
 use Rattle.script_lines.specs.declared.reading.Reading.TheVariants.{Whole, Cut, Bad, TooMany}
@@ -29,10 +33,11 @@ use Rattle.gate_model.specs.session.Truth.{Faithful}
 use Rattle.gate_model.specs.session.Whole.{Whole as IsWholeHistory}
 use Rattle.script_lines.specs.declared.size.Size.{Size}
 use Rattle.script_lines.specs.declared.line.Line.{Line}
-use Rattle.script_lines.specs.declared.line.Line.TheVariants.{Blank, Bad as Outside, At, Start, Server, Join, Read, Write, Take, Leave, Close, Pixel, Same as Alike, Acknowledge, Done}
+use Rattle.script_lines.specs.declared.line.Line.TheVariants.{Blank, Bad as Outside, At, Start, Server, Join, Read, Write, Take, Leave, Close, Pixel, Same as Alike, Acknowledge, Done, Press, Totals as TellTotals}
+use Rattle.script_lines.specs.declared.totals.Totals.{Totals}
 use Rattle.script_lines.specs.declared.order.Order.{Order}
 use Rattle.script_lines.specs.Lines.{line_in, told_by}
-use Rattle.gate_script.specs.Told.{answer_line, answer_to, framings, refused_line, write_answer, cut_line, bad_text_line, pixel_line, same_line, differ_line, took_line}
+use Rattle.gate_script.specs.Told.{answer_line, answer_to, framings, refused_line, write_answer, cut_line, bad_text_line, pixel_line, same_line, differ_line, took_line, totals_lines}
 
 pub record Play : Type 0 where
   pub now : ℕ
@@ -84,6 +89,53 @@ Compares h one other a =
     (((is_live h one && is_live h other) ≡ false) × (a ≡ refused_line not_found))
     ⊎ (((is_live h one && is_live h other) ≡ true) × ((Same (seen h one) (seen h other) × (a ≡ same_line)) ⊎ ((Same (seen h one) (seen h other) → ⊥) × (a ≡ differ_line))))
 
+-- how often the host sent bytes
+abbrev pub feeds : History → ℕ
+feeds [] = 0
+feeds (fed_entry bytes stamp frame ∷ g) = feeds g + 1
+feeds (e ∷ g) = feeds g
+
+-- how many presses of keys were written
+abbrev pub is_press : Act → Bool
+is_press (key_act keysym pressed) = pressed
+is_press act = false
+
+abbrev pub presses : History → ℕ
+presses [] = 0
+presses (write_entry viewer acts ∷ g) = presses g + count_by is_press acts
+presses (e ∷ g) = presses g
+
+-- the totals are those of the history
+pub record AreTotals (totals : Totals) (h : History) : Type 0 where
+  pub feeds : totals.feeds ≡ feeds h
+  pub keys : totals.keys ≡ presses h
+  pub out : totals.out ≡ taken h
+
+-- red, green and blue of all places of a layer, added up
+abbrev pub colour_sum : Dot → ℕ
+colour_sum outside = 0
+colour_sum clear = 0
+colour_sum (painted colour) = colour.red + colour.green + colour.blue
+
+abbrev pub row_sum : Layer → ℕ → ℕ → ℕ
+row_sum l y zero = 0
+row_sum l y (suc x) = row_sum l y x + colour_sum (dot_at l x y)
+
+abbrev pub rows_sum : Layer → ℕ → ℕ
+rows_sum l zero = 0
+rows_sum l (suc y) = rows_sum l y + row_sum l y l.width
+
+-- .. of what viewer 1 sees on the visible layer, while the viewer is there
+abbrev pub sum_seen : History → ℕ
+sum_seen h = if is_live h 1 then rows_sum (seen h 1 visible) (seen h 1 visible).height else 0
+
+-- each viewer who is there sees what viewer 1 sees, while that one is there
+abbrev pub Agree : History → Type 0
+Agree h = (viewer : ℕ) → (is_live h 1 && is_live h viewer) ≡ true → Same (seen h 1) (seen h viewer)
+
+abbrev pub TellsTotals : Totals → History → List ℕ → Type 0
+TellsTotals totals h a = (Agree h × (a ≡ totals_lines totals (joined h) (newest h) (sum_seen h) true)) ⊎ ((Agree h → ⊥) × (a ≡ totals_lines totals (joined h) (newest h) (sum_seen h) false))
+
 -- the acts of a text were written, or refused
 pub record Writes (viewer : ℕ) (acts : List Act) (passed : ℕ) (p q : Play) (a f : List ℕ) : Type 0 where
   pub result : Result Written WriteRefusal
@@ -104,6 +156,10 @@ DoesReading TooMany viewer p q a f = ⊥
 abbrev pub acknowledgement : History → List Act
 acknowledgement h = act_sync (newest h) ∷ []
 
+-- the press of a key
+abbrev pub press : ℕ → List Act
+press keysym = key_act keysym true ∷ []
+
 -- the call that a line makes
 abbrev pub event_of : Line → Play → Option Event
 event_of (Server bytes) p = Some (feed bytes p.now)
@@ -113,6 +169,7 @@ event_of (Take most) p = Some (take_most most)
 event_of (Leave viewer) p = Some (leave_as viewer)
 event_of Close p = Some (close_for Stopped)
 event_of (Acknowledge viewer) p = Some (write_acts viewer (acknowledgement p.history))
+event_of (Press viewer keysym) p = Some (write_acts viewer (press keysym))
 event_of line p = None
 
 -- one line
@@ -132,6 +189,8 @@ Does (Pixel viewer x y) p q a f = Answers p q (pixel_answer p.history viewer x y
 Does (Alike one other) p q a f = (answer : List ℕ) × Compares p.history one other answer × Answers p q answer a f
 Does (Acknowledge viewer) p q a f = Writes viewer (acknowledgement p.history) 0 p q a f
 Does Done p q a f = Answers p q (answer_line (codes "done") (newest p.history ∷ [])) a f
+Does (Press viewer keysym) p q a f = Writes viewer (press keysym) 0 p q a f
+Does (TellTotals totals) p q a f = (answer : List ℕ) × TellsTotals totals p.history answer × Answers p q answer a f
 
 -- the bytes that an answer names, where it is that of a take
 abbrev pub Prints : Line → List ℕ → List ℕ → Type 0

@@ -6,12 +6,12 @@ use Rattle.std.specs.Option.{is_some}
 use Rattle.gate_model.specs.Sequences.{IsLater, BeginsWith}
 use Rattle.gate_model.specs.text.Reading.{read as read_stream}
 use Rattle.gate_outside.specs.Edge.{AtEnd, came, gained, GainedFront}
-use Rattle.script_lines.specs.declared.form.Form.{Form}
-use Rattle.script_lines.specs.declared.form.Form.TheVariants.{Draw, Script}
+use Rattle.script_lines.specs.declared.text_form.TextForm.{TextForm}
+use Rattle.script_lines.specs.declared.text_form.TextForm.TheVariants.{Draw, Script}
 use Rattle.script_lines.specs.declared.line.Line.{Line}
 use Rattle.script_lines.specs.declared.line.Line.TheVariants.{Start, Server, Join, Read, Acknowledge}
 use Rattle.script_lines.specs.declared.order.Order.{Order}
-use Rattle.script_lines.specs.Words.{IsForm}
+use Rattle.script_lines.specs.Words.{IsTextForm}
 use Rattle.script_lines.specs.Pieces.{first_piece}
 use Rattle.script_lines.specs.Lines.{line_in, told_by}
 use Rattle.script_lines.specs.Grammar.{most_script, total, starts, lines_of, most_of, whole_lines, all_lines}
@@ -105,6 +105,13 @@ pub record At (orders : List Order) (r : Run) (began now : Sinks) : Type 0 where
   pub opened : list_any starts orders ≡ is_some r.state.session
   pub count : r.lines ≡ length orders
 
+-- the order was done after this play, and the run stands behind it
+pub record Goes (order : Order) (orders : List Order) (p : Play) (r : Run) (began now : Sinks) : Type 0 where
+  pub next : At (order ∷ orders) r began now
+  pub answer : List ℕ
+  pub framing : List ℕ
+  pub does : Does (line_in order) p next.play answer framing
+
 -- every order was done, and the history is legal, true and whole
 pub record AllDone (orders : List Order) (began now : Sinks) : Type 0 where
   pub play : Play
@@ -162,39 +169,39 @@ Ends all (Err stop) r began now = StoppedIn all stop began now
 -- ---- the pieces of the input
 
 -- the run has done the orders of these pieces, the newest first
-pub record HasDone (form : Form) (pieces : List (List ℕ)) (r : Run) (began now : Sinks) : Type 0 where
+pub record HasDone (form : TextForm) (pieces : List (List ℕ)) (r : Run) (began now : Sinks) : Type 0 where
   pub at : At (lines_of form pieces) r began now
   pub read : r.read ≡ total pieces
 
 -- `draw` has started, and what a run keeps is small, so that its numbers fit and its input ends
-abbrev pub IsReadyFor : Form → Option Session → ℕ → Type 0
+abbrev pub IsReadyFor : TextForm → Option Session → ℕ → Type 0
 IsReadyFor (Draw size) session read = IsOpen session × (read ≤ 65536 * entries_in session)
-IsReadyFor (Script entries) session read = IsForm (Script entries) × (read ≤ most_script)
+IsReadyFor (Script entries) session read = IsTextForm (Script entries) × (read ≤ most_script)
 
 pub record IsReady (r : Run) : Type 0 where
   pub few : r.lines ≤ 3 * r.read + 2
   pub form : IsReadyFor r.form r.state.session r.read
 
 -- how a call ends that did one more piece
-abbrev pub PieceEnds : Form → List (List ℕ) → Result (Unit {0}) Stop → Run → Sinks → Sinks → Type 0
+abbrev pub PieceEnds : TextForm → List (List ℕ) → Result (Unit {0}) Stop → Run → Sinks → Sinks → Type 0
 PieceEnds form pieces (Ok done) r began now = HasDone form pieces r began now
 PieceEnds form pieces (Err stop) r began now = StoppedIn (lines_of form pieces) stop began now
 
 -- the bytes so far are some pieces, the newest first, and the piece that has begun; the run has done
 -- the pieces
-pub record HasCut (form : Form) (bytes piece : List ℕ) (r : Run) (began now : Sinks) : Type 0 where
+pub record HasCut (form : TextForm) (bytes piece : List ℕ) (r : Run) (began now : Sinks) : Type 0 where
   pub pieces : List (List ℕ)
   pub cut : read_stream (first_piece (most_of form)) bytes ≡ (reverse pieces, piece)
   pub begun : first_piece (most_of form) piece ≡ None
   pub has_done : HasDone form pieces r began now
 
 -- how a call ends that took a part of the bytes at hand, after the bytes `before`
-abbrev pub PartEnds : Form → List ℕ → List ℕ → Result ℕ Stop → List ℕ → Run → Sinks → Sinks → Type 0
+abbrev pub PartEnds : TextForm → List ℕ → List ℕ → Result ℕ Stop → List ℕ → Run → Sinks → Sinks → Type 0
 PartEnds form before bytes (Ok n) piece r began now = HasCut form (before ++ take n bytes) piece r began now
 PartEnds form before bytes (Err stop) piece r began now = StoppedIn (whole_lines form (before ++ bytes)) stop began now
 
 -- how a call ends that took all the bytes
-abbrev pub BytesEnd : Form → List ℕ → Result (Unit {0}) Stop → List ℕ → Run → Sinks → Sinks → Type 0
+abbrev pub BytesEnd : TextForm → List ℕ → Result (Unit {0}) Stop → List ℕ → Run → Sinks → Sinks → Type 0
 BytesEnd form bytes (Ok done) piece r began now = HasCut form bytes piece r began now
 BytesEnd form bytes (Err stop) piece r began now = StoppedIn (whole_lines form bytes) stop began now
 
@@ -204,7 +211,7 @@ LastEnds orders (Ok done) began now = AllDone orders began now
 LastEnds orders (Err stop) began now = StoppedIn orders stop began now
 
 -- how a run ends, where `Fault` says that the source failed
-abbrev pub RunEnds : Form → List ℕ → Option (List ℕ) → Type 0 → Result (Unit {0}) Stop → Sinks → Sinks → Type 0
+abbrev pub RunEnds : TextForm → List ℕ → Option (List ℕ) → Type 0 → Result (Unit {0}) Stop → Sinks → Sinks → Type 0
 RunEnds form bytes left Fault (Ok done) began now = AtEnd left × AllDone (all_lines form bytes) began now
 RunEnds form bytes left Fault (Err ReadFault) began now = Fault × AllDone (whole_lines form bytes) began now
 RunEnds form bytes left Fault (Err stop) began now = StoppedIn (whole_lines form bytes) stop began now ⊎ (AtEnd left × StoppedIn (all_lines form bytes) stop began now)
@@ -215,7 +222,7 @@ AtEndUnless true left = Unit {0}
 AtEndUnless false left = AtEnd left
 
 -- how a call ends that read once
-abbrev pub StepEnds : Form → List ℕ → Option (List ℕ) → Type 0 → Result Bool Stop → List ℕ → Run → Sinks → Sinks → Type 0
+abbrev pub StepEnds : TextForm → List ℕ → Option (List ℕ) → Type 0 → Result Bool Stop → List ℕ → Run → Sinks → Sinks → Type 0
 StepEnds form bytes left Fault (Ok some) piece r began now = AtEndUnless some left × HasCut form bytes piece r began now
 StepEnds form bytes left Fault (Err stop) piece r began now = RunEnds form bytes left Fault (Err stop) began now
 

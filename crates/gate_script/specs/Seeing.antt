@@ -1,10 +1,10 @@
 -- The canvases on which a session plays what each viewer is given (this project's own). Viewer 1's stands
 -- first, and the place of one that has left is empty.
-use Rattle.std.specs.Prelude.{◌≡◌, ◌≢◌, ℕ, ◌-◌, ◌==◌, List, length, slice_index_or, if◌then◌else◌, Option, None, IfSome}
+use Rattle.std.specs.Prelude.{◌≡◌, ◌≢◌, ℕ, ◌-◌, ◌<◌, ◌==◌, Bool, true, false, ◌&&◌, List, length, slice_index_or, if◌then◌else◌, Option, None, IfSome}
 use Rattle.std.specs.Option.{is_some}
 use Rattle.gate_model.specs.declared.instr.Instr.{Instr}
 use Rattle.gate_model.specs.session.History.{History, joined}
-use Rattle.gate_model.specs.picture.Layers.{Layers, draw}
+use Rattle.gate_model.specs.picture.Layers.{Layers, Same, draw}
 use Rattle.gate_model.specs.session.Rights.{is_live}
 use Rattle.gate_model.specs.text.Text.{texts}
 use Rattle.canvas.specs.Kept.{KeptLayer}
@@ -41,3 +41,17 @@ pub record PlaysOn (old new : Canvases) (viewer : ℕ) (text : List ℕ) : Type 
 pub record TakesAway (old new : Canvases) (viewer : ℕ) : Type 0 where
   pub kept : KeepOthers old new viewer
   pub gone : canvas_at new viewer ≡ None
+
+-- two canvases show the same, if both are there
+abbrev pub AreAlike : Option (List KeptLayer) → Option (List KeptLayer) → Type 0
+AreAlike one other = (m n : Layers) → IfSome one (λ canvas. Stands canvas m) → IfSome other (λ canvas. Stands canvas n) → (is_some one && is_some other) ≡ true → Same m n
+
+-- both are there, and they don't
+pub record AreUnlike (one other : Option (List KeptLayer)) : Type 0 where
+  pub there : (is_some one && is_some other) ≡ true
+  pub differ : (m n : Layers) → IfSome one (λ canvas. Stands canvas m) → IfSome other (λ canvas. Stands canvas n) → Same m n → ⊥
+
+-- whether the canvases show what the first one shows, if that is there
+abbrev pub AgreeWithFirst : Canvases → Bool → Type 0
+AgreeWithFirst canvases true = (place : ℕ) → place < length canvases → AreAlike (slice_index_or canvases 0 None) (slice_index_or canvases place None)
+AgreeWithFirst canvases false = (place : ℕ) × AreUnlike (slice_index_or canvases 0 None) (slice_index_or canvases place None)

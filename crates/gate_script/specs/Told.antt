@@ -29,6 +29,7 @@ use Rattle.canvas.specs.declared.dot.Dot.{Dot}
 use Rattle.canvas.specs.declared.dot.Dot.TheVariants.{Outside, Clear, Painted}
 use Rattle.gate_model.specs.session.History.{History}
 use Rattle.gate_model.specs.session.Delivered.{delivered, given}
+use Rattle.script_lines.specs.declared.totals.Totals.{Totals}
 use Rattle.script_lines.specs.Hexadecimal.{digits_of}
 
 abbrev pub blank_and : ℕ → List ℕ
@@ -159,6 +160,15 @@ same_line = answer_line (codes "same") []
 
 abbrev pub differ_line : List ℕ
 differ_line = answer_line (codes "differ") []
+
+-- what a run comes to, in seven answers
+abbrev pub agree_words : Bool → List ℕ
+agree_words agree = if agree then codes "agree yes" else codes "agree no"
+
+abbrev pub totals_lines : Totals → ℕ → ℕ → ℕ → Bool → List ℕ
+totals_lines totals joins stamp sum agree =
+    answer_line (codes "feeds") (totals.feeds ∷ []) ++ answer_line (codes "joins") (joins ∷ []) ++ answer_line (codes "keys") (totals.keys ∷ [])
+    ++ answer_line (codes "out") (totals.out ∷ []) ++ answer_line (codes "stamp") (stamp ∷ []) ++ answer_line (codes "sum") (sum ∷ []) ++ answer_line (agree_words agree) []
 
 -- the last answers: a line outside the grammar, a full session
 abbrev pub bad_line : ℕ → List ℕ

@@ -3,19 +3,20 @@
 ghost use Rattle.std.specs.Prelude.{◌≡◌, ◌≤◌, ◌↔◌, ◌⊎◌, [], Option, List, ℕ, map, string_bytes, IfErr, IfOk, None, Some};
 ghost use Rattle.gate_outside.specs.Edge.{Rose};
 ghost use Rattle.script_lines.specs.declared.form.Form.{Form as Forms};
-ghost use Rattle.script_lines.specs.Words.{IsForm, form_of};
-ghost use Rattle.gate_script.specs.Outcomes.{Outcome, Ran, last_line};
+ghost use Rattle.script_lines.specs.Words.{IsTextForm, form_of};
+ghost use Rattle.gate_script.specs.Outcomes.{IsStatus, LinesOutcome, LoadOutcome, Outcome, Ran, WroteSo, last_line};
 ghost use Rattle.gate_script.specs.Sinks.{held};
 ghost use Rattle.gate_script.specs.Running.{Ended, HasCause, HasRead, Put, RunEnds, refused_status, status_after};
 
 use crate::halt::Halt;
 use crate::input::Input;
+use crate::load::Load;
 use crate::refused::Refused;
 use crate::reply::Reply;
 use crate::run::Run;
 use crate::stop::Stop;
 use gate_outside::{Sink, Source, write_all};
-use script_lines::{Form, form_of};
+use script_lines::{Form, TextForm, form_of};
 use std::alloc::Global;
 
 /// Does what the words say, and answers the status. The words are those after the program's name, in
@@ -23,8 +24,9 @@ use std::alloc::Global;
 ///
 /// - `draw COLS ROWS`: 1 to 512 columns, 1 to 256 rows, at most 8,192 cells.
 /// - `script` or `script ENTRIES`: 1 to 2^40 entries, 2^40 where none is given.
+/// - `load SEED ROUNDS`: a seed below 2^64, at most 1,000,000 rounds. Nothing is read.
 ///
-/// The statuses: 0, the input was read to its end; 2, the words are of no form, and nothing is read or
+/// The statuses: 0, the input was read to its end, or the rounds were done; 2, the words are of no form, and nothing is read or
 /// written; 3, a line of the script is outside the grammar; 4, the source failed; 5, a sink failed; 6,
 /// want of memory; 7, the session may have no more entries.
 pub fn command<S: Source, A: Sink, F: Sink>(
@@ -50,22 +52,63 @@ pub fn command<S: Source, A: Sink, F: Sink>(
     ensures later_answers { A.faults answers.old ≤ A.faults answers.new }
     ensures later_frames { F.faults frames.old ≤ F.faults frames.new }
 {
-    let Some(form) = form_of(words) else {
-        return 2;
-    };
+    match form_of(words) {
+        None => 2,
+        Some(Form::Text(form)) => text(alloc, form, source, answers, frames),
+        Some(Form::Load(seed, rounds)) => load(alloc, seed, rounds, answers, frames),
+    }
+}
+
+// Does the lines that the input makes, and answers the status.
+fn text<S: Source, A: Sink, F: Sink>(
+    alloc: Global,
+    form: TextForm,
+    source: &mut S,
+    answers: &mut A,
+    frames: &mut F,
+) -> u8
+    requires { IsTextForm form }
+    ensures only { IsStatus result }
+    ensures outcome { Ran (S.left source.old) (S.left source.new) (A.written answers.old) (A.written answers.new) (F.written frames.old) (F.written frames.new) (LinesOutcome result form (S.left source.new)) }
+    ensures read_fault { result ≡ 4 → Rose (S.faults source.old) (S.faults source.new) }
+    ensures write_fault { result ≡ 5 → Rose (A.faults answers.old) (A.faults answers.new) ⊎ Rose (F.faults frames.old) (F.faults frames.new) }
+    ensures later_source { S.faults source.old ≤ S.faults source.new }
+    ensures later_answers { A.faults answers.old ≤ A.faults answers.new }
+    ensures later_frames { F.faults frames.old ≤ F.faults frames.new }
+{
     let ended = run(alloc, form, source, answers, frames);
     status(alloc, ended, answers)
+}
+
+// Does the lines that drawn words make, and answers the status.
+fn load<A: Sink, F: Sink>(
+    alloc: Global,
+    seed: u64,
+    rounds: u32,
+    answers: &mut A,
+    frames: &mut F,
+) -> u8
+    requires { rounds ≤ 1000000 }
+    ensures outcome { WroteSo (A.written answers.old) (A.written answers.new) (F.written frames.old) (F.written frames.new) (LoadOutcome result seed rounds []) }
+    ensures only { (result ≡ 0) ⊎ (result ≡ 5) ⊎ (result ≡ 6) }
+    ensures write_fault { result ≡ 5 → Rose (A.faults answers.old) (A.faults answers.new) ⊎ Rose (F.faults frames.old) (F.faults frames.new) }
+    ensures later_answers { A.faults answers.old ≤ A.faults answers.new }
+    ensures later_frames { F.faults frames.old ≤ F.faults frames.new }
+{
+    let mut load = Load::new(alloc);
+    let loaded = load.run(alloc, seed, rounds, answers, frames);
+    status(alloc, loaded, answers)
 }
 
 // Opens a run of this form, reads the input to its end and does it.
 fn run<S: Source, A: Sink, F: Sink>(
     alloc: Global,
-    form: Form,
+    form: TextForm,
     source: &mut S,
     answers: &mut A,
     frames: &mut F,
 ) -> Result<(), Stop>
-    requires { IsForm form }
+    requires { IsTextForm form }
     ensures ran { HasRead (S.left source.old) (S.left source.new) (λ bytes. RunEnds form bytes (S.left source.new) (Rose (S.faults source.old) (S.faults source.new)) result
         (held (A.written answers.old) (A.faults answers.old) (F.written frames.old) (F.faults frames.old)) (held (A.written answers.new) (A.faults answers.new) (F.written frames.new) (F.faults frames.new))) }
     ensures later { S.faults source.old ≤ S.faults source.new }

@@ -13,7 +13,10 @@
 mod commands;
 mod halt;
 mod input;
+mod kind;
 pub mod laws;
+mod level;
+mod load;
 mod playing;
 mod refused;
 mod reply;

@@ -1,14 +1,14 @@
 //! What is told of the calls of a session, in memory: answers, and lines of the frames.
 
 ghost use Rattle.std.specs.Prelude.{◌≡◌, [], ◌∷◌, ◌++◌, codes, decimal, flat_map, OnOk};
-ghost use Rattle.gate_script.specs.Told.{answer_line, bad_text_line, blank_and, frames_line, given_line, kind_word, pixel_line, read_told, refused_line, taken_text, took_line};
+ghost use Rattle.gate_script.specs.Told.{agree_words, answer_line, bad_text_line, blank_and, frames_line, given_line, kind_word, pixel_line, read_told, refused_line, taken_text, took_line, totals_lines};
 
 use crate::halt::Halt;
 use canvas::Dot;
 use gate_model::{Colour, NoMemory, ReadAnswer};
 use guac_framing::{BadAt, BadKind};
 use itoa::Buffer;
-use script_lines::push_digits;
+use script_lines::{Totals, push_digits};
 use std::alloc::Global;
 
 /// The answers, and the lines of the frames, that were told and aren't written yet.
@@ -16,6 +16,16 @@ use std::alloc::Global;
 pub(crate) struct Reply {
     pub answer: Vec<u8>,
     pub frame: Vec<u8>,
+}
+
+/// What a run comes to: what its lines did, how many viewers have joined, the newest stamp, and the sum of
+/// all colours of what viewer 1 sees.
+#[derive(Clone, Copy, Debug, PartialEq, Eq)]
+pub(crate) struct Numbers {
+    pub totals: Totals,
+    pub joins: u64,
+    pub stamp: u64,
+    pub sum: u64,
 }
 
 impl Reply {
@@ -137,6 +147,25 @@ impl Reply {
         Ok(())
     }
 
+    /// Tells what a run comes to, and whether its viewers see the same, in seven answers.
+    pub(crate) fn say_totals(&mut self, numbers: Numbers, agree: bool) -> Result<(), Halt>
+        ensures { Adds result self.old self.new (totals_lines numbers.totals numbers.joins numbers.stamp numbers.sum agree) [] }
+    {
+        let Numbers {
+            totals: Totals { feeds, keys, out },
+            joins,
+            stamp,
+            sum,
+        } = numbers;
+        self.say("feeds", &[feeds])?;
+        self.say("joins", &[joins])?;
+        self.say("keys", &[keys])?;
+        self.say("out", &[out])?;
+        self.say("stamp", &[stamp])?;
+        self.say("sum", &[sum])?;
+        self.say(agree_words(agree), &[])
+    }
+
     /// Tells where a text is bad, and why.
     pub(crate) fn say_bad(&mut self, at: BadAt) -> Result<(), Halt>
         ensures { Adds result self.old self.new (bad_text_line at) [] }
@@ -144,6 +173,13 @@ impl Reply {
         push_bad_line(&mut self.answer, at.place, kind_word(at.kind))?;
         Ok(())
     }
+}
+
+// The answer whether viewers see the same.
+fn agree_words(agree: bool) -> &'static str
+    ensures { result.now ≡ agree_words agree }
+{
+    if agree { "agree yes" } else { "agree no" }
 }
 
 // Appends the line that says which bytes a take handed out.

@@ -1,6 +1,6 @@
 //! A run of either form: what it does with each piece of its input, and where it writes what is told.
 
-ghost use Rattle.std.specs.Prelude.{◌≡◌, ◌≢◌, ◌+◌, ◌*◌, ◌<◌, ◌^◌, ◌≤◌, [], ◌∷◌, ℕ, List, length, false, OnOk};
+ghost use Rattle.std.specs.Prelude.{◌≡◌, ◌≢◌, ◌+◌, ◌*◌, ◌<◌, ◌^◌, ◌≤◌, ◌||◌, [], ◌∷◌, ℕ, List, length, false, OnOk};
 ghost use Rattle.std.specs.Option.{is_some};
 ghost use Rattle.gate_script.specs.Running.{stop_of};
 
@@ -11,7 +11,7 @@ use crate::stop::Stop;
 use desk_core::laws::{desks_are_true, desks_are_whole};
 use gate_model::{Asked, Bytes, Share};
 use gate_outside::{Sink, write_all};
-use script_lines::{Form, Line, Order, Size, judged};
+use script_lines::{Line, Order, Size, TextForm, judged};
 use std::alloc::Global;
 
 /// The most entries of a session.
@@ -20,25 +20,25 @@ const MOST_ENTRIES: u64 = 1 << 40;
 /// The form, where the run stands, how many orders were done, and how many bytes their pieces have.
 #[derive(Drop)]
 pub(crate) struct Run {
-    pub form: Form,
+    pub form: TextForm,
     pub state: State,
     pub lines: u64,
     pub read: u64,
 }
 
 impl Run {
-    ghost use Rattle.script_lines.specs.declared.form.Form.TheVariants.{Draw, Script};
+    ghost use Rattle.script_lines.specs.declared.text_form.TextForm.TheVariants.{Draw, Script};
     ghost use Rattle.script_lines.specs.declared.line.Line.TheVariants.{Acknowledge, Bad, Read, Server};
     ghost use Rattle.script_lines.specs.declared.order.Order.{Order as Orders};
     ghost use Rattle.script_lines.specs.declared.order.Order.TheVariants.{Told, Untold};
-    ghost use Rattle.script_lines.specs.Grammar.{ending, in_place, judged, lines_of, most_of, most_script};
+    ghost use Rattle.script_lines.specs.Grammar.{ending, in_place, judged, lines_of, most_of, most_script, starts};
     ghost use Rattle.script_lines.specs.Lines.{IsInRange, line_in};
-    ghost use Rattle.script_lines.specs.Words.{IsForm};
+    ghost use Rattle.script_lines.specs.Words.{IsTextForm};
     ghost use Rattle.gate_script.specs.Sinks.{Sinks, Wrote, held};
-    ghost use Rattle.gate_script.specs.Running.{At, Ends, HasDone, IsOpen, IsReady, KeepsOpen, LastEnds, LeavesOpen, PieceEnds};
+    ghost use Rattle.gate_script.specs.Running.{At, Ends, Goes, HasDone, IsOpen, IsReady, KeepsOpen, LastEnds, LeavesOpen, PieceEnds};
 
     /// A run that has done nothing.
-    pub(crate) fn new(alloc: Global, form: Form) -> Run
+    pub(crate) fn new(alloc: Global, form: TextForm) -> Run
         ensures form { result.form ≡ form }
         ensures moment { result.state.moment ≡ 0 }
         ensures session { is_some result.state.session ≡ false }
@@ -53,8 +53,8 @@ impl Run {
         }
     }
 
-    // Does an order, and writes what it tells: the line of the frames, and then the answer.
-    fn order<A: Sink, F: Sink>(
+    /// Does an order, and writes what it tells: the line of the frames, and then the answer.
+    pub(crate) fn order<A: Sink, F: Sink>(
         &mut self,
         alloc: Global,
         order: Order,
@@ -66,6 +66,9 @@ impl Run {
         requires range { IsInRange (line_in order) }
         ensures step { (orders : List Orders) (began : Sinks) → At orders self.old began (held (A.written answers.old) (A.faults answers.old) (F.written frames.old) (F.faults frames.old)) →
             Ends (order ∷ orders) result self.new began (held (A.written answers.new) (A.faults answers.new) (F.written frames.new) (F.faults frames.new)) }
+        ensures goes_on { (orders : List Orders) (began : Sinks) → (at : At orders self.old began (held (A.written answers.old) (A.faults answers.old) (F.written frames.old) (F.faults frames.old))) →
+            OnOk result (Goes order orders at.play self.new began (held (A.written answers.new) (A.faults answers.new) (F.written frames.new) (F.faults frames.new))) }
+        ensures opened { OnOk result (is_some self.new.state.session ≡ (starts order || is_some self.old.state.session)) }
         ensures open { OnOk result (LeavesOpen (line_in order) self.old.state.session self.new.state.session) }
         ensures sound { OnOk result (line_in order ≢ Bad) }
         ensures lines { OnOk result (self.new.lines ≡ self.old.lines + 1) }
@@ -105,7 +108,7 @@ impl Run {
         answers: &mut A,
         frames: &mut F,
     ) -> Result<(), Stop>
-        requires form { IsForm self.old.form }
+        requires form { IsTextForm self.old.form }
         requires moment { self.old.state.moment ≡ 0 }
         requires session { is_some self.old.state.session ≡ false }
         requires lines { self.old.lines ≡ 0 }
@@ -116,13 +119,13 @@ impl Run {
         ensures read { self.new.read ≡ self.old.read }
     {
         match self.form {
-            Form::Draw(size) => {
+            TextForm::Draw(size) => {
                 let start = Line::Start(size, Share::Nobody, MOST_ENTRIES);
                 self.order(alloc, Order::Told(start), answers, frames)?;
                 let join = Line::Join(Asked::Owner);
                 self.order(alloc, Order::Told(join), answers, frames)
             }
-            Form::Script(_) => Ok(()),
+            TextForm::Script(_) => Ok(()),
         }
     }
 
@@ -144,12 +147,12 @@ impl Run {
         ensures grows { OnOk result (self.new.read ≡ self.old.read + length piece.now) }
     {
         match self.form {
-            Form::Draw(_) => {
+            TextForm::Draw(_) => {
                 self.draw(alloc, piece, answers, frames)?;
                 self.read += piece.len() as u64;
                 Ok(())
             }
-            Form::Script(entries) => {
+            TextForm::Script(entries) => {
                 self.script_line(alloc, entries, piece, answers, frames)?;
                 self.read += piece.len() as u64;
                 Ok(())
@@ -191,7 +194,7 @@ impl Run {
         answers: &mut A,
         frames: &mut F,
     ) -> Result<(), Stop>
-        requires form { IsForm (Script entries) }
+        requires form { IsTextForm (Script entries) }
         requires count { self.old.lines < 2 ^ 61 }
         requires read { self.old.read ≤ most_script }
         requires few { length piece.now ≤ 262146 }
@@ -219,8 +222,8 @@ impl Run {
             LastEnds (ending self.old.form (lines_of self.old.form pieces)) result began (held (A.written answers.new) (A.faults answers.new) (F.written frames.new) (F.faults frames.new)) }
     {
         match self.form {
-            Form::Draw(_) => self.order(alloc, Order::Told(Line::Done), answers, frames),
-            Form::Script(_) => Ok(()),
+            TextForm::Draw(_) => self.order(alloc, Order::Told(Line::Done), answers, frames),
+            TextForm::Script(_) => Ok(()),
         }
     }
 }

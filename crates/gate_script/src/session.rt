@@ -7,14 +7,14 @@ ghost use Rattle.gate_script.specs.Plays.{setup_of};
 
 use crate::halt::Halt;
 use crate::playing::{play_text, played};
-use crate::reply::Reply;
-use crate::seeing::{are_same, dot_of};
+use crate::reply::{Numbers, Reply};
+use crate::seeing::{agree_with_first, are_same, dot_of, pixel_sum};
 use canvas::Canvas;
 use desk_core::{
     Desk, FeedRefusal, JoinRefusal, NoMemory, ReadRefusal, Setup, WriteRefusal, Written,
 };
 use gate_model::{Act, Asked, Cause, Share, Text, statuses};
-use script_lines::{Line, Reading, Size, read_acts};
+use script_lines::{Line, Reading, Size, Totals, read_acts};
 use std::alloc::Global;
 
 /// A desk, a place for each viewer that joined, with the canvas of one that is there, and what a viewer
@@ -29,7 +29,7 @@ pub(crate) struct Session {
 impl Session {
     ghost use Rattle.gate_model.specs.session.Calls.{IsWrite};
     ghost use Rattle.gate_model.specs.session.History.{History};
-    ghost use Rattle.script_lines.specs.declared.line.Line.TheVariants.{Acknowledge, Close, Done, Join, Leave, Pixel, Read, Same, Server, Start, Take, Write};
+    ghost use Rattle.script_lines.specs.declared.line.Line.TheVariants.{Acknowledge, Close, Done, Join, Leave, Pixel, Press, Read, Same, Server, Start, Take, Totals as TellTotals, Write};
     ghost use Rattle.script_lines.specs.Lines.{IsInRange};
     ghost use Rattle.gate_script.specs.Calls.{CallEnds, IsAt, IsCall, IsOpenDesk, LeavesOpen, StartEnds, StaysOpen, WriteEnds, play};
     ghost use Rattle.gate_script.specs.Seeing.{PlaysOn, TakesAway};
@@ -84,6 +84,8 @@ impl Session {
             Line::Same(one, other) => self.same(one, other, reply),
             Line::Acknowledge(viewer) => self.acknowledge(alloc, viewer, reply),
             Line::Done => self.done(reply),
+            Line::Press(viewer, keysym) => self.press(alloc, viewer, keysym, reply),
+            Line::Totals(totals) => self.totals(totals, reply),
             Line::Blank | Line::Bad | Line::At(_) | Line::Start(_, _, _) => unreachable!(),
         }
     }
@@ -220,6 +222,23 @@ impl Session {
         self.write_acts(alloc, viewer, &acts, 0, reply)
     }
 
+    // The viewer presses a key.
+    fn press(
+        &mut self,
+        alloc: Global,
+        viewer: u32,
+        keysym: u32,
+        reply: &mut Reply,
+    ) -> Result<(), Halt>
+        ensures { (h : History) (now : ℕ) → IsAt self.old h → CallEnds (Press viewer keysym) (play now h) result self.new reply.old reply.new }
+    {
+        let acts = [Act::Key {
+            keysym,
+            pressed: true,
+        }];
+        self.write_acts(alloc, viewer, &acts, 0, reply)
+    }
+
     // Takes the next bytes that wait for the host, at most so many, and tells them.
     fn take(&mut self, alloc: Global, most: u32, reply: &mut Reply) -> Result<(), Halt>
         ensures { (h : History) (now : ℕ) → IsAt self.old h → CallEnds (Take most) (play now h) result self.new reply.old reply.new }
@@ -291,6 +310,19 @@ impl Session {
         ensures { (h : History) (now : ℕ) → IsAt self.old h → CallEnds Done (play now h) result self.new reply.old reply.new }
     {
         reply.say("done", &[self.desk.stamp()])
+    }
+
+    // Tells these totals, and what the session and its viewers have come to.
+    fn totals(&mut self, totals: Totals, reply: &mut Reply) -> Result<(), Halt>
+        ensures { (h : History) (now : ℕ) → IsAt self.old h → CallEnds (TellTotals totals) (play now h) result self.new reply.old reply.new }
+    {
+        let numbers = Numbers {
+            totals,
+            joins: self.canvases.len() as u64,
+            stamp: self.desk.stamp(),
+            sum: pixel_sum(&self.canvases)?,
+        };
+        reply.say_totals(numbers, agree_with_first(&self.canvases))
     }
 }
 

@@ -1,5 +1,5 @@
 //! The program `guacgate`: it draws what a Telnet host sent, as the instructions of the Guacamole
-//! protocol that a viewer is given, does scripts, and serves viewers over the network.
+//! protocol that a viewer is given, does scripts and loads, and serves viewers over the network.
 //!
 //! All that it says of its input and its outputs is the contract of `gate_service::top`. What stands
 //! here is only the friendly edge: the words of the command line, `--help` and `--version`, and the ends of the
@@ -24,12 +24,15 @@ const HELP: &str = "guacgate shows a Telnet session as instructions of the Guaca
 
 usage: guacgate draw COLS ROWS < BYTES
        guacgate script [ENTRIES] < LINES
+       guacgate load SEED ROUNDS
        guacgate serve --seed HEX [--port PORT] [--log LEVEL]
 
 draw    draws what a Telnet host sent, read from standard input, on a screen of COLS columns (1 to
         512) and ROWS rows (1 to 256), at most 8192 cells
 script  does the lines of a script, as start 80 24 none, join owner, server 48690d0a, read 1; its
         session may have ENTRIES entries (1 to 2^40, 2^40 where none is given)
+load    does ROUNDS rounds (0 to 1000000) of lines that words drawn under SEED (0 to 2^64 - 1) make,
+        and tells seven totals; it reads nothing
 serve   serves viewers, by the Guacamole protocol and over HTTP, on a port of this machine, 4822
         where none is given; serve --help tells more
 

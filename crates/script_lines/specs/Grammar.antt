@@ -7,15 +7,15 @@ use Rattle.gate_model.specs.declared.sharing.Asked.TheVariants.{Owner, Control a
 use Rattle.gate_model.specs.declared.sharing.Share.{Share}
 use Rattle.gate_model.specs.declared.sharing.Share.TheVariants.{Nobody, View, Control}
 use Rattle.gate_model.specs.Limits.{most_piece}
-use Rattle.script_lines.specs.declared.form.Form.{Form}
-use Rattle.script_lines.specs.declared.form.Form.TheVariants.{Draw, Script}
+use Rattle.script_lines.specs.declared.text_form.TextForm.{TextForm}
+use Rattle.script_lines.specs.declared.text_form.TextForm.TheVariants.{Draw, Script}
 use Rattle.script_lines.specs.declared.size.Size.{Size}
 use Rattle.script_lines.specs.Numbers.{number_up_to}
 use Rattle.script_lines.specs.Hexadecimal.{bytes_of}
 use Rattle.script_lines.specs.Words.{size_of}
 use Rattle.script_lines.specs.Pieces.{whole_pieces, all_pieces}
 use Rattle.script_lines.specs.declared.line.Line.{Line}
-use Rattle.script_lines.specs.declared.line.Line.TheVariants.{Blank, Bad, At, Start, Server, Join, Read, Write, Take, Leave, Close, Pixel, Same, Acknowledge, Done}
+use Rattle.script_lines.specs.declared.line.Line.TheVariants.{Blank, Bad, At, Start, Server, Join, Read, Write, Take, Leave, Close, Pixel, Same, Acknowledge, Done, Press, Totals}
 use Rattle.script_lines.specs.declared.order.Order.{Order}
 use Rattle.script_lines.specs.declared.order.Order.TheVariants.{Told}
 use Rattle.script_lines.specs.Lines.{line_in, draw_lines}
@@ -167,6 +167,8 @@ in_place false (Pixel viewer x y) = Bad
 in_place false (Same one other) = Bad
 in_place false (Acknowledge viewer) = Bad
 in_place false Done = Bad
+in_place false (Press viewer keysym) = Bad
+in_place false (Totals totals) = Bad
 in_place opened line = line
 
 -- the order starts the session
@@ -187,22 +189,22 @@ script_lines entries [] = []
 script_lines entries (piece ∷ pieces) = Told (judged entries (list_any starts (script_lines entries pieces)) (total pieces) piece) ∷ script_lines entries pieces
 
 -- the orders of a form for its pieces
-abbrev pub lines_of : Form → List (List ℕ) → List Order
+abbrev pub lines_of : TextForm → List (List ℕ) → List Order
 lines_of (Draw size) pieces = draw_lines size pieces
 lines_of (Script entries) pieces = script_lines entries pieces
 
 -- the most bytes of a piece; a longer line of a script is judged by its front
-abbrev pub most_of : Form → ℕ
+abbrev pub most_of : TextForm → ℕ
 most_of (Draw size) = most_piece
 most_of (Script entries) = most_line + 2
 
 -- the orders of the whole pieces, and at the end of the input of all pieces
-abbrev pub whole_lines : Form → List ℕ → List Order
+abbrev pub whole_lines : TextForm → List ℕ → List Order
 whole_lines form bytes = lines_of form (reverse (whole_pieces (most_of form) bytes))
 
-abbrev pub ending : Form → List Order → List Order
+abbrev pub ending : TextForm → List Order → List Order
 ending (Draw size) orders = Told Done ∷ orders
 ending (Script entries) orders = orders
 
-abbrev pub all_lines : Form → List ℕ → List Order
+abbrev pub all_lines : TextForm → List ℕ → List Order
 all_lines form bytes = ending form (lines_of form (reverse (all_pieces (most_of form) bytes)))

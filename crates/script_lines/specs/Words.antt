@@ -1,11 +1,14 @@
--- The words of the program (this project's own): `draw COLS ROWS`, `script`, `script ENTRIES`.
-use Rattle.std.specs.Prelude.{ℕ, ◌*◌, ◌≤◌, List, [], ◌∷◌, Bool, ◌&&◌, nat_le, if◌then◌else◌, Option, Some, None, codes, bytes_eq}
+-- The words of the program (this project's own): `draw COLS ROWS`, `script`, `script ENTRIES`, `load SEED
+-- ROUNDS`.
+use Rattle.std.specs.Prelude.{ℕ, ◌*◌, ◌-◌, ◌^◌, ◌<◌, ◌≤◌, List, [], ◌∷◌, Bool, ◌&&◌, nat_le, if◌then◌else◌, Option, Some, None, codes, bytes_eq}
 use Rattle.gate_model.specs.Limits.{most_columns, most_rows, most_cells, most_entries}
 use Rattle.gate_model.specs.session.Steps.{IsScreenSize}
 use Rattle.script_lines.specs.declared.form.Form.{Form}
-use Rattle.script_lines.specs.declared.form.Form.TheVariants.{Draw, Script}
+use Rattle.script_lines.specs.declared.form.Form.TheVariants.{Text, Load}
+use Rattle.script_lines.specs.declared.text_form.TextForm.{TextForm}
+use Rattle.script_lines.specs.declared.text_form.TextForm.TheVariants.{Draw, Script}
 use Rattle.script_lines.specs.declared.size.Size.{Size}
-use Rattle.script_lines.specs.Numbers.{number_of}
+use Rattle.script_lines.specs.Numbers.{number_of, number_up_to}
 
 -- a screen that the commands open: at most 512 columns, 256 rows and 8,192 cells
 abbrev pub is_size : ℕ → ℕ → Bool
@@ -18,23 +21,41 @@ sized cols rows = None
 abbrev pub size_of : List ℕ → List ℕ → Option Size
 size_of cols rows = sized (number_of cols) (number_of rows)
 
-abbrev pub drawing : Option Size → Option Form
+abbrev pub drawing : Option Size → Option TextForm
 drawing None = None
 drawing (Some size) = Some (Draw size)
 
 -- a script's session may have 1 to 2^40 entries
-abbrev pub counted : Option ℕ → Option Form
+abbrev pub counted : Option ℕ → Option TextForm
 counted None = None
 counted (Some entries) = if nat_le 1 entries && nat_le entries most_entries then Some (Script entries) else None
 
+abbrev pub of_text : Option TextForm → Option Form
+of_text None = None
+of_text (Some form) = Some (Text form)
+
+-- a load has at most 1,000,000 rounds
+abbrev pub most_rounds : ℕ
+most_rounds = 1000000
+
+abbrev pub loading : Option ℕ → Option ℕ → Option Form
+loading (Some seed) (Some rounds) = if nat_le rounds most_rounds then Some (Load seed rounds) else None
+loading seed rounds = None
+
 -- the form of the words, if they are of one
 abbrev pub form_of : List (List ℕ) → Option Form
-form_of (name ∷ []) = if bytes_eq name (codes "script") then Some (Script most_entries) else None
-form_of (name ∷ entries ∷ []) = if bytes_eq name (codes "script") then counted (number_of entries) else None
-form_of (name ∷ cols ∷ rows ∷ []) = if bytes_eq name (codes "draw") then drawing (size_of cols rows) else None
+form_of (name ∷ []) = if bytes_eq name (codes "script") then Some (Text (Script most_entries)) else None
+form_of (name ∷ entries ∷ []) = if bytes_eq name (codes "script") then of_text (counted (number_of entries)) else None
+form_of (name ∷ one ∷ other ∷ []) =
+    if bytes_eq name (codes "draw") then of_text (drawing (size_of one other)) else (
+    if bytes_eq name (codes "load") then loading (number_up_to (2 ^ 64 - 1) one) (number_of other) else None)
 form_of words = None
 
 -- what a form holds is in range
+abbrev pub IsTextForm : TextForm → Type 0
+IsTextForm (Draw size) = IsScreenSize size.cols size.rows
+IsTextForm (Script entries) = (1 ≤ entries) × (entries ≤ most_entries)
+
 abbrev pub IsForm : Form → Type 0
-IsForm (Draw size) = IsScreenSize size.cols size.rows
-IsForm (Script entries) = (1 ≤ entries) × (entries ≤ most_entries)
+IsForm (Text form) = IsTextForm form
+IsForm (Load seed rounds) = (seed < 2 ^ 64) × (rounds ≤ most_rounds)

@@ -1,10 +1,10 @@
-use crate::size::Size;
+use crate::text_form::TextForm;
 
 /// A form of the program's words.
 #[derive(Clone, Copy, Debug, PartialEq, Eq)]
 pub enum Form {
-    /// Draw the input on a screen of this size.
-    Draw(Size),
-    /// Do the script of the input; its session may have so many entries.
-    Script(u64),
+    /// Do the lines that the input makes.
+    Text(TextForm),
+    /// Do the lines that words drawn under this seed make, in so many rounds.
+    Load(u64, u32),
 }

@@ -8,10 +8,10 @@ ghost use Rattle.script_lines.specs.Numbers.{number_up_to};
 ghost use Rattle.script_lines.specs.Lines.{IsInRange};
 ghost use Rattle.gate_model.specs.Limits.{most_entries};
 
-use crate::form::Form;
 use crate::hexadecimal::bytes_of;
 use crate::line::Line;
 use crate::numbers::{number, number_of_32_bits, number_of_64_bits};
+use crate::text_form::TextForm;
 use crate::words::size_of;
 use gate_model::{Asked, Bytes, NoMemory, Share};
 use std::alloc::Global;
@@ -29,12 +29,12 @@ const MOST_SCRIPT: u64 = 67108864;
 
 /// The most bytes of a piece of the input: of a longer line of a script only the front is read, which
 /// tells that it is too long.
-pub fn most_of(form: Form) -> usize
+pub fn most_of(form: TextForm) -> usize
     ensures { result ≡ most_of form }
 {
     match form {
-        Form::Draw(_) => MOST_PIECE,
-        Form::Script(_) => MOST_LINE + 2,
+        TextForm::Draw(_) => MOST_PIECE,
+        TextForm::Script(_) => MOST_LINE + 2,
     }
 }
 

@@ -16,6 +16,8 @@ mod order;
 mod pieces;
 mod reading;
 mod size;
+mod text_form;
+mod totals;
 mod words;
 
 pub use acts::read_acts;
@@ -27,4 +29,6 @@ pub use order::Order;
 pub use pieces::{Part, next_part};
 pub use reading::Reading;
 pub use size::Size;
+pub use text_form::TextForm;
+pub use totals::Totals;
 pub use words::form_of;

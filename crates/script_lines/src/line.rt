@@ -1,4 +1,5 @@
 use crate::size::Size;
+use crate::totals::Totals;
 use gate_model::{Asked, Bytes, Share};
 
 /// A line that a run does (this project's own). A viewer's number is the one that its join was answered.
@@ -34,4 +35,8 @@ pub enum Line {
     Acknowledge(u32),
     /// The newest stamp is told.
     Done,
+    /// The viewer presses the key of this keysym.
+    Press(u32, u32),
+    /// Seven answers: these totals, and what the session and its viewers have come to.
+    Totals(Totals),
 }

@@ -1,30 +1,60 @@
 //! The words of the program, read by hand.
 
-ghost use Rattle.std.specs.Prelude.{◌≡◌, map, string_bytes, IfSome};
+ghost use Rattle.std.specs.Prelude.{◌≡◌, ◌^◌, ◌-◌, map, string_bytes, IfSome};
 ghost use Rattle.gate_model.specs.session.Steps.{IsScreenSize};
-ghost use Rattle.script_lines.specs.Words.{IsForm, counted, drawing, form_of, size_of, sized};
+ghost use Rattle.script_lines.specs.Numbers.{number_up_to};
+ghost use Rattle.script_lines.specs.Words.{IsForm, IsTextForm, counted, drawing, form_of, loading, of_text, size_of, sized};
 
 use crate::form::Form;
-use crate::numbers::number;
+use crate::numbers::{number, number_of_64_bits};
 use crate::size::Size;
+use crate::text_form::TextForm;
 
 /// The most entries of a session.
 const MOST_ENTRIES: u64 = 1 << 40;
 
-/// The form of the words, if they are of one: `draw COLS ROWS`, `script` or `script ENTRIES`. Numbers are
-/// of 1 to 20 decimal digits: 1 to 512 columns, 1 to 256 rows, at most 8,192 cells, 1 to 2^40 entries (2^40
-/// where none is given).
+/// The most rounds of a load (this project's own rule).
+const MOST_ROUNDS: u128 = 1_000_000;
+
+/// The form of the words, if they are of one: `draw COLS ROWS`, `script`, `script ENTRIES` or `load SEED
+/// ROUNDS`. Numbers are of 1 to 20 decimal digits: 1 to 512 columns, 1 to 256 rows, at most 8,192 cells, 1 to
+/// 2^40 entries (2^40 where none is given), a seed below 2^64, 0 to 1,000,000 rounds.
 pub fn form_of(words: &[String]) -> Option<Form>
     ensures exact { result ≡ form_of (map string_bytes words.now) }
     ensures in_range { IfSome result IsForm }
 {
     match words {
-        [name] if name.as_str() == "script" => Some(Form::Script(MOST_ENTRIES)),
-        [name, entries] if name.as_str() == "script" => script(number(entries.as_bytes())),
+        [name] if name.as_str() == "script" => Some(Form::Text(TextForm::Script(MOST_ENTRIES))),
+        [name, entries] if name.as_str() == "script" => of_text(script(number(entries.as_bytes()))),
         [name, cols, rows] if name.as_str() == "draw" => {
-            draw(size_of(cols.as_bytes(), rows.as_bytes()))
+            of_text(draw(size_of(cols.as_bytes(), rows.as_bytes())))
+        }
+        [name, seed, rounds] if name.as_str() == "load" => {
+            load(number_of_64_bits(seed.as_bytes()), number(rounds.as_bytes()))
         }
         _ => None,
+    }
+}
+
+// The form whose lines the input makes.
+fn of_text(form: Option<TextForm>) -> Option<Form>
+    requires { IfSome form IsTextForm }
+    ensures exact { result ≡ of_text form }
+    ensures in_range { IfSome result IsForm }
+{
+    Some(Form::Text(form?))
+}
+
+// The form `load`.
+fn load(seed: Option<u64>, rounds: Option<u128>) -> Option<Form>
+    ensures exact { result ≡ loading seed rounds }
+    ensures in_range { IfSome result IsForm }
+{
+    let (seed, rounds) = (seed?, rounds?);
+    if rounds <= MOST_ROUNDS {
+        Some(Form::Load(seed, rounds as u32))
+    } else {
+        None
     }
 }
 
@@ -38,22 +68,22 @@ pub(crate) fn size_of(cols: &[u8], rows: &[u8]) -> Option<Size>
 }
 
 // The form `draw`.
-fn draw(size: Option<Size>) -> Option<Form>
+fn draw(size: Option<Size>) -> Option<TextForm>
     requires { IfSome size (λ s. IsScreenSize s.cols s.rows) }
     ensures exact { result ≡ drawing size }
-    ensures in_range { IfSome result IsForm }
+    ensures in_range { IfSome result IsTextForm }
 {
-    Some(Form::Draw(size?))
+    Some(TextForm::Draw(size?))
 }
 
 // The form `script`, where its session may have so many entries.
-fn script(entries: Option<u128>) -> Option<Form>
+fn script(entries: Option<u128>) -> Option<TextForm>
     ensures exact { result ≡ counted entries }
-    ensures in_range { IfSome result IsForm }
+    ensures in_range { IfSome result IsTextForm }
 {
     let entries = u64::try_from(entries?).ok()?;
     if 1 <= entries && entries <= MOST_ENTRIES {
-        Some(Form::Script(entries))
+        Some(TextForm::Script(entries))
     } else {
         None
     }

@@ -1,7 +1,7 @@
 //! A row is run over memory.
 
 use crate::row::Row;
-use crate::turns::{LineSink, LineSource};
+use crate::turns::{LineSink, LineSource, Tally};
 use anyhow::{Result, anyhow};
 use gate_outside::{MemSink, MemSource};
 use gate_script::command;
@@ -18,6 +18,9 @@ pub fn difference(alloc: Global, row: &Row) -> Result<Option<String>> {
     let ends = row.ends;
     if ends.turns > 0 {
         return late(alloc, row);
+    }
+    if row.frames.is_none() && ends.frames == 0 {
+        return twice(alloc, row);
     }
     let mut source = MemSource::new(
         row.input.to_vec(alloc)?,
@@ -45,6 +48,54 @@ pub fn difference(alloc: Global, row: &Row) -> Result<Option<String>> {
         Some(shown(alloc, "frames", frames.written())?)
     } else {
         None
+    })
+}
+
+// What a run gave, with a sum over its frames, of which there may be very many.
+#[derive(Drop)]
+struct Outcome {
+    status: u8,
+    answers: Vec<u8>,
+    frames: Tally,
+}
+
+// What the row gives, where its frames aren't compared with a text. It is run twice, and gives the same again.
+fn twice(alloc: Global, row: &Row) -> Result<Option<String>> {
+    let first = outcome(alloc, row)?;
+    let second = outcome(alloc, row)?;
+    Ok(if first.status != row.status {
+        let status = first.status;
+        Some(format!(in alloc; "status {status}")?)
+    } else if !row.answers.is_met(&first.answers) {
+        Some(shown(alloc, "answers", &first.answers)?)
+    } else if second.answers != first.answers || second.frames != first.frames {
+        Some(shown(alloc, "answers of the second run", &second.answers)?)
+    } else {
+        None
+    })
+}
+
+// What a run of the row gives.
+fn outcome(alloc: Global, row: &Row) -> Result<Outcome> {
+    let ends = row.ends;
+    let mut source = MemSource::new(
+        row.input.to_vec(alloc)?,
+        ends.piece.max(1),
+        [ends.source].to_vec(alloc)?,
+    );
+    let mut answers = sink(alloc, ANSWERS_ROOM, 64, ends.answers)?;
+    let mut frames = Tally { count: 0, sum: 0 };
+    let status = command(
+        alloc,
+        row.words.as_slice(),
+        &mut source,
+        &mut answers,
+        &mut frames,
+    );
+    Ok(Outcome {
+        status,
+        answers: answers.written().to_vec(alloc)?,
+        frames,
     })
 }
 

@@ -1,4 +1,4 @@
-//! Ends that show whether a run answers each line before it reads the next one.
+//! Ends that show whether a run answers each line before it reads the next one, and one that keeps a sum alone.
 
 ghost use Rattle.std.specs.Prelude.{None};
 
@@ -55,6 +55,29 @@ impl Sink for LineSink {
     fn write(&mut self, piece: &[u8]) -> Result<usize, Failed> {
         let lines = piece.iter().filter(|byte| **byte == b'\n').count() as u64;
         self.answered.set(self.answered.get().saturating_add(lines));
+        Ok(piece.len())
+    }
+
+    fn finish(&mut self) {}
+}
+
+/// Keeps how many bytes are written, and a sum over them that other bytes hardly have.
+#[derive(Clone, Copy, Debug, PartialEq, Eq)]
+pub struct Tally {
+    pub count: u64,
+    pub sum: u64,
+}
+
+impl Sink for Tally {
+    ghost written = { λ _. None };
+
+    ghost faults = { λ _. 0 };
+
+    fn write(&mut self, piece: &[u8]) -> Result<usize, Failed> {
+        self.count = self.count.wrapping_add(piece.len() as u64);
+        for byte in piece {
+            self.sum = self.sum.wrapping_mul(0x100_0000_01b3) ^ u64::from(*byte);
+        }
         Ok(piece.len())
     }
 

@@ -1,49 +1,40 @@
-use Rattle.std.proofs.Common.{◌≡◌, ◌∙◌, subst, arith}
-use Rattle.gate_outside.specs.Edge.{Rose}
+use Rattle.std.proofs.Common.{◌≡◌, ◌∙◌, sym, subst}
 use Rattle.script_lines.specs.declared.form.Form.{Form}
+use Rattle.script_lines.specs.declared.form.Form.TheVariants.{Text, Load}
 use Rattle.gate_script.specs.Outcomes.{Outcome, Ran}
-use Rattle.gate_script.specs.Sinks.{held}
-use Rattle.gate_script.proofs.CommandLaws.{outcome_of, same_form, read_cause, write_cause, run_later, failed_in}
+use Rattle.gate_script.proofs.LoadEndings.{load_is_used, load_ran, load_reads_none, same_form, text_is_used, text_ran, used}
 use Rattle.gate_script.proofs.commands.command.Goals as goal
 
-pub returns-clause-outcome : goal.returns-clause-outcome
-returns-clause-outcome g c = λ form is.
-    let same : c.in-Some.form ≡ form = same_form c.in-Some.form form (c.in-Some.ensures.exact ∙ is) in
-    let left = g.S.Source.left c.run-ended.new.source in
-    let b = held (g.A.Sink.written c.args.answers.now) (g.A.Sink.faults c.args.answers.now) (g.F.Sink.written c.args.frames.now) (g.F.Sink.faults c.args.frames.now) in
-    let n = held (g.A.Sink.written c.run-ended.new.answers) (g.A.Sink.faults c.run-ended.new.answers) (g.F.Sink.written c.run-ended.new.frames) (g.F.Sink.faults c.run-ended.new.frames) in
-    subst (λ (x : Form). Ran (g.S.Source.left c.args.source.now) left (g.A.Sink.written c.args.answers.now) (g.A.Sink.written c.status.new.answers) (g.F.Sink.written c.args.frames.now) (g.F.Sink.written c.run-ended.new.frames) (Outcome c.status.result x left)) same
-    (outcome_of c.in-Some.form c.status.result (g.S.Source.left c.args.source.now) left b n (g.A.Sink.written c.status.new.answers) (Rose (g.S.Source.faults c.args.source.now) (g.S.Source.faults c.run-ended.new.source)) (Rose (g.A.Sink.faults c.run-ended.new.answers) (g.A.Sink.faults c.status.new.answers)) c.run-ended.result c.run-ended.ensures.ran c.status.ensures.ended)
+-- the lines of an input
 
-pub returns-clause-read_fault : goal.returns-clause-read_fault
-returns-clause-read_fault g c = λ is.
-    let b = held (g.A.Sink.written c.args.answers.now) (g.A.Sink.faults c.args.answers.now) (g.F.Sink.written c.args.frames.now) (g.F.Sink.faults c.args.frames.now) in
-    let n = held (g.A.Sink.written c.run-ended.new.answers) (g.A.Sink.faults c.run-ended.new.answers) (g.F.Sink.written c.run-ended.new.frames) (g.F.Sink.faults c.run-ended.new.frames) in
-    let ran = c.run-ended.ensures.ran in
-    read_cause c.in-Some.form ran.bytes (g.S.Source.left c.run-ended.new.source) (Rose (g.S.Source.faults c.args.source.now) (g.S.Source.faults c.run-ended.new.source)) (Rose (g.A.Sink.faults c.run-ended.new.answers) (g.A.Sink.faults c.status.new.answers)) c.status.result (g.A.Sink.written c.status.new.answers) b n c.run-ended.result ran.holds c.status.ensures.ended is
+pub returns-in-Some-Text-clause-usage : goal.returns-in-Some-Text-clause-usage
+returns-in-Some-Text-clause-usage g c = used _ c.in-Some-Text.field-0 c.text.result (sym c.in-Some-Text.ensures.exact) (λ e. text_is_used c.text.result c.text.ensures.only e)
 
-pub returns-clause-write_fault : goal.returns-clause-write_fault
-returns-clause-write_fault g c = λ is.
-    let b = held (g.A.Sink.written c.args.answers.now) (g.A.Sink.faults c.args.answers.now) (g.F.Sink.written c.args.frames.now) (g.F.Sink.faults c.args.frames.now) in
-    let n = held (g.A.Sink.written c.run-ended.new.answers) (g.A.Sink.faults c.run-ended.new.answers) (g.F.Sink.written c.run-ended.new.frames) (g.F.Sink.faults c.run-ended.new.frames) in
-    let ran = c.run-ended.ensures.ran in
-    let Source = Rose (g.S.Source.faults c.args.source.now) (g.S.Source.faults c.run-ended.new.source) in
-    let Last = Rose (g.A.Sink.faults c.run-ended.new.answers) (g.A.Sink.faults c.status.new.answers) in
-    failed_in (g.A.Sink.faults c.args.answers.now) (g.A.Sink.faults c.run-ended.new.answers) (g.A.Sink.faults c.status.new.answers) (g.F.Sink.faults c.args.frames.now) (g.F.Sink.faults c.run-ended.new.frames)
-    (run_later c.in-Some.form ran.bytes (g.S.Source.left c.run-ended.new.source) Source Last c.status.result (g.A.Sink.written c.status.new.answers) b n c.run-ended.result ran.holds).0 c.status.ensures.later
-    (write_cause c.in-Some.form ran.bytes (g.S.Source.left c.run-ended.new.source) Source Last c.status.result (g.A.Sink.written c.status.new.answers) b n c.run-ended.result ran.holds c.status.ensures.ended is)
+pub returns-in-Some-Text-clause-nothing : goal.returns-in-Some-Text-clause-nothing
+returns-in-Some-Text-clause-nothing g c = λ e. text_is_used c.text.result c.text.ensures.only e
 
-pub returns-clause-later_answers : goal.returns-clause-later_answers
-returns-clause-later_answers g c =
-    let b = held (g.A.Sink.written c.args.answers.now) (g.A.Sink.faults c.args.answers.now) (g.F.Sink.written c.args.frames.now) (g.F.Sink.faults c.args.frames.now) in
-    let n = held (g.A.Sink.written c.run-ended.new.answers) (g.A.Sink.faults c.run-ended.new.answers) (g.F.Sink.written c.run-ended.new.frames) (g.F.Sink.faults c.run-ended.new.frames) in
-    let ran = c.run-ended.ensures.ran in
-    let l = run_later c.in-Some.form ran.bytes (g.S.Source.left c.run-ended.new.source) (Rose (g.S.Source.faults c.args.source.now) (g.S.Source.faults c.run-ended.new.source)) (Rose (g.A.Sink.faults c.run-ended.new.answers) (g.A.Sink.faults c.status.new.answers)) c.status.result (g.A.Sink.written c.status.new.answers) b n c.run-ended.result ran.holds in
-    omega (arith, l.0, c.status.ensures.later)
+pub returns-in-Some-Text-clause-outcome : goal.returns-in-Some-Text-clause-outcome
+returns-in-Some-Text-clause-outcome g c = λ form is.
+    let same : Text c.in-Some-Text.form ≡ form = sym c.in-Some-Text.field-0-is ∙ same_form c.in-Some-Text.field-0 form (c.in-Some-Text.ensures.exact ∙ is) in
+    let before = g.S.Source.left c.args.source.now in
+    let left = g.S.Source.left c.text.new.source in
+    subst (λ (x : Form). Ran before left (g.A.Sink.written c.args.answers.now) (g.A.Sink.written c.text.new.answers) (g.F.Sink.written c.args.frames.now) (g.F.Sink.written c.text.new.frames) (Outcome c.text.result x left)) same
+    (text_ran c.in-Some-Text.form c.text.result before left (g.A.Sink.written c.args.answers.now) (g.A.Sink.written c.text.new.answers) (g.F.Sink.written c.args.frames.now) (g.F.Sink.written c.text.new.frames) c.text.ensures.outcome)
 
-pub returns-clause-later_frames : goal.returns-clause-later_frames
-returns-clause-later_frames g c =
-    let b = held (g.A.Sink.written c.args.answers.now) (g.A.Sink.faults c.args.answers.now) (g.F.Sink.written c.args.frames.now) (g.F.Sink.faults c.args.frames.now) in
-    let n = held (g.A.Sink.written c.run-ended.new.answers) (g.A.Sink.faults c.run-ended.new.answers) (g.F.Sink.written c.run-ended.new.frames) (g.F.Sink.faults c.run-ended.new.frames) in
-    let ran = c.run-ended.ensures.ran in
-    (run_later c.in-Some.form ran.bytes (g.S.Source.left c.run-ended.new.source) (Rose (g.S.Source.faults c.args.source.now) (g.S.Source.faults c.run-ended.new.source)) (Rose (g.A.Sink.faults c.run-ended.new.answers) (g.A.Sink.faults c.status.new.answers)) c.status.result (g.A.Sink.written c.status.new.answers) b n c.run-ended.result ran.holds).1
+-- the lines of a load
+
+pub returns-in-Some-Load-clause-usage : goal.returns-in-Some-Load-clause-usage
+returns-in-Some-Load-clause-usage g c = used _ c.in-Some-Load.field-0 c.load.result (sym c.in-Some-Load.ensures.exact) (λ e. load_is_used c.load.result c.load.ensures.only e)
+
+pub returns-in-Some-Load-clause-nothing : goal.returns-in-Some-Load-clause-nothing
+returns-in-Some-Load-clause-nothing g c = λ e. load_is_used c.load.result c.load.ensures.only e
+
+pub returns-in-Some-Load-clause-outcome : goal.returns-in-Some-Load-clause-outcome
+returns-in-Some-Load-clause-outcome g c = λ form is.
+    let same : Load c.in-Some-Load.seed c.in-Some-Load.rounds ≡ form = sym c.in-Some-Load.field-0-is ∙ same_form c.in-Some-Load.field-0 form (c.in-Some-Load.ensures.exact ∙ is) in
+    let left = g.S.Source.left c.args.source.now in
+    subst (λ (x : Form). Ran left left (g.A.Sink.written c.args.answers.now) (g.A.Sink.written c.load.new.answers) (g.F.Sink.written c.args.frames.now) (g.F.Sink.written c.load.new.frames) (Outcome c.load.result x left)) same
+    (load_ran c.in-Some-Load.seed c.in-Some-Load.rounds c.load.result left (g.A.Sink.written c.args.answers.now) (g.A.Sink.written c.load.new.answers) (g.F.Sink.written c.args.frames.now) (g.F.Sink.written c.load.new.frames) c.load.ensures.outcome)
+
+pub returns-in-Some-Load-clause-read_fault : goal.returns-in-Some-Load-clause-read_fault
+returns-in-Some-Load-clause-read_fault g c = λ e. load_reads_none c.load.result c.load.ensures.only e

@@ -1,7 +1,7 @@
 use Rattle.std.proofs.Common.{◌≡◌, ◌∷◌, ap, sym, ◌∙◌, subst}
 use Rattle.std.specs.Prelude.{Result, Err}
 use Rattle.std.proofs.lemmas.Result.{err_from_is_err_and}
-use Rattle.script_lines.specs.declared.form.Form.{Form}
+use Rattle.script_lines.specs.declared.text_form.TextForm.{TextForm}
 use Rattle.gate_script.specs.declared.stop.Stop.{Stop}
 use Rattle.script_lines.specs.Grammar.{ending, all_lines, lines_of}
 use Rattle.gate_script.specs.Sinks.{held}
@@ -27,7 +27,7 @@ returns-in_err-piece g c = λ bytes began h.
 pub returns : goal.returns
 returns g c = λ bytes began h.
     let own = c.deref-piece.result.now in
-    let e = c.finish-2.ensures (own ∷ h.pieces) began (subst (λ (form : Form). HasDone form (own ∷ h.pieces) c.piece.new.self began (held (g.A.Sink.written c.piece.new.answers) (g.A.Sink.faults c.piece.new.answers) (g.F.Sink.written c.piece.new.frames) (g.F.Sink.faults c.piece.new.frames))) (sym c.in_ok-piece.ensures.form) (c.in_ok-piece.ensures.step h.pieces began h.has_done)) in
+    let e = c.finish-2.ensures (own ∷ h.pieces) began (subst (λ (form : TextForm). HasDone form (own ∷ h.pieces) c.piece.new.self began (held (g.A.Sink.written c.piece.new.answers) (g.A.Sink.faults c.piece.new.answers) (g.F.Sink.written c.piece.new.frames) (g.F.Sink.faults c.piece.new.frames))) (sym c.in_ok-piece.ensures.form) (c.in_ok-piece.ensures.step h.pieces began h.has_done)) in
     ended_amidst c.args.self.now.run.form bytes c.args.self.now.piece.items c.args.self.now.run c.piece.new.self began (held (g.A.Sink.written c.args.answers.now) (g.A.Sink.faults c.args.answers.now) (g.F.Sink.written c.args.frames.now) (g.F.Sink.faults c.args.frames.now)) (held (g.A.Sink.written c.finish-2.new.answers) (g.A.Sink.faults c.finish-2.new.answers) (g.F.Sink.written c.finish-2.new.frames) (g.F.Sink.faults c.finish-2.new.frames)) h own c.finish-2.result c.deref-piece.ensures.value
     (some_bytes own c.is_empty.result c.is_empty.ensures c.if-is_empty.false)
-    (subst (λ (form : Form). LastEnds (ending form (lines_of form (own ∷ h.pieces))) c.finish-2.result began (held (g.A.Sink.written c.finish-2.new.answers) (g.A.Sink.faults c.finish-2.new.answers) (g.F.Sink.written c.finish-2.new.frames) (g.F.Sink.faults c.finish-2.new.frames))) c.in_ok-piece.ensures.form e)
+    (subst (λ (form : TextForm). LastEnds (ending form (lines_of form (own ∷ h.pieces))) c.finish-2.result began (held (g.A.Sink.written c.finish-2.new.answers) (g.A.Sink.faults c.finish-2.new.answers) (g.F.Sink.written c.finish-2.new.frames) (g.F.Sink.faults c.finish-2.new.frames))) c.in_ok-piece.ensures.form e)

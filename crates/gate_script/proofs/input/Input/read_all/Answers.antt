@@ -1,7 +1,7 @@
 use Rattle.std.proofs.Common.{◌≡◌, ℕ, List, [], refl, ap, sym, ◌∙◌, subst, arith}
 use Rattle.std.specs.Prelude.{Result, Err, None}
 use Rattle.std.proofs.lemmas.Result.{err_from_is_err_and}
-use Rattle.script_lines.specs.declared.form.Form.{Form}
+use Rattle.script_lines.specs.declared.text_form.TextForm.{TextForm}
 use Rattle.gate_script.specs.declared.stop.Stop.{Stop}
 use Rattle.gate_script.specs.declared.stop.Stop.TheVariants.{NoMemory}
 use Rattle.script_lines.specs.Pieces.{first_piece}
@@ -41,7 +41,7 @@ returns-in_err-read_once-clause-step g c = λ began h.
     let e : c.from_residual-in_err-read_once.result ≡ Err stop = p.1 ∙ ap (λ (s : Stop). Err s) p.2 in
     let read = c.input.invariant.step began h in
     let w : HasCut c.input.self.run.form read.bytes c.input.self.piece.items c.input.self.run began (held (g.A.Sink.written c.input.answers) (g.A.Sink.faults c.input.answers) (g.F.Sink.written c.input.frames) (g.F.Sink.faults c.input.frames)) =
-    subst (λ (form : Form). HasCut form read.bytes c.input.self.piece.items c.input.self.run began (held (g.A.Sink.written c.input.answers) (g.A.Sink.faults c.input.answers) (g.F.Sink.written c.input.frames) (g.F.Sink.faults c.input.frames))) (sym c.input.invariant.form) read.holds in
+    subst (λ (form : TextForm). HasCut form read.bytes c.input.self.piece.items c.input.self.run began (held (g.A.Sink.written c.input.answers) (g.A.Sink.faults c.input.answers) (g.F.Sink.written c.input.frames) (g.F.Sink.faults c.input.frames))) (sym c.input.invariant.form) read.holds in
     let s = c.in_err-read_once.ensures.step (g.S.Source.left c.args.source.now) read.bytes began read.came_is w in
     record {
       bytes = s.bytes;
@@ -49,14 +49,14 @@ returns-in_err-read_once-clause-step g c = λ began h.
       holds = subst (λ (x : Result (Unit {0}) Stop). RunEnds c.args.self.now.run.form s.bytes (g.S.Source.left c.read_once.new.source) (Rose (g.S.Source.faults c.args.source.now) (g.S.Source.faults c.read_once.new.source)) x began (held (g.A.Sink.written c.read_once.new.answers) (g.A.Sink.faults c.read_once.new.answers) (g.F.Sink.written c.read_once.new.frames) (g.F.Sink.faults c.read_once.new.frames))) (sym e)
           (fault_earlier c.args.self.now.run.form s.bytes (g.S.Source.left c.read_once.new.source) (Rose (g.S.Source.faults c.input.source) (g.S.Source.faults c.read_once.new.source)) (Rose (g.S.Source.faults c.args.source.now) (g.S.Source.faults c.read_once.new.source)) stop began (held (g.A.Sink.written c.read_once.new.answers) (g.A.Sink.faults c.read_once.new.answers) (g.F.Sink.written c.read_once.new.frames) (g.F.Sink.faults c.read_once.new.frames))
           (rose-later (g.S.Source.faults c.args.source.now) (g.S.Source.faults c.input.source) (g.S.Source.faults c.read_once.new.source) c.input.invariant.later_source)
-          (subst (λ (form : Form). RunEnds form s.bytes (g.S.Source.left c.read_once.new.source) (Rose (g.S.Source.faults c.input.source) (g.S.Source.faults c.read_once.new.source)) (Err stop) began (held (g.A.Sink.written c.read_once.new.answers) (g.A.Sink.faults c.read_once.new.answers) (g.F.Sink.written c.read_once.new.frames) (g.F.Sink.faults c.read_once.new.frames))) c.input.invariant.form s.holds));
+          (subst (λ (form : TextForm). RunEnds form s.bytes (g.S.Source.left c.read_once.new.source) (Rose (g.S.Source.faults c.input.source) (g.S.Source.faults c.read_once.new.source)) (Err stop) began (held (g.A.Sink.written c.read_once.new.answers) (g.A.Sink.faults c.read_once.new.answers) (g.F.Sink.written c.read_once.new.frames) (g.F.Sink.faults c.read_once.new.frames))) c.input.invariant.form s.holds));
     }
 
 pub returns-then-not-branch-clause-step : goal.returns-then-not-branch-clause-step
 returns-then-not-branch-clause-step g c = λ began h.
     let read = c.input.invariant.step began h in
     let w : HasCut c.input.self.run.form read.bytes c.input.self.piece.items c.input.self.run began (held (g.A.Sink.written c.input.answers) (g.A.Sink.faults c.input.answers) (g.F.Sink.written c.input.frames) (g.F.Sink.faults c.input.frames)) =
-    subst (λ (form : Form). HasCut form read.bytes c.input.self.piece.items c.input.self.run began (held (g.A.Sink.written c.input.answers) (g.A.Sink.faults c.input.answers) (g.F.Sink.written c.input.frames) (g.F.Sink.faults c.input.frames))) (sym c.input.invariant.form) read.holds in
+    subst (λ (form : TextForm). HasCut form read.bytes c.input.self.piece.items c.input.self.run began (held (g.A.Sink.written c.input.answers) (g.A.Sink.faults c.input.answers) (g.F.Sink.written c.input.frames) (g.F.Sink.faults c.input.frames))) (sym c.input.invariant.form) read.holds in
     let s = c.in_ok-read_once.ensures.step (g.S.Source.left c.args.source.now) read.bytes began read.came_is w in
     record {
       bytes = s.bytes;
@@ -69,19 +69,19 @@ pub input-preserved : goal.input-preserved
 input-preserved g c = record {
   ready = c.in_ok-read_once.ensures.ready;
   form = c.in_ok-read_once.ensures.form ∙ c.input.invariant.form;
-  begun = subst (λ (form : Form). first_piece (most_of form) c.read_once.new.self.piece.items ≡ None) c.input.invariant.form c.in_ok-read_once.ensures.begun;
+  begun = subst (λ (form : TextForm). first_piece (most_of form) c.read_once.new.self.piece.items ≡ None) c.input.invariant.form c.in_ok-read_once.ensures.begun;
   counts = omega (arith, c.in_ok-read_once.ensures.grows c.if-not-branch.false, c.input.invariant.counts);
   room = c.input.invariant.room;
   later_source = omega (arith, c.in_ok-read_once.ensures.later, c.input.invariant.later_source);
   step = λ began h.
       let read = c.input.invariant.step began h in
       let w : HasCut c.input.self.run.form read.bytes c.input.self.piece.items c.input.self.run began (held (g.A.Sink.written c.input.answers) (g.A.Sink.faults c.input.answers) (g.F.Sink.written c.input.frames) (g.F.Sink.faults c.input.frames)) =
-      subst (λ (form : Form). HasCut form read.bytes c.input.self.piece.items c.input.self.run began (held (g.A.Sink.written c.input.answers) (g.A.Sink.faults c.input.answers) (g.F.Sink.written c.input.frames) (g.F.Sink.faults c.input.frames))) (sym c.input.invariant.form) read.holds in
+      subst (λ (form : TextForm). HasCut form read.bytes c.input.self.piece.items c.input.self.run began (held (g.A.Sink.written c.input.answers) (g.A.Sink.faults c.input.answers) (g.F.Sink.written c.input.frames) (g.F.Sink.faults c.input.frames))) (sym c.input.invariant.form) read.holds in
       let s = c.in_ok-read_once.ensures.step (g.S.Source.left c.args.source.now) read.bytes began read.came_is w in
       record {
         bytes = s.bytes;
         came_is = s.came_is;
-        holds = subst (λ (form : Form). HasCut form s.bytes c.read_once.new.self.piece.items c.read_once.new.self.run began (held (g.A.Sink.written c.read_once.new.answers) (g.A.Sink.faults c.read_once.new.answers) (g.F.Sink.written c.read_once.new.frames) (g.F.Sink.faults c.read_once.new.frames))) c.input.invariant.form s.holds.1;
+        holds = subst (λ (form : TextForm). HasCut form s.bytes c.read_once.new.self.piece.items c.read_once.new.self.run began (held (g.A.Sink.written c.read_once.new.answers) (g.A.Sink.faults c.read_once.new.answers) (g.F.Sink.written c.read_once.new.frames) (g.F.Sink.faults c.read_once.new.frames))) c.input.invariant.form s.holds.1;
       };
 }
 

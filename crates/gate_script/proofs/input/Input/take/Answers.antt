@@ -1,7 +1,7 @@
 use Rattle.std.proofs.Common.{◌≡◌, ℕ, ◌+◌, ◌-◌, List, ◌++◌, length, take, drop, refl, ap, sym, ◌∙◌, subst, arith}
 use Rattle.std.specs.Prelude.{Result, Err, None}
 use Rattle.std.proofs.lemmas.Result.{err_from_is_err_and}
-use Rattle.script_lines.specs.declared.form.Form.{Form}
+use Rattle.script_lines.specs.declared.text_form.TextForm.{TextForm}
 use Rattle.gate_script.specs.declared.stop.Stop.{Stop}
 use Rattle.script_lines.specs.Pieces.{first_piece}
 use Rattle.script_lines.specs.Grammar.{most_of, whole_lines}
@@ -21,9 +21,9 @@ returns-in_err-at-clause-step g c = λ before began h.
     let place = c.loop-at.at in
     let rest : List ℕ = take (length bytes - place) (drop place bytes) in
     let w : HasCut c.loop-at.self.run.form (before ++ take place bytes) c.loop-at.self.piece.items c.loop-at.self.run began (held (g.A.Sink.written c.loop-at.answers) (g.A.Sink.faults c.loop-at.answers) (g.F.Sink.written c.loop-at.frames) (g.F.Sink.faults c.loop-at.frames)) =
-    subst (λ (form : Form). HasCut form (before ++ take place bytes) c.loop-at.self.piece.items c.loop-at.self.run began (held (g.A.Sink.written c.loop-at.answers) (g.A.Sink.faults c.loop-at.answers) (g.F.Sink.written c.loop-at.frames) (g.F.Sink.faults c.loop-at.frames))) (sym c.loop-at.invariant.form) (c.loop-at.invariant.step before began h) in
+    subst (λ (form : TextForm). HasCut form (before ++ take place bytes) c.loop-at.self.piece.items c.loop-at.self.run began (held (g.A.Sink.written c.loop-at.answers) (g.A.Sink.faults c.loop-at.answers) (g.F.Sink.written c.loop-at.frames) (g.F.Sink.faults c.loop-at.frames))) (sym c.loop-at.invariant.form) (c.loop-at.invariant.step before began h) in
     subst (λ (x : Result (Unit {0}) Stop). BytesEnd c.args.self.now.run.form (before ++ bytes) x c.take_part.new.self.piece.items c.take_part.new.self.run began (held (g.A.Sink.written c.take_part.new.answers) (g.A.Sink.faults c.take_part.new.answers) (g.F.Sink.written c.take_part.new.frames) (g.F.Sink.faults c.take_part.new.frames))) (sym e)
-    (subst (λ (form : Form). StoppedIn (whole_lines form (before ++ bytes)) stop began (held (g.A.Sink.written c.take_part.new.answers) (g.A.Sink.faults c.take_part.new.answers) (g.F.Sink.written c.take_part.new.frames) (g.F.Sink.faults c.take_part.new.frames))) c.loop-at.invariant.form
+    (subst (λ (form : TextForm). StoppedIn (whole_lines form (before ++ bytes)) stop began (held (g.A.Sink.written c.take_part.new.answers) (g.A.Sink.faults c.take_part.new.answers) (g.F.Sink.written c.take_part.new.frames) (g.F.Sink.faults c.take_part.new.frames))) c.loop-at.invariant.form
     (subst (λ (b : List ℕ). StoppedIn (whole_lines c.loop-at.self.run.form b) stop began (held (g.A.Sink.written c.take_part.new.answers) (g.A.Sink.faults c.take_part.new.answers) (g.F.Sink.written c.take_part.new.frames) (g.F.Sink.faults c.take_part.new.frames))) (taken-all before bytes place) (c.in_err-at.ensures.step (before ++ take place bytes) began w)))
 
 pub loop-at-init : goal.loop-at-init
@@ -41,7 +41,7 @@ loop-at-preserved g c = record {
   within = omega (arith, c.in_ok-at.ensures.within, c.loop-at-test.true);
   ready = c.in_ok-at.ensures.ready;
   form = c.in_ok-at.ensures.form ∙ c.loop-at.invariant.form;
-  begun = subst (λ (form : Form). first_piece (most_of form) c.take_part.new.self.piece.items ≡ None) c.loop-at.invariant.form c.in_ok-at.ensures.begun;
+  begun = subst (λ (form : TextForm). first_piece (most_of form) c.take_part.new.self.piece.items ≡ None) c.loop-at.invariant.form c.in_ok-at.ensures.begun;
   grows = omega (arith, c.in_ok-at.ensures.grows, c.loop-at.invariant.grows);
   step = λ before began h.
       let bytes = c.args.bytes.now in
@@ -49,8 +49,8 @@ loop-at-preserved g c = record {
       let n = c.in_ok-at.field-0 in
       let rest : List ℕ = take (length bytes - place) (drop place bytes) in
       let w : HasCut c.loop-at.self.run.form (before ++ take place bytes) c.loop-at.self.piece.items c.loop-at.self.run began (held (g.A.Sink.written c.loop-at.answers) (g.A.Sink.faults c.loop-at.answers) (g.F.Sink.written c.loop-at.frames) (g.F.Sink.faults c.loop-at.frames)) =
-      subst (λ (form : Form). HasCut form (before ++ take place bytes) c.loop-at.self.piece.items c.loop-at.self.run began (held (g.A.Sink.written c.loop-at.answers) (g.A.Sink.faults c.loop-at.answers) (g.F.Sink.written c.loop-at.frames) (g.F.Sink.faults c.loop-at.frames))) (sym c.loop-at.invariant.form) (c.loop-at.invariant.step before began h) in
-      subst (λ (form : Form). HasCut form (before ++ take (place + n) bytes) c.take_part.new.self.piece.items c.take_part.new.self.run began (held (g.A.Sink.written c.take_part.new.answers) (g.A.Sink.faults c.take_part.new.answers) (g.F.Sink.written c.take_part.new.frames) (g.F.Sink.faults c.take_part.new.frames))) c.loop-at.invariant.form
+      subst (λ (form : TextForm). HasCut form (before ++ take place bytes) c.loop-at.self.piece.items c.loop-at.self.run began (held (g.A.Sink.written c.loop-at.answers) (g.A.Sink.faults c.loop-at.answers) (g.F.Sink.written c.loop-at.frames) (g.F.Sink.faults c.loop-at.frames))) (sym c.loop-at.invariant.form) (c.loop-at.invariant.step before began h) in
+      subst (λ (form : TextForm). HasCut form (before ++ take (place + n) bytes) c.take_part.new.self.piece.items c.take_part.new.self.run began (held (g.A.Sink.written c.take_part.new.answers) (g.A.Sink.faults c.take_part.new.answers) (g.F.Sink.written c.take_part.new.frames) (g.F.Sink.faults c.take_part.new.frames))) c.loop-at.invariant.form
       (subst (λ (b : List ℕ). HasCut c.loop-at.self.run.form b c.take_part.new.self.piece.items c.take_part.new.self.run began (held (g.A.Sink.written c.take_part.new.answers) (g.A.Sink.faults c.take_part.new.answers) (g.F.Sink.written c.take_part.new.frames) (g.F.Sink.faults c.take_part.new.frames))) (taken before bytes place n) (c.in_ok-at.ensures.step (before ++ take place bytes) began w));
 }
 
