@@ -15,7 +15,7 @@ use crate::reading::{TunnelEnd, TunnelRefusal, tunnel_read};
 use crate::refusal::Refusal;
 use crate::tunnel::Tunnel;
 use gate_model::Bytes;
-use gate_outside::Bell;
+use gate_outside::{Bell, MemBell};
 use guac_handshake::Door;
 use id_table::Shelf;
 use shared_desk::{Place, ReaderPass};
@@ -223,7 +223,8 @@ fn answer_of(
     }
 }
 
-// Reads with a reader's pass that was taken out.
+// Reads with a reader's pass that was taken out. Where text is kept, there is something to answer with, so it doesn't
+// wait.
 fn read_lent<R: Wait, B: Bell>(
     rt: &R,
     alloc: Global,
@@ -236,7 +237,11 @@ fn read_lent<R: Wait, B: Bell>(
     ensures read { (text : List ℕ) × (end : Result TunnelEnd TunnelRefusal) × HasRead reader.old.viewer reader.old.view reader.new.view text end × IsAnswered kept text end result.0 result.1 }
 {
     let mut text = kept.into_inner();
-    let end = tunnel_read(rt, reader, bell, &mut text);
+    let end = if text.is_empty() {
+        tunnel_read(rt, reader, bell, &mut text)
+    } else {
+        tunnel_read(rt, reader, &MemBell::new(), &mut text)
+    };
     answer_of(alloc, end, Bytes::of(text))
 }
 
