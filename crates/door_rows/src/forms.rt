@@ -1,11 +1,11 @@
 //! Forms of HTTP requests that are asked of a door.
 
 use crate::calls::door;
-use row_words::bytes_of;
 use anyhow::Result;
 use gate_model::Share;
 use guac_handshake::memory::MemDoor;
 use guac_handshake::{FormRefusal, Refused, open_form};
+use row_words::bytes_of;
 use std::alloc::Global;
 use std::sync::Wait;
 use std::thread::Threads;

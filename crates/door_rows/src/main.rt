@@ -13,8 +13,8 @@ mod service;
 mod topics;
 
 use crate::topics::value;
-use row_words::bytes_of;
 use anyhow::{Context, Result};
+use row_words::bytes_of;
 use std::rt::{Env, Files};
 use std::sync::Wait;
 use std::thread::Threads;

@@ -2,11 +2,11 @@
 
 use crate::calls::{Call, Done, door, greeted};
 use crate::forms::{ask_of, form, undialed};
-use row_words::{bytes_of, push_escaped};
 use crate::{forms, service};
 use anyhow::{Context, Result, bail};
 use guac_handshake::Greeted;
 use guac_handshake::memory::{MemDoor, MemPlace};
+use row_words::{bytes_of, push_escaped};
 use std::alloc::Global;
 use std::sync::Wait;
 use std::thread::Threads;

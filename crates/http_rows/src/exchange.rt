@@ -30,7 +30,7 @@ pub fn exchange<R: Threads + Wait + Copy + Send + 'static>(
 ) -> Result<Option<Answered>> {
     let mut source = source_of(alloc, bytes, piece)?;
     match response_to(rt, alloc, service, &mut source) {
-        Some(response) => answered(alloc, response),
+        Some(response) => whole(alloc, response),
         None => Ok(None),
     }
 }
@@ -56,7 +56,7 @@ fn response_to<R: Threads + Wait + Copy + Send + 'static>(
     }
 }
 
-fn answered(alloc: Global, response: Response) -> Result<Option<Answered>> {
+fn whole(alloc: Global, response: Response) -> Result<Option<Answered>> {
     let text = written(alloc, &response)?;
     Ok(Some(Answered { response, text }))
 }
