@@ -2,13 +2,12 @@
 
 /// The bytes from the last place on where the mark stands, or all of them.
 pub fn from_last<'a>(bytes: &'a [u8], mark: &[u8]) -> &'a [u8] {
-    let mut rest = bytes;
     let mut found = bytes;
-    while !rest.is_empty() {
+    for at in 0..bytes.len() {
+        let (_, rest) = bytes.split_at(at);
         if rest.starts_with(mark) {
             found = rest;
         }
-        rest = rest.get(1..).unwrap_or(b"");
     }
     found
 }

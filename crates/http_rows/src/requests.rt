@@ -73,5 +73,7 @@ fn response_of(alloc: Global, input: &str) -> Result<Response> {
 // A sink whose write of this number fails.
 fn sink_of(alloc: Global, write: &str) -> Result<MemSink> {
     let fail = [write.parse::<u64>()?].to_vec(alloc)?;
-    MemSink::new(alloc, ROOM, 50, fail).ok().context("no memory")
+    MemSink::new(alloc, ROOM, 50, fail)
+        .ok()
+        .context("no memory")
 }

@@ -160,7 +160,10 @@ fn told(alloc: Global, text: &[u8]) -> Result<String> {
 fn stamps(alloc: Global, text: &[u8]) -> Result<Vec<u64>> {
     let mut stamps = Vec::new(alloc);
     let mut rest = text;
-    while let Some((_, behind)) = split_at_first(rest, b"4.sync,") {
+    for _ in 0..text.len() {
+        let Some((_, behind)) = split_at_first(rest, b"4.sync,") else {
+            break;
+        };
         let (element, after) = split_at_first(behind, b";").context("no end")?;
         let (_, digits) = split_at_first(element, b".").context("no stamp")?;
         stamps.push(str::from_utf8(digits)?.parse::<u64>()?)?;
