@@ -16,7 +16,6 @@ mod service;
 mod steps;
 mod topics;
 mod trials;
-mod twice;
 
 use crate::topics::value;
 use anyhow::{Context, Result};

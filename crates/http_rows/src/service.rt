@@ -37,17 +37,6 @@ impl Service {
         })
     }
 
-    /// A service with the same tunnels and a door of its own.
-    pub fn another(&self, alloc: Global) -> Result<Service> {
-        let dice = dice(alloc)?;
-        Ok(Service {
-            tunnels: self.tunnels.another(),
-            door: DeskDoor::new(0),
-            dice,
-            bell: MemBell::new(),
-        })
-    }
-
     /// Answers a request.
     pub fn answer<R: Threads + Wait + Copy + Send + 'static>(
         &mut self,
