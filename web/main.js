@@ -9,8 +9,6 @@ import { Rest } from './rest.js';
 import { Refusal, Tunnel } from './tunnel.js';
 
 const at = (id) => document.getElementById(id);
-// After how many milliseconds a first read that waits is stirred.
-const STIR = 100;
 // Beside the page, without the login that an address may have: no request can be made to an address that has one.
 const PATH = location.origin + new URL('tunnel', location.href).pathname;
 
@@ -34,15 +32,6 @@ class View {
 
   /** Shows what the viewer is given until the session is over, and answers why it is. */
   async run() {
-    // A first read waits for something to happen, though the screen is there to be shown: so something is sent.
-    const stirring = setInterval(() => this.#tunnel.write(textOf('nop')).catch(() => {}), STIR);
-    const first = await this.#tunnel.read().finally(() => clearInterval(stirring));
-    const why = this.#play(first);
-    return why ?? this.#follow();
-  }
-
-  // The same behind the first read.
-  async #follow() {
     for (;;) {
       const text = await this.#tunnel.read();
       const why = this.#play(text);

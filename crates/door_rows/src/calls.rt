@@ -8,11 +8,11 @@ use std::alloc::Global;
 use std::sync::Wait;
 use std::thread::Threads;
 
-// The bytes 00 to 0f, which every draw gives.
-const DRAW: [u8; 16] = [0, 1, 2, 3, 4, 5, 6, 7, 8, 9, 10, 11, 12, 13, 14, 15];
+/// The bytes 00 to 0f, which every draw gives.
+pub const DRAW: [u8; 16] = [0, 1, 2, 3, 4, 5, 6, 7, 8, 9, 10, 11, 12, 13, 14, 15];
 
-// The room of a sink.
-const ROOM: usize = 4096;
+/// The room of a client's sink.
+pub const ROOM: usize = 4096;
 
 /// What a client sends, how many bytes a read gives at most, and which calls fail, by their numbers, counted
 /// from 1; 0 for none.
@@ -72,12 +72,13 @@ pub fn greeted<R: Threads + Wait + Copy + Send + 'static>(
     })
 }
 
-fn source(alloc: Global, text: &[u8], piece: usize, fail: u64) -> Result<MemSource> {
+/// A source of the text.
+pub fn source(alloc: Global, text: &[u8], piece: usize, fail: u64) -> Result<MemSource> {
     Ok(MemSource::new(text.to_vec(alloc)?, piece.max(1), [fail].to_vec(alloc)?))
 }
 
-// A sink that takes all of a piece at once, where there is room.
-fn sink(alloc: Global, room: usize, fail: u64) -> Result<MemSink> {
+/// A sink that takes all of a piece at once, where there is room.
+pub fn sink(alloc: Global, room: usize, fail: u64) -> Result<MemSink> {
     MemSink::new(alloc, room, ROOM, [fail].to_vec(alloc)?)
         .ok()
         .context("no memory")

@@ -8,13 +8,13 @@
 #![tactic(auto)]
 
 mod calls;
+mod forms;
+mod service;
 mod topics;
-mod web;
-mod words;
 
 use crate::topics::value;
-use crate::words::bytes_of;
 use anyhow::{Context, Result};
+use row_words::bytes_of;
 use std::rt::{Env, Files};
 use std::sync::Wait;
 use std::thread::Threads;

@@ -1,12 +1,12 @@
 //! Which door the clients of a file call at, and what is looked at.
 
 use crate::calls::{Call, Done, door, greeted};
-use crate::web;
-use crate::web::{ask_of, form, request, response, undialed};
-use crate::words::{bytes_of, push_escaped};
+use crate::forms::{ask_of, form, undialed};
+use crate::{forms, service};
 use anyhow::{Context, Result, bail};
 use guac_handshake::Greeted;
 use guac_handshake::memory::{MemDoor, MemPlace};
+use row_words::{bytes_of, push_escaped};
 use std::alloc::Global;
 use std::sync::Wait;
 use std::thread::Threads;
@@ -28,11 +28,10 @@ pub fn value<R: Threads + Wait + Copy + Send + 'static>(
         "members" => member(rt, alloc, input),
         "asks" => asked(rt, alloc, input),
         "ends" => end(rt, alloc, input),
-        "requests" => request(alloc, input),
-        "responses" => response(alloc, input),
         "forms" => form(rt, alloc, input),
         "undialed_forms" => undialed(rt, alloc, input),
-        "member_forms" => web::member(rt, alloc, input),
+        "member_forms" => forms::member(rt, alloc, input),
+        "service" => service::answer(rt, alloc, input),
         _ => bail!("no such topic"),
     }
 }
