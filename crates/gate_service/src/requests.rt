@@ -63,6 +63,8 @@ where
     ensures ended { result ≡ HttpEnd.Ended → AtEnd (S.left source.new) }
     ensures read_fault { result ≡ HttpEnd.ReadFault → Rose (S.faults source.old) (S.faults source.new) }
     ensures write_fault { result ≡ HttpEnd.WriteFault → Rose (K.faults sink.old) (K.faults sink.new) }
+    ensures later_dials { D.dial_faults door.old ≤ D.dial_faults door.new }
+    ensures later_starts { D.start_faults door.old ≤ D.start_faults door.new }
     ensures later_reads { S.faults source.old ≤ S.faults source.new }
     ensures later_writes { K.faults sink.old ≤ K.faults sink.new }
 {
@@ -95,6 +97,8 @@ where
     ensures due { IfOk result (IsDue (IsAnswer D.id_of (D.sessions door.old) (D.sessions door.new) (D.draws door.old) (D.asked door.old) (D.asked door.new) (D.out door.old) (D.out door.new) (T.told tunnels.old) (T.told tunnels.new) (Rose (D.dial_faults door.old) (D.dial_faults door.new)) (Rose (D.start_faults door.old) (D.start_faults door.new))) ((door.new ≡ door.old) × (tunnels.new ≡ tunnels.old) × (dice.new ≡ dice.old)) incoming.entry) }
     ensures silent { IfErr result (IsSilent incoming.entry) }
     ensures nothing { OnErr result ((door.new ≡ door.old) × (tunnels.new ≡ tunnels.old) × (dice.new ≡ dice.old)) }
+    ensures later_dials { D.dial_faults door.old ≤ D.dial_faults door.new }
+    ensures later_starts { D.start_faults door.old ≤ D.start_faults door.new }
 {
     match incoming {
         Incoming::Whole(request) => Ok(tunnel_request(

@@ -95,8 +95,8 @@ where
     ensures forbidden { result ≡ ends.User (users.Refused 771) → HasRefused (D.sessions door.new) Forbidden }
     ensures too_many { result ≡ ends.User (users.Refused 797) → HasRefused (D.sessions door.new) TooMany }
 
-    ensures later_dials { IfUser result (λ end. D.dial_faults door.old ≤ D.dial_faults door.new) }
-    ensures later_starts { IfUser result (λ end. D.start_faults door.old ≤ D.start_faults door.new) }
+    ensures later_dials { D.dial_faults door.old ≤ D.dial_faults door.new }
+    ensures later_starts { D.start_faults door.old ≤ D.start_faults door.new }
     ensures later_reads { S.faults (source_of source.old) ≤ S.faults (source_of source.new) }
     ensures later_writes { K.faults sink.old ≤ K.faults sink.new }
 {

@@ -1,6 +1,6 @@
 //! One request, answered.
 
-ghost use Rattle.std.specs.Prelude.{◌≡◌, ℕ, List, Err, Result};
+ghost use Rattle.std.specs.Prelude.{◌≡◌, ◌≤◌, ℕ, List, Err, Result};
 ghost use Rattle.gate_outside.specs.Edge.{Rose};
 ghost use Rattle.http_tunnel.specs.Requests.{IsResponse, Serves, without_body};
 ghost use Rattle.http_tunnel.specs.Routes.{IsAsked, route_of};
@@ -70,6 +70,8 @@ where
     ensures served { Serves D.id_of (D.sessions door.old) (D.sessions door.new) (D.draws door.old) (D.asked door.old) (D.asked door.new) (D.out door.old) (D.out door.new) (T.told tunnels.old) (T.told tunnels.new) body.now result route }
     ensures dial { result ≡ Err Dial → Rose (D.dial_faults door.old) (D.dial_faults door.new) }
     ensures busy { result ≡ Err Busy → Rose (D.start_faults door.old) (D.start_faults door.new) }
+    ensures later_dials { D.dial_faults door.old ≤ D.dial_faults door.new }
+    ensures later_starts { D.start_faults door.old ≤ D.start_faults door.new }
 {
     match route {
         Route::Connect => connect(rt, alloc, tunnels, body, door, dice),
@@ -106,6 +108,8 @@ where
     ensures answered { (answered : Result (List ℕ) Refusal) × IsResponse answered result × Serves D.id_of (D.sessions door.old) (D.sessions door.new) (D.draws door.old) (D.asked door.old) (D.asked door.new) (D.out door.old) (D.out door.new) (T.told tunnels.old) (T.told tunnels.new) request.now.body.now answered (route_of request.now.method request.now.target.now) }
     ensures dial { result.status ≡ 502 → Rose (D.dial_faults door.old) (D.dial_faults door.new) }
     ensures busy { result.status ≡ 503 → Rose (D.start_faults door.old) (D.start_faults door.new) }
+    ensures later_dials { D.dial_faults door.old ≤ D.dial_faults door.new }
+    ensures later_starts { D.start_faults door.old ≤ D.start_faults door.new }
 {
     let route = find_route(
         request.method.as_str().as_bytes(),

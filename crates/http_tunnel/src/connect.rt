@@ -102,6 +102,8 @@ where
     ensures out { D.out door.new ≡ out_after result (D.out door.old) }
     ensures dial { result ≡ Err Dial → Rose (D.dial_faults door.old) (D.dial_faults door.new) }
     ensures busy { result ≡ Err Busy → Rose (D.start_faults door.old) (D.start_faults door.new) }
+    ensures later_dials { D.dial_faults door.old ≤ D.dial_faults door.new }
+    ensures later_starts { D.start_faults door.old ≤ D.start_faults door.new }
 {
     let Ok(mut answer) = Vec::with_capacity(alloc, ID_BYTES) else {
         return Err(Refusal::NoMemory);

@@ -1,9 +1,9 @@
 //! A request for what a viewer is given.
 
-ghost use Rattle.std.specs.Prelude.{◌≡◌, ◌||◌, ℕ, List, Bool, true, IfErr, IfSome, Some, None, Result};
+ghost use Rattle.std.specs.Prelude.{◌≡◌, ◌||◌, ◌++◌, ℕ, List, Bool, true, IfErr, IfSome, Some, None, Result};
 ghost use Rattle.id_table.specs.Maps.{Changed, IsLent, Told};
 ghost use Rattle.http_tunnel.specs.Places.{HasGiven, IsOfTunnel};
-ghost use Rattle.http_tunnel.specs.Reads.{HasRead};
+ghost use Rattle.http_tunnel.specs.Reads.{HasRead, mark_of};
 ghost use Rattle.http_tunnel.specs.Requests.{IsTunnelRefusal};
 ghost use Rattle.http_tunnel.specs.Tunnels.{AreHome, GivesReader, HasBegun, HasEnded, HasEndedOf, HasTaken, HasTakenFrom, IsAnswered, ReadOf, answer_with, is_end, is_last, kept_with, less_one, refused_read};
 ghost use Rattle.http_tunnel.specs.declared.reading.TunnelEnd.{TunnelEnd};
@@ -15,7 +15,7 @@ use crate::reading::{TunnelEnd, TunnelRefusal, tunnel_read};
 use crate::refusal::Refusal;
 use crate::tunnel::Tunnel;
 use gate_model::Bytes;
-use gate_outside::Bell;
+use gate_outside::{Bell, MemBell};
 use guac_handshake::Door;
 use id_table::Shelf;
 use shared_desk::{Place, ReaderPass};
@@ -131,7 +131,9 @@ fn remove_read<R: Wait, T: Shelf<Tunnel>, D: Door<Place = Place>>(
     reader: ReaderPass,
 )
     requires { IfSome (T.told tunnels.old) (λ m. (t : Tunnel) × (m id.now ≡ Some (Some t))) }
-    ensures { (back : Bool) × (D.out door.new ≡ less_one back (D.out door.old)) × HasGiven D.id_of (IsOfTunnel id.now (T.told tunnels.old)) back (D.sessions door.old) (D.sessions door.new) × Told (T.told tunnels.old) (T.told tunnels.new) (λ m n. (back ≡ true) × Changed id.now None m n) }
+    ensures given { (back : Bool) × (D.out door.new ≡ less_one back (D.out door.old)) × HasGiven D.id_of (IsOfTunnel id.now (T.told tunnels.old)) back (D.sessions door.old) (D.sessions door.new) × Told (T.told tunnels.old) (T.told tunnels.new) (λ m n. (back ≡ true) × Changed id.now None m n) }
+    ensures dials { D.dial_faults door.new ≡ D.dial_faults door.old }
+    ensures starts { D.start_faults door.new ≡ D.start_faults door.old }
 {
     match tunnels.remove(rt, id) {
         Some(tunnel) => give(rt, door, tunnel, reader),
@@ -167,7 +169,9 @@ fn end_lent<R: Wait, T: Shelf<Tunnel>, D: Door<Place = Place>>(
     left: Left,
 )
     requires { IfSome (T.told tunnels.old) (IsLent id.now) }
-    ensures { (back : Bool) × (D.out door.new ≡ less_one back (D.out door.old)) × HasGiven D.id_of (λ name. IfSome (T.told tunnels.old) (λ _. name ≡ tunnel.id)) back (D.sessions door.old) (D.sessions door.new) × Told (T.told tunnels.old) (T.told tunnels.new) (HasEndedOf id.now tunnel reader left back) }
+    ensures given { (back : Bool) × (D.out door.new ≡ less_one back (D.out door.old)) × HasGiven D.id_of (λ name. IfSome (T.told tunnels.old) (λ _. name ≡ tunnel.id)) back (D.sessions door.old) (D.sessions door.new) × Told (T.told tunnels.old) (T.told tunnels.new) (HasEndedOf id.now tunnel reader left back) }
+    ensures dials { D.dial_faults door.new ≡ D.dial_faults door.old }
+    ensures starts { D.start_faults door.new ≡ D.start_faults door.old }
 {
     if goes(&left, &tunnel) {
         tunnels.back(rt, id, tunnel);
@@ -189,7 +193,9 @@ fn end_read<R: Wait, T: Shelf<Tunnel>, D: Door<Place = Place>>(
     left: Left,
 )
     requires { IfSome (T.told tunnels.old) (λ m. (t : Tunnel) × (m id.now ≡ Some (Some t))) }
-    ensures { (back : Bool) × (D.out door.new ≡ less_one back (D.out door.old)) × HasGiven D.id_of (IsOfTunnel id.now (T.told tunnels.old)) back (D.sessions door.old) (D.sessions door.new) × Told (T.told tunnels.old) (T.told tunnels.new) (HasEnded id.now reader left back) }
+    ensures given { (back : Bool) × (D.out door.new ≡ less_one back (D.out door.old)) × HasGiven D.id_of (IsOfTunnel id.now (T.told tunnels.old)) back (D.sessions door.old) (D.sessions door.new) × Told (T.told tunnels.old) (T.told tunnels.new) (HasEnded id.now reader left back) }
+    ensures dials { D.dial_faults door.new ≡ D.dial_faults door.old }
+    ensures starts { D.start_faults door.new ≡ D.start_faults door.old }
 {
     match tunnels.lend(rt, id) {
         Some(tunnel) => end_lent(rt, tunnels, id, door, tunnel, reader, left),
@@ -223,6 +229,24 @@ fn answer_of(
     }
 }
 
+// Reads behind the text that is kept. Where there is some, it answers the request, so nothing is waited for.
+fn read_behind<R: Wait, B: Bell>(
+    rt: &R,
+    reader: &mut ReaderPass,
+    text: &mut Vec<u8>,
+    bell: &B,
+) -> Result<TunnelEnd, TunnelRefusal>
+    ensures session { reader.new.session ≡ reader.old.session }
+    ensures viewer { reader.new.viewer ≡ reader.old.viewer }
+    ensures read { (given : List ℕ) × (text.new.items ≡ text.old.items ++ (given ++ mark_of result)) × HasRead reader.old.viewer reader.old.view reader.new.view given result }
+{
+    if text.is_empty() {
+        tunnel_read(rt, reader, bell, text)
+    } else {
+        tunnel_read(rt, reader, &MemBell::new(), text)
+    }
+}
+
 // Reads with a reader's pass that was taken out.
 fn read_lent<R: Wait, B: Bell>(
     rt: &R,
@@ -236,7 +260,7 @@ fn read_lent<R: Wait, B: Bell>(
     ensures read { (text : List ℕ) × (end : Result TunnelEnd TunnelRefusal) × HasRead reader.old.viewer reader.old.view reader.new.view text end × IsAnswered kept text end result.0 result.1 }
 {
     let mut text = kept.into_inner();
-    let end = tunnel_read(rt, reader, bell, &mut text);
+    let end = read_behind(rt, reader, &mut text, bell);
     answer_of(alloc, end, Bytes::of(text))
 }
 
@@ -254,6 +278,8 @@ pub(crate) fn read<R: Wait, T: Shelf<Tunnel>, D: Door<Place = Place>, B: Bell>(
     ensures home { AreHome (T.told tunnels.new) }
     ensures kind { IfErr result IsTunnelRefusal }
     ensures read { (back : Bool) × (D.out door.new ≡ less_one back (D.out door.old)) × HasGiven D.id_of (IsOfTunnel id.now (T.told tunnels.old)) back (D.sessions door.old) (D.sessions door.new) × Told (T.told tunnels.old) (T.told tunnels.new) (ReadOf id.now back result) }
+    ensures dials { D.dial_faults door.new ≡ D.dial_faults door.old }
+    ensures starts { D.start_faults door.new ≡ D.start_faults door.old }
 {
     match begin_read(rt, alloc, tunnels, id, bell) {
         Some(lent) => {

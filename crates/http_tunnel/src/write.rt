@@ -140,7 +140,9 @@ fn remove_written<R: Wait, T: Shelf<Tunnel>, D: Door<Place = Place>>(
 )
     requires lent { IfSome (T.told tunnels.old) (IsLent id.now) }
     requires home { IfSome (T.told tunnels.old) (λ m. is_some tunnel.reader ≡ true) }
-    ensures { (back : Bool) × (D.out door.new ≡ less_one back (D.out door.old)) × HasGiven D.id_of (λ name. IfSome (T.told tunnels.old) (λ _. name ≡ tunnel.id)) back (D.sessions door.old) (D.sessions door.new) × Told (T.told tunnels.old) (T.told tunnels.new) (λ m n. (back ≡ true) × Changed id.now None m n) }
+    ensures given { (back : Bool) × (D.out door.new ≡ less_one back (D.out door.old)) × HasGiven D.id_of (λ name. IfSome (T.told tunnels.old) (λ _. name ≡ tunnel.id)) back (D.sessions door.old) (D.sessions door.new) × Told (T.told tunnels.old) (T.told tunnels.new) (λ m n. (back ≡ true) × Changed id.now None m n) }
+    ensures dials { D.dial_faults door.new ≡ D.dial_faults door.old }
+    ensures starts { D.start_faults door.new ≡ D.start_faults door.old }
 {
     let here = tunnel.reader.is_some();
     tunnel.gone = true;
@@ -164,7 +166,9 @@ fn end_write<R: Wait, T: Shelf<Tunnel>, D: Door<Place = Place>>(
 )
     requires lent { IfSome (T.told tunnels.old) (IsLent id.now) }
     requires home { IfSome (T.told tunnels.old) (λ m. is_some tunnel.reader ≡ true) }
-    ensures { (back : Bool) × (D.out door.new ≡ less_one back (D.out door.old)) × HasGiven D.id_of (λ name. IfSome (T.told tunnels.old) (λ _. name ≡ tunnel.id)) back (D.sessions door.old) (D.sessions door.new) × Told (T.told tunnels.old) (T.told tunnels.new) (HasPut id.now tunnel ended back) }
+    ensures given { (back : Bool) × (D.out door.new ≡ less_one back (D.out door.old)) × HasGiven D.id_of (λ name. IfSome (T.told tunnels.old) (λ _. name ≡ tunnel.id)) back (D.sessions door.old) (D.sessions door.new) × Told (T.told tunnels.old) (T.told tunnels.new) (HasPut id.now tunnel ended back) }
+    ensures dials { D.dial_faults door.new ≡ D.dial_faults door.old }
+    ensures starts { D.start_faults door.new ≡ D.start_faults door.old }
 {
     if ended {
         remove_written(rt, tunnels, id, door, tunnel);
@@ -187,6 +191,8 @@ pub(crate) fn write<R: Wait, T: Shelf<Tunnel>, D: Door<Place = Place>, B: Bell>(
     ensures home { AreHome (T.told tunnels.new) }
     ensures kind { IfErr result IsTunnelRefusal }
     ensures wrote { (back : Bool) × (D.out door.new ≡ less_one back (D.out door.old)) × HasGiven D.id_of (IsOfTunnel id.now (T.told tunnels.old)) back (D.sessions door.old) (D.sessions door.new) × Told (T.told tunnels.old) (T.told tunnels.new) (WriteOf id.now body.now back result) }
+    ensures dials { D.dial_faults door.new ≡ D.dial_faults door.old }
+    ensures starts { D.start_faults door.new ≡ D.start_faults door.old }
 {
     match tunnels.lend(rt, id) {
         Some(lent) => {

@@ -1,7 +1,7 @@
 //! A net in memory: connections whose bytes are given, a Telnet host that sends one letter and ends, jobs that run in
 //! the call, a clock that stands at 0, and dice that count.
 
-ghost use Rattle.std.specs.Prelude.{None};
+ghost use Rattle.std.specs.Prelude.{◌≤◌, None, length};
 
 use anyhow::Result as Outcome;
 use gate_model::NoMemory;
@@ -19,8 +19,13 @@ use std::time::{Clock as Moments, Duration};
 /// What a sink was given, for whoever looks at it.
 pub type Given = Arc<Mutex<Vec<u8>>, Global>;
 
-/// The last instruction that a viewer is given.
-pub const LAST: &[u8] = b"10.disconnect;";
+/// Where nothing is given yet.
+pub fn nothing_given(alloc: Global) -> Outcome<Given> {
+    Ok(Arc::new(alloc, Mutex::new(Vec::new(alloc)))?)
+}
+
+// The last instruction that a viewer is given.
+const LAST: &[u8] = b"10.disconnect;";
 
 // How often a source looks whether it ends, and how long it sleeps before, in milliseconds.
 const LOOKS: u64 = 3_000;
@@ -75,11 +80,12 @@ impl<R: Moments + Wait + Drop> Source for RowSource<R> {
 }
 
 // Copies the bytes from a place on, as many as there are and fit, and answers how many.
-fn copy_from(bytes: &[u8], at: usize, into: &mut [u8]) -> usize {
-    let mut count = 0usize;
+fn copy_from(bytes: &[u8], at: usize, into: &mut [u8]) -> usize
+    ensures { result ≤ length into.old }
+{
+    let count = bytes.len().saturating_sub(at).min(into.len());
     for (to, from) in into.iter_mut().zip(bytes.iter().skip(at)) {
         *to = *from;
-        count = count.saturating_add(1);
     }
     count
 }
@@ -216,29 +222,44 @@ impl<R: Copy> RowNet<R> {
     }
 
     /// Adds a connection before all others, whose client sends these bytes; a viewer's ends once it was given the
-    /// last instruction. What it is given stands in what is answered.
-    pub fn precede(&mut self, alloc: Global, bytes: &[u8], viewer: bool) -> Outcome<Given> {
-        let mut text = Vec::new(alloc);
-        text.extend_from_slice(bytes)?;
-        let given = Arc::new(alloc, Mutex::new(Vec::new(alloc)))?;
+    /// last instruction.
+    pub fn precede(
+        &mut self,
+        alloc: Global,
+        bytes: &[u8],
+        given: &Given,
+        viewer: bool,
+    ) -> Outcome<()> {
+        let source = self.source(alloc, bytes, given, viewer)?;
+        let sink = RowSink {
+            rt: self.rt,
+            given: Arc::try_clone(given)?,
+            faults: 0,
+        };
+        self.links.push((source, sink))?;
+        Ok(())
+    }
+
+    fn source(
+        &self,
+        alloc: Global,
+        bytes: &[u8],
+        given: &Given,
+        viewer: bool,
+    ) -> Outcome<RowSource<R>> {
         let until = if viewer {
-            Some(Arc::try_clone(&given)?)
+            Some(Arc::try_clone(given)?)
         } else {
             None
         };
-        let source = RowSource {
+        let mut text = Vec::new(alloc);
+        text.extend_from_slice(bytes)?;
+        Ok(RowSource {
             rt: self.rt,
             bytes: text,
             at: 0,
             until,
-        };
-        let sink = RowSink {
-            rt: self.rt,
-            given: Arc::try_clone(&given)?,
-            faults: 0,
-        };
-        self.links.push((source, sink))?;
-        Ok(given)
+        })
     }
 }
 

@@ -1,37 +1,65 @@
-//! A viewer over TCP.
+//! A TCP connection of a client, a Telnet host or a recorder.
 
 use anyhow::{Context, Result, bail};
 use std::alloc::Global;
 use std::io::{Read, Write};
-use std::net::{Ipv4Addr, TcpStream};
+use std::net::{Ipv4Addr, Shutdown, TcpListener, TcpStream};
+use std::thread;
 use std::time::Duration;
 
-/// A viewer's connection, and all that it was sent.
+// The most reads of one call.
+const READS: u32 = 100_000;
+
+// How many bytes a read gives at most.
+const PIECE: usize = 256;
+
+/// A connection, and all that came on it.
 #[derive(Drop)]
-pub struct Viewer {
+pub struct Link {
     stream: TcpStream,
     heard: Vec<u8>,
 }
 
-impl Viewer {
-    /// Dials the service.
-    pub fn dial(rt: &HostRuntime, port: u16) -> Result<Viewer> {
+impl Link {
+    /// Dials a port of this machine.
+    pub fn dial(rt: &HostRuntime, port: u16) -> Result<Link> {
         for _ in 0..100 {
             if let Ok(stream) = TcpStream::connect(rt, (Ipv4Addr::LOCALHOST, port)) {
-                stream.set_read_timeout(Some(Duration::from_secs(60)))?;
-                return Ok(Viewer {
-                    stream,
-                    heard: Vec::new(rt.alloc()),
-                });
+                return Link::over(rt.alloc(), stream);
             }
-            std::thread::sleep(rt, Duration::from_millis(20));
+            thread::sleep(rt, Duration::from_millis(20));
         }
-        bail!("the service can't be reached")
+        bail!("the port can't be reached")
+    }
+
+    /// The next connection that comes to the listener.
+    pub fn accept(alloc: Global, listener: &TcpListener) -> Result<Link> {
+        let (stream, _peer) = listener.accept()?;
+        Link::over(alloc, stream)
+    }
+
+    fn over(alloc: Global, stream: TcpStream) -> Result<Link> {
+        stream.set_read_timeout(Some(Duration::from_secs(60)))?;
+        Ok(Link {
+            stream,
+            heard: Vec::new(alloc),
+        })
+    }
+
+    /// All that came so far.
+    pub fn heard(&self) -> &[u8] {
+        self.heard.as_slice()
     }
 
     /// Sends the bytes.
     pub fn say(&mut self, bytes: &[u8]) -> Result<()> {
         self.stream.write_all(bytes)?;
+        Ok(())
+    }
+
+    /// Says that it sends no more.
+    pub fn end(&mut self) -> Result<()> {
+        self.stream.shutdown(Shutdown::Write)?;
         Ok(())
     }
 
@@ -42,9 +70,17 @@ impl Viewer {
         Ok(())
     }
 
+    // Reads once. Whether there was something.
+    fn read(&mut self) -> Result<bool> {
+        let mut piece = [0u8; PIECE];
+        let n = self.stream.read(&mut piece)?.min(PIECE);
+        self.heard.extend_from_slice(&piece[..n])?;
+        Ok(n > 0)
+    }
+
     /// Reads to the end of the connection, or to a read that fails. Whether it was the end.
     pub fn has_ended(&mut self) -> bool {
-        for _ in 0..100_000 {
+        for _ in 0..READS {
             match self.read() {
                 Ok(true) => {}
                 Ok(false) => return true,
@@ -54,17 +90,9 @@ impl Viewer {
         false
     }
 
-    // Reads once. Whether there was something.
-    fn read(&mut self) -> Result<bool> {
-        let mut piece = [0u8; 4096];
-        let n = self.stream.read(&mut piece)?.min(4096);
-        self.heard.extend_from_slice(&piece[..n])?;
-        Ok(n > 0)
-    }
-
     /// Reads until the text has come so often.
     pub fn await_text(&mut self, text: &[u8], times: usize) -> Result<()> {
-        for _ in 0..100_000 {
+        for _ in 0..READS {
             if count(&self.heard, text) >= times {
                 return Ok(());
             }
@@ -75,7 +103,17 @@ impl Viewer {
         bail!("the connection has ended too early")
     }
 
-    /// The ID that `ready` told.
+    /// Reads to the end of the connection, and answers all that came.
+    pub fn all(&mut self) -> Result<&[u8]> {
+        for _ in 0..READS {
+            if !self.read()? {
+                break;
+            }
+        }
+        Ok(self.heard.as_slice())
+    }
+
+    /// The ID that `ready` told a viewer.
     pub fn ready(&mut self, alloc: Global) -> Result<String> {
         self.await_text(b"5.ready,37.", 1)?;
         self.await_text(b";", 2)?;
@@ -85,36 +123,8 @@ impl Viewer {
             .as_slice()
             .get(at.saturating_add(11)..at.saturating_add(48))
             .context("no ID")?;
-        let mut name = String::new(alloc);
-        for byte in id {
-            name.push(char::from(*byte))?;
-        }
-        Ok(name)
-    }
-
-    /// Reads to the end of the connection, which comes behind `disconnect`.
-    pub fn ended(&mut self) -> Result<()> {
-        for _ in 0..100_000 {
-            if !self.read()? {
-                let told = self.heard.as_slice().ends_with(b"10.disconnect;");
-                return if told {
-                    Ok(())
-                } else {
-                    bail!("the end wasn't told")
-                };
-            }
-        }
-        bail!("the connection doesn't end")
-    }
-
-    /// Reads to the end of the connection, and answers all that came.
-    pub fn all(&mut self) -> Result<&[u8]> {
-        for _ in 0..100_000 {
-            if !self.read()? {
-                break;
-            }
-        }
-        Ok(self.heard.as_slice())
+        let id = std::str::from_utf8(id).ok().context("no text")?;
+        Ok(String::from_str(alloc, id)?)
     }
 }
 
