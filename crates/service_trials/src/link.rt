@@ -4,20 +4,22 @@ use anyhow::{Context, Result, bail};
 use std::alloc::Global;
 use std::io::{Read, Write};
 use std::net::{Ipv4Addr, Shutdown, TcpListener, TcpStream};
-use std::thread;
 use std::time::Duration;
+use std::{str, thread};
 
 // The most reads of one call.
 const READS: u32 = 100_000;
 
 // How many bytes a read gives at most.
-const PIECE: usize = 256;
+const PIECE: usize = 4_096;
 
 /// A connection, and all that came on it.
 #[derive(Drop)]
 pub struct Link {
     stream: TcpStream,
     heard: Vec<u8>,
+    // Behind the text that was awaited last.
+    behind: usize,
 }
 
 impl Link {
@@ -43,6 +45,7 @@ impl Link {
         Ok(Link {
             stream,
             heard: Vec::new(alloc),
+            behind: 0,
         })
     }
 
@@ -90,10 +93,10 @@ impl Link {
         false
     }
 
-    /// Reads until the text has come so often.
-    pub fn await_text(&mut self, text: &[u8], times: usize) -> Result<()> {
+    /// Reads until the text has come, behind the one that was awaited before.
+    pub fn await_text(&mut self, text: &[u8]) -> Result<()> {
         for _ in 0..READS {
-            if count(&self.heard, text) >= times {
+            if self.passes(text) {
                 return Ok(());
             }
             if !self.read()? {
@@ -101,6 +104,26 @@ impl Link {
             }
         }
         bail!("the connection has ended too early")
+    }
+
+    // Goes behind the text, if it has come; else behind all where it doesn't begin.
+    fn passes(&mut self, text: &[u8]) -> bool {
+        match find(self.unread(), text) {
+            Some(at) => {
+                self.behind = self.behind.saturating_add(at).saturating_add(text.len());
+                true
+            }
+            None => {
+                let last = self.heard.len().saturating_sub(text.len());
+                self.behind = self.behind.max(last);
+                false
+            }
+        }
+    }
+
+    // What came behind the text that was awaited last.
+    fn unread(&self) -> &[u8] {
+        self.heard.as_slice().get(self.behind..).unwrap_or(&[])
     }
 
     /// Reads to the end of the connection, and answers all that came.
@@ -113,17 +136,15 @@ impl Link {
         Ok(self.heard.as_slice())
     }
 
-    /// The ID that `ready` told a viewer.
+    /// The ID that `ready` tells a viewer.
     pub fn ready(&mut self, alloc: Global) -> Result<String> {
-        self.await_text(b"5.ready,37.", 1)?;
-        self.await_text(b";", 2)?;
-        let at = find(&self.heard, b"5.ready,37.").context("no ready")?;
-        let id = self
-            .heard
-            .as_slice()
-            .get(at.saturating_add(11)..at.saturating_add(48))
-            .context("no ID")?;
-        let id = std::str::from_utf8(id).ok().context("no text")?;
+        self.await_text(b"5.ready,37.")?;
+        let from = self.behind;
+        self.await_text(b";")?;
+        let id = self.heard.as_slice().get(from..from.saturating_add(37));
+        let id = str::from_utf8(id.context("no ID")?)
+            .ok()
+            .context("no text")?;
         Ok(String::from_str(alloc, id)?)
     }
 }

@@ -41,7 +41,7 @@ fn open(rt: &HostRuntime, stage: &Stage) -> Result<String> {
 
 fn types(rt: &HostRuntime, stage: &Stage, id: &str, host: &mut Link) -> Result<()> {
     tell_write(rt, stage, id, "a key", "3.key,2.97,1.1;")?;
-    host.await_text(b"a", 1)?;
+    host.await_text(b"a")?;
     host.say(b"a")?;
     let heard = read_to(rt, stage, id, "4.sync,1.2;")?;
     let first = count(heard.as_bytes(), b"4.sync,1.1;");
@@ -53,7 +53,7 @@ fn types(rt: &HostRuntime, stage: &Stage, id: &str, host: &mut Link) -> Result<(
 fn leaves(rt: &HostRuntime, stage: &Stage, id: &str, host: &mut Link) -> Result<()> {
     let last = "3.key,3.113,1.1;10.disconnect;";
     tell_write(rt, stage, id, "a last key and disconnect", last)?;
-    host.await_text(b"q", 1)?;
+    host.await_text(b"q")?;
     host.end()?;
     let heard = str::from_utf8(host.all()?).ok().context("no text")?;
     println!(rt; "the host heard {heard}, and its connection ended")?;

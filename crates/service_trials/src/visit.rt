@@ -109,7 +109,7 @@ fn types(rt: &HostRuntime, stage: &Stage, party: &mut Party, host: &mut Link) ->
 // A viewer joins, is sent the beginning of the picture, sends the beginning of a key, and goes away.
 fn go_away(rt: &HostRuntime, stage: &Stage, id: &str) -> Result<()> {
     let mut viewer = joined(rt, stage, id, "0.")?;
-    viewer.await_text(b"4.size,", 1)?;
+    viewer.await_text(b"4.size,")?;
     viewer.say(b"3.key,2.9")
 }
 
@@ -123,10 +123,10 @@ fn echo(
     sync: &[u8],
 ) -> Result<()> {
     type_key(party, viewer, keysym)?;
-    host.await_text(sent, 1)?;
+    host.await_text(sent)?;
     host.say(sent)?;
     for viewer in party.viewers.iter_mut() {
-        viewer.await_text(sync, 1)?;
+        viewer.await_text(sync)?;
     }
     Ok(())
 }
@@ -145,7 +145,7 @@ fn type_key(party: &mut Party, viewer: usize, keysym: &[u8]) -> Result<()> {
 // The host sends no more, and then waits silently, as the viewers do, for the end of its connection.
 fn ends(rt: &HostRuntime, party: &mut Party, host: &mut Link) -> Result<()> {
     type_key(party, OWNER, b"3.113")?;
-    host.await_text(b"q", 1)?;
+    host.await_text(b"q")?;
     host.say(b"q")?;
     host.end()?;
     for viewer in party.viewers.iter_mut() {
