@@ -59,7 +59,11 @@ impl Serving {
 
     /// Waits for its end: its status.
     pub fn join<R: Threads>(self, rt: &R) -> u8 {
-        self.thread.join(rt)
+        let Serving {
+            thread,
+            stopped: _stopped,
+        } = self;
+        thread.join(rt)
     }
 }
 
