@@ -30,7 +30,10 @@ pub fn form_of(words: &[String]) -> Option<Form>
             of_text(draw(size_of(cols.as_bytes(), rows.as_bytes())))
         }
         [name, seed, rounds] if name.as_str() == "load" => {
-            load(number_of_64_bits(seed.as_bytes()), number(rounds.as_bytes()))
+            load(
+                number_of_64_bits(seed.as_bytes()),
+                number(rounds.as_bytes()),
+            )
         }
         _ => None,
     }

@@ -32,9 +32,11 @@ loop-line-preserved g c =
     record {
       opened = c.in_ok-line.ensures.open;
       rounds = (last_popped c.loop-line.lines.items c.pop.new.self.items line c.in-Some.ensures.items c.loop-line.invariant.rounds).0;
-      done = (line ∷ ended,
-      popped (reverse c.args.lines.items) c.loop-line.lines.items c.pop.new.self.items ended line c.loop-line.invariant.done.1 c.in-Some.ensures.items,
-      λ orders began w. c.in_ok-line.ensures.step (map Untold ended ++ orders) began (c.loop-line.invariant.done.2 orders began w));
+      done = (
+        line ∷ ended,
+        popped (reverse c.args.lines.items) c.loop-line.lines.items c.pop.new.self.items ended line c.loop-line.invariant.done.1 c.in-Some.ensures.items,
+        λ orders began w. c.in_ok-line.ensures.step (map Untold ended ++ orders) began (c.loop-line.invariant.done.2 orders began w),
+      );
     }
 
 pub returns-in_err-line-clause-step : goal.returns-in_err-line-clause-step

@@ -11,7 +11,10 @@ returns c = λ h now at.
     let sum = c.in_ok-pixel_sum.field-0 in
     let agree = c.agree_with_first.result in
     told_alone now s c.args.reply.now c.say_totals.new.self h at (TellTotals c.args.totals) (totals_lines c.args.totals c.len.result c.stamp.result sum agree) s
-    (λ answers. (totals_lines c.args.totals c.len.result c.stamp.result sum agree,
-    totals_are_told now s c.args.reply.now c.args.reply.now h at c.args.totals c.len.result c.stamp.result sum agree c.deref.result.now c.deref.ensures.value (omega (arith, c.len.ensures)) (c.stamp.ensures h at.stands) c.in_ok-pixel_sum.ensures.none c.in_ok-pixel_sum.ensures.sum
-    (subst (λ (cs : Canvases). AgreeWithFirst cs agree) c.deref-2.ensures.value c.agree_with_first.ensures), answers))
+    (λ answers. (
+      totals_lines c.args.totals c.len.result c.stamp.result sum agree,
+      totals_are_told now s c.args.reply.now c.args.reply.now h at c.args.totals c.len.result c.stamp.result sum agree c.deref.result.now c.deref.ensures.value (omega (arith, c.len.ensures)) (c.stamp.ensures h at.stands) c.in_ok-pixel_sum.ensures.none c.in_ok-pixel_sum.ensures.sum
+          (subst (λ (cs : Canvases). AgreeWithFirst cs agree) c.deref-2.ensures.value c.agree_with_first.ensures),
+      answers,
+    ))
     refl refl c.say_totals.result c.say_totals.ensures
