@@ -3,6 +3,7 @@
 //! the order in which threads run.
 #![tactic(auto)]
 
+mod gate;
 mod link;
 mod loopback;
 mod memory;
@@ -22,6 +23,7 @@ use anyhow::Result;
 fn main(rt: HostRuntime) -> Result<()> {
     rows::daemon(&rt, rt.alloc())?;
     rows::connects(&rt, rt.alloc())?;
+    gate::gate(&rt, rt.alloc())?;
     let stage = Stage::new(&rt)?;
     loopback::refused(&rt, rt.alloc(), &stage)?;
     let serving = Serving::start(&rt, rt.alloc(), &stage)?;

@@ -1,7 +1,8 @@
 //! A net in memory: connections whose bytes are given, a Telnet host that sends one letter and ends, jobs that run in
-//! the call, a clock that stands at 0, and dice that count.
+//! the call or in threads, a clock that stands at 0, and dice that count. Who gives bytes may wait for what others
+//! were given.
 
-ghost use Rattle.std.specs.Prelude.{◌≤◌, None, length};
+ghost use Rattle.std.specs.Prelude.{◌≡◌, ◌≤◌, None, length};
 
 use anyhow::Result as Outcome;
 use gate_model::NoMemory;
@@ -24,42 +25,109 @@ pub fn nothing_given(alloc: Global) -> Outcome<Given> {
     Ok(Arc::new(alloc, Mutex::new(Vec::new(alloc)))?)
 }
 
-// The last instruction that a viewer is given.
-const LAST: &[u8] = b"10.disconnect;";
+/// Where it is counted which moments don't come.
+pub type Missed = Arc<AtomicU64, Global>;
+
+/// Where none is counted yet.
+pub fn none_missed(alloc: Global) -> Outcome<Missed> {
+    Ok(Arc::new(alloc, AtomicU64::new(0))?)
+}
+
+/// The beginning of a sync, with which a picture and each frame end.
+pub const SYNC: &[u8] = b"4.sync,";
+
+/// What says that a write is held.
+pub const HELD: &[u8] = b"held";
+
+/// The last instruction that a viewer is given.
+pub const LAST: &[u8] = b"10.disconnect;";
 
 // How often a source looks whether it ends, and how long it sleeps before, in milliseconds.
 const LOOKS: u64 = 3_000;
 
 const PAUSE: u64 = 10;
 
-/// Gives its bytes, and ends; one that has a sink to look at ends once that was given the last instruction.
+/// Gives its bytes, and ends; it may wait before either.
 #[derive(Drop)]
 pub struct RowSource<R> {
     rt: R,
     bytes: Vec<u8>,
     at: usize,
-    until: Option<Given>,
+    first: Option<Moment>,
+    last: Option<Moment>,
 }
 
-/// Keeps what it is given.
+/// Keeps what it is given. It may wait before the first write after a picture.
 #[derive(Drop)]
 pub struct RowSink<R> {
     rt: R,
     given: Given,
+    hold: Option<Hold>,
     faults: u64,
 }
 
-impl<R: Moments + Wait> RowSource<R> {
-    // Waits for the last instruction, if one is waited for.
-    fn await_last(&self) {
-        let Some(given) = &self.until else {
-            return;
-        };
+/// The moment at which a sink was given a text; and where it is counted if it doesn't come.
+#[derive(Drop)]
+pub struct Moment {
+    given: Given,
+    text: &'static [u8],
+    missed: Missed,
+}
+
+/// How a write waits: it says so in the one place, and waits for the other.
+#[derive(Drop)]
+pub struct Hold {
+    pub said: Given,
+    pub until: Moment,
+}
+
+impl Moment {
+    /// The moment at which the sink was given the text.
+    pub fn new(given: &Given, text: &'static [u8], missed: &Missed) -> Outcome<Moment> {
+        let given = Arc::try_clone(given)?;
+        let missed = Arc::try_clone(missed)?;
+        Ok(Moment {
+            given,
+            text,
+            missed,
+        })
+    }
+
+    fn another(&self) -> Result<Moment, NoMemory> {
+        let given = Arc::try_clone(&self.given)?;
+        let missed = Arc::try_clone(&self.missed)?;
+        Ok(Moment {
+            given,
+            text: self.text,
+            missed,
+        })
+    }
+
+    fn is_past<R: Wait>(&self, rt: &R) -> bool {
+        has(self.given.lock(rt).as_slice(), self.text)
+    }
+
+    fn wait<R: Moments + Wait>(&self, rt: &R) {
         for _ in 0..LOOKS {
-            if given.lock(&self.rt).ends_with(LAST) {
+            if self.is_past(rt) {
                 return;
             }
-            thread::sleep(&self.rt, Duration::from_millis(PAUSE));
+            thread::sleep(rt, Duration::from_millis(PAUSE));
+        }
+        self.missed.fetch_add(1, SeqCst);
+    }
+}
+
+impl<R: Moments + Wait> RowSource<R> {
+    fn await_first(&mut self) {
+        if let Some(first) = self.first.take() {
+            first.wait(&self.rt);
+        }
+    }
+
+    fn await_last(&self) {
+        if let Some(last) = &self.last {
+            last.wait(&self.rt);
         }
     }
 }
@@ -70,6 +138,7 @@ impl<R: Moments + Wait + Drop> Source for RowSource<R> {
     ghost faults = { λ _. 0 };
 
     fn read(&mut self, into: &mut [u8]) -> Result<usize, Failed> {
+        self.await_first();
         let count = copy_from(&self.bytes, self.at, into);
         self.at = self.at.saturating_add(count);
         if count == 0 {
@@ -90,12 +159,41 @@ fn copy_from(bytes: &[u8], at: usize, into: &mut [u8]) -> usize
     count
 }
 
-impl<R: Wait + Drop> Sink for RowSink<R> {
+// Whether the text is in what was given.
+fn has(given: &[u8], text: &[u8]) -> bool {
+    given
+        .windows(text.len().max(1))
+        .any(|window| window == text)
+}
+
+impl<R: Moments + Wait> RowSink<R> {
+    // Says that it holds a write, where it is the first after a picture, and waits.
+    fn await_hold(&mut self)
+        ensures { self.new.faults ≡ self.old.faults }
+    {
+        if !has(self.given.lock(&self.rt).as_slice(), SYNC) {
+            return;
+        }
+        if let Some(hold) = self.hold.take() {
+            hold.wait(&self.rt);
+        }
+    }
+}
+
+impl Hold {
+    fn wait<R: Moments + Wait>(&self, rt: &R) {
+        let _ = self.said.lock(rt).extend_from_slice(HELD);
+        self.until.wait(rt);
+    }
+}
+
+impl<R: Moments + Wait + Drop> Sink for RowSink<R> {
     ghost written = { λ _. None };
 
     ghost faults = { λ s. s.faults };
 
     fn write(&mut self, piece: &[u8]) -> Result<usize, Failed> {
+        self.await_hold();
         let mut given = self.given.lock(&self.rt);
         if given.extend_from_slice(piece).is_ok() {
             return Ok(piece.len());
@@ -107,25 +205,57 @@ impl<R: Wait + Drop> Sink for RowSink<R> {
     fn finish(&mut self) {}
 }
 
-/// Dials the host, runs jobs in the call, and draws.
+/// What the connections of a net share: when its Telnet host sends and when it ends, whether its jobs run in threads,
+/// and how many bytes were drawn.
+#[derive(Drop)]
+struct Common {
+    first: Option<Moment>,
+    last: Option<Moment>,
+    threads: bool,
+    drawn: Arc<AtomicU64, Global>,
+}
+
+impl Common {
+    fn another(&self) -> Result<Common, NoMemory> {
+        let first = another(&self.first)?;
+        let last = another(&self.last)?;
+        Ok(Common {
+            first,
+            last,
+            threads: self.threads,
+            drawn: Arc::try_clone(&self.drawn)?,
+        })
+    }
+}
+
+fn another(moment: &Option<Moment>) -> Result<Option<Moment>, NoMemory> {
+    match moment {
+        Some(moment) => Ok(Some(moment.another()?)),
+        None => Ok(None),
+    }
+}
+
+/// Dials the host, runs jobs in the call or in threads, and draws.
 #[derive(Drop)]
 pub struct RowHelper<R> {
     rt: R,
-    // How many bytes were drawn, by all helpers of a net.
-    drawn: Arc<AtomicU64, Global>,
+    common: Common,
     refused: u64,
 }
 
 impl<R: Copy> RowHelper<R> {
     // What the host sends.
     fn host(&self, alloc: Global) -> Result<RowSource<R>, NoMemory> {
+        let first = another(&self.common.first)?;
+        let last = another(&self.common.last)?;
         let mut bytes = Vec::new(alloc);
         bytes.push(b'A')?;
         Ok(RowSource {
             rt: self.rt,
             bytes,
             at: 0,
-            until: None,
+            first,
+            last,
         })
     }
 
@@ -134,6 +264,7 @@ impl<R: Copy> RowHelper<R> {
         Ok(RowSink {
             rt: self.rt,
             given: Arc::new(alloc, Mutex::new(Vec::new(alloc)))?,
+            hold: None,
             faults: 0,
         })
     }
@@ -166,7 +297,11 @@ impl<R: Drop> Spawner for RowHelper<R> {
     ghost refuses = { λ _. None };
 
     fn way(&mut self) -> Way {
-        Way::Here
+        if self.common.threads {
+            Way::Thread
+        } else {
+            Way::Here
+        }
     }
 
     fn note(&mut self) {
@@ -184,7 +319,7 @@ impl<R: Drop> Dice for RowHelper<R> {
     fn bytes(&mut self) -> [u8; 16] {
         let mut bytes = [0u8; 16];
         for byte in bytes.iter_mut() {
-            *byte = (self.drawn.fetch_add(1, SeqCst) & 0xff) as u8;
+            *byte = (self.common.drawn.fetch_add(1, SeqCst) & 0xff) as u8;
         }
         bytes
     }
@@ -194,71 +329,89 @@ impl<R: Moments + Wait + Copy + Send + Drop + 'static> Helper for RowHelper<R> {
     fn another(&mut self, _alloc: Global) -> Result<RowHelper<R>, NoMemory> {
         Ok(RowHelper {
             rt: self.rt,
-            drawn: Arc::try_clone(&self.drawn)?,
+            common: self.common.another()?,
             refused: 0,
         })
     }
 }
 
-/// Gives its connections in order, and then fails.
+/// Gives its connections in order, waits for moments if it is to, and then fails.
 #[derive(Drop)]
 pub struct RowNet<R> {
     rt: R,
-    drawn: Arc<AtomicU64, Global>,
+    common: Common,
     // The last comes first.
     links: Vec<(RowSource<R>, RowSink<R>)>,
+    moments: Vec<Moment>,
     faults: u64,
 }
 
 impl<R: Copy> RowNet<R> {
-    /// A net without connections.
+    /// A net without connections, whose jobs run in the call.
     pub fn new(rt: R, alloc: Global) -> Outcome<RowNet<R>> {
         Ok(RowNet {
             rt,
-            drawn: Arc::new(alloc, AtomicU64::new(0))?,
+            common: Common {
+                first: None,
+                last: None,
+                threads: false,
+                drawn: Arc::new(alloc, AtomicU64::new(0))?,
+            },
             links: Vec::new(alloc),
+            moments: Vec::new(alloc),
             faults: 0,
         })
     }
 
-    /// Adds a connection before all others, whose client sends these bytes; a viewer's ends once it was given the
-    /// last instruction.
-    pub fn precede(
-        &mut self,
-        alloc: Global,
-        bytes: &[u8],
-        given: &Given,
-        viewer: bool,
-    ) -> Outcome<()> {
-        let source = self.source(alloc, bytes, given, viewer)?;
-        let sink = RowSink {
-            rt: self.rt,
-            given: Arc::try_clone(given)?,
-            faults: 0,
-        };
-        self.links.push((source, sink))?;
+    /// From now on its jobs run in threads, and its hosts send and end at these moments.
+    pub fn run_in_threads(&mut self, first: Moment, last: Moment) {
+        self.common.first = Some(first);
+        self.common.last = Some(last);
+        self.common.threads = true;
+    }
+
+    /// It waits for this moment too before it fails.
+    pub fn wait_for(&mut self, moment: Moment) -> Outcome<()> {
+        self.moments.push(moment)?;
         Ok(())
     }
 
-    fn source(
-        &self,
+    /// Adds a connection before all others.
+    pub fn precede(&mut self, source: RowSource<R>, sink: RowSink<R>) -> Outcome<()> {
+        self.links.push((source, sink))?;
+        Ok(())
+    }
+}
+
+impl<R: Drop> RowSource<R> {
+    /// A client that sends these bytes and ends, each at its moment.
+    pub fn new(
+        rt: R,
         alloc: Global,
-        bytes: &[u8],
-        given: &Given,
-        viewer: bool,
+        text: &[u8],
+        first: Option<Moment>,
+        last: Option<Moment>,
     ) -> Outcome<RowSource<R>> {
-        let until = if viewer {
-            Some(Arc::try_clone(given)?)
-        } else {
-            None
-        };
-        let mut text = Vec::new(alloc);
-        text.extend_from_slice(bytes)?;
+        let mut bytes = Vec::new(alloc);
+        bytes.extend_from_slice(text)?;
         Ok(RowSource {
-            rt: self.rt,
-            bytes: text,
+            rt,
+            bytes,
             at: 0,
-            until,
+            first,
+            last,
+        })
+    }
+}
+
+impl<R: Drop> RowSink<R> {
+    /// Where a client is given what it is written.
+    pub fn new(rt: R, given: &Given, hold: Option<Hold>) -> Outcome<RowSink<R>> {
+        Ok(RowSink {
+            rt,
+            given: Arc::try_clone(given)?,
+            hold,
+            faults: 0,
         })
     }
 }
@@ -278,6 +431,9 @@ impl<R: Moments + Wait + Copy + Send + Drop + 'static> Net for RowNet<R> {
         match self.links.pop() {
             Some(link) => Ok(link),
             None => {
+                for moment in &self.moments {
+                    moment.wait(&self.rt);
+                }
                 self.faults = self.faults.saturating_add(1);
                 Err(Failed)
             }
@@ -287,7 +443,7 @@ impl<R: Moments + Wait + Copy + Send + Drop + 'static> Net for RowNet<R> {
     fn helper(&mut self, _alloc: Global) -> Result<RowHelper<R>, NoMemory> {
         Ok(RowHelper {
             rt: self.rt,
-            drawn: Arc::try_clone(&self.drawn)?,
+            common: self.common.another()?,
             refused: 0,
         })
     }

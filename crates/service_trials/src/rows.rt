@@ -1,6 +1,6 @@
 //! Whole runs of the service over a net in memory.
 
-use crate::memory::{Given, RowNet, nothing_given};
+use crate::memory::{Given, LAST, Moment, RowNet, RowSink, RowSource, none_missed, nothing_given};
 use crate::serving::served;
 use crate::shown::colours;
 use anyhow::{Context, Result};
@@ -10,8 +10,8 @@ use std::sync::Wait;
 use std::thread::Threads;
 use std::time::Clock;
 
-// What a client sends that begins a session of 80 columns and 24 rows, with the sharing `control`.
-const GREETING: &[u8] =
+/// What a client sends that begins a session of 80 columns and 24 rows, with the sharing `control`.
+pub const GREETING: &[u8] =
     b"6.select,6.telnet;4.size,3.640,3.384,2.96;7.connect,13.VERSION_1_1_0,9.localhost,2.23,0.,0.,7.control;";
 
 const OTHER: &[u8] = b"GET /other HTTP/1.1\r\n\r\n";
@@ -46,8 +46,14 @@ where
     R: Print + Clock + Eprint + Threads + Wait + Copy + Send + Sync + Drop + 'static,
 {
     let mut net = RowNet::new(*rt, alloc)?;
-    net.precede(alloc, OTHER, other, false)?;
-    net.precede(alloc, GREETING, viewer, true)?;
+    let sink = RowSink::new(*rt, other, None)?;
+    net.precede(RowSource::new(*rt, alloc, OTHER, None, None)?, sink)?;
+    let last = Moment::new(viewer, LAST, &none_missed(alloc)?)?;
+    let sink = RowSink::new(*rt, viewer, None)?;
+    net.precede(
+        RowSource::new(*rt, alloc, GREETING, None, Some(last))?,
+        sink,
+    )?;
     tell_status(rt, "the daemon", served(rt, alloc, net, &[])?)
 }
 
@@ -76,27 +82,36 @@ where
     R: Print + Clock + Eprint + Threads + Wait + Copy + Send + Sync + Drop + 'static,
 {
     let mut net = RowNet::new(*rt, alloc)?;
-    net.precede(alloc, request, given, false)?;
+    let sink = RowSink::new(*rt, given, None)?;
+    net.precede(RowSource::new(*rt, alloc, request, None, None)?, sink)?;
     tell_status(rt, title, served(rt, alloc, net, &[])?)
 }
 
-fn tell_status<R: Print>(rt: &R, title: &str, status: u8) -> Result<()> {
+/// Tells the status with which a service ended.
+pub fn tell_status<R: Print>(rt: &R, title: &str, status: u8) -> Result<()> {
     println!(rt; "{title}: the service ended with {status}")?;
     Ok(())
 }
 
 fn tell_viewer<R: Print + Wait>(rt: &R, alloc: Global, given: &Given) -> Result<()> {
     let given = given.lock(rt);
-    tell_picture(rt, alloc, given.as_slice())
+    tell_given(rt, alloc, given.as_slice())
 }
 
-// What the viewer was greeted with, what it was given last, and two points of what it is shown.
-fn tell_picture<R: Print>(rt: &R, alloc: Global, given: &[u8]) -> Result<()> {
+// What the viewer was greeted with, two points of what it is shown, and what it was given last.
+fn tell_given<R: Print>(rt: &R, alloc: Global, given: &[u8]) -> Result<()> {
+    tell_picture(rt, alloc, given)?;
     let text = str::from_utf8(given).ok().context("no text")?;
-    let (greeting, rest) = text.split_once("4.size,").context("no picture")?;
+    let at = text.len().saturating_sub(25);
+    println!(rt; "| {}", text.get(at..).context("no end")?)?;
+    Ok(())
+}
+
+/// What a viewer was greeted with, and two points of what it is shown.
+pub fn tell_picture<R: Print>(rt: &R, alloc: Global, given: &[u8]) -> Result<()> {
+    let text = str::from_utf8(given).ok().context("no text")?;
+    let (greeting, _) = text.split_once("4.size,").context("no picture")?;
     println!(rt; "| {greeting}")?;
-    let at = rest.len().saturating_sub(25);
-    println!(rt; "| {}", rest.get(at..).context("no end")?)?;
     println!(rt; "| {}", colours(alloc, given)?)?;
     Ok(())
 }
