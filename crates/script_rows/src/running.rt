@@ -53,7 +53,7 @@ pub fn difference(alloc: Global, row: &Row) -> Result<Option<String>> {
 
 // What a run gave, with a sum over its frames, of which there may be very many.
 #[derive(Drop)]
-struct Outcome {
+struct Given {
     status: u8,
     answers: Vec<u8>,
     frames: Tally,
@@ -61,8 +61,8 @@ struct Outcome {
 
 // What the row gives, where its frames aren't compared with a text. It is run twice, and gives the same again.
 fn twice(alloc: Global, row: &Row) -> Result<Option<String>> {
-    let first = outcome(alloc, row)?;
-    let second = outcome(alloc, row)?;
+    let first = run_once(alloc, row)?;
+    let second = run_once(alloc, row)?;
     Ok(if first.status != row.status {
         let status = first.status;
         Some(format!(in alloc; "status {status}")?)
@@ -76,7 +76,7 @@ fn twice(alloc: Global, row: &Row) -> Result<Option<String>> {
 }
 
 // What a run of the row gives.
-fn outcome(alloc: Global, row: &Row) -> Result<Outcome> {
+fn run_once(alloc: Global, row: &Row) -> Result<Given> {
     let ends = row.ends;
     let mut source = MemSource::new(
         row.input.to_vec(alloc)?,
@@ -92,7 +92,7 @@ fn outcome(alloc: Global, row: &Row) -> Result<Outcome> {
         &mut answers,
         &mut frames,
     );
-    Ok(Outcome {
+    Ok(Given {
         status,
         answers: answers.written().to_vec(alloc)?,
         frames,
