@@ -1,10 +1,10 @@
 //! The service on the loopback, in a thread of its own.
 
-use crate::serving::served;
 use crate::stage::{Stage, port_of};
 use crate::stoppable::Stoppable;
 use anyhow::{Context, Result};
 use real_ends::TcpNet;
+use service_runs::served;
 use std::alloc::Global;
 use std::net::{IpAddr, Ipv4Addr, TcpListener, TcpStream};
 use std::sync::atomic::AtomicBool;

@@ -1,15 +1,9 @@
-//! The program `service_trials`: it serves over a net in memory, and on the loopback with Telnet hosts, viewers, a
-//! recorder and tunnels of its own, and tells what each of them met. It ends by itself, and prints the same whatever
-//! the order in which threads run.
+//! The program `service_trials`: it serves on the loopback with Telnet hosts, viewers, a recorder and tunnels of its
+//! own, and tells what each of them met. It ends by itself, and prints the same whatever the order in which threads run.
 #![tactic(auto)]
 
-mod gate;
 mod link;
 mod loopback;
-mod memory;
-mod rows;
-mod serving;
-mod shown;
 mod stage;
 mod stoppable;
 mod tunnel;
@@ -21,9 +15,6 @@ use crate::stage::Stage;
 use anyhow::Result;
 
 fn main(rt: HostRuntime) -> Result<()> {
-    rows::daemon(&rt, rt.alloc())?;
-    rows::connects(&rt, rt.alloc())?;
-    gate::gate(&rt, rt.alloc())?;
     let stage = Stage::new(&rt)?;
     loopback::refused(&rt, rt.alloc(), &stage)?;
     let serving = Serving::start(&rt, rt.alloc(), &stage)?;

@@ -1,9 +1,9 @@
 //! Viewers at one session, over TCP.
 
 use crate::link::Link;
-use crate::shown::{are_alike, colours};
 use crate::stage::{Stage, port_of};
 use anyhow::{Context, Result, bail};
+use service_runs::{are_alike, colours};
 use std::alloc::Global;
 use std::time::Duration;
 use std::{str, thread};

@@ -1,9 +1,8 @@
 //! Whole runs of the service over a net in memory.
 
 use crate::memory::{Given, LAST, Moment, RowNet, RowSink, RowSource, none_missed, nothing_given};
-use crate::serving::served;
-use crate::shown::colours;
 use anyhow::{Context, Result};
+use service_runs::{colours, served};
 use std::alloc::Global;
 use std::str;
 use std::sync::Wait;

@@ -5,8 +5,8 @@ use crate::memory::{
     Given, HELD, Hold, Missed, Moment, RowNet, RowSink, RowSource, SYNC, none_missed, nothing_given,
 };
 use crate::rows::{GREETING, tell_picture, tell_status};
-use crate::serving::served;
 use anyhow::Result;
+use service_runs::served;
 use std::alloc::Global;
 use std::sync::atomic::Ordering::SeqCst;
 use std::sync::{Arc, Wait};
