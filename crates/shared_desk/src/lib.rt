@@ -21,8 +21,6 @@ mod place;
 mod reader;
 mod sender;
 mod sharing;
-#[cfg(test)]
-mod tests;
 mod writer;
 
 pub use any_pass::AnyPass;
