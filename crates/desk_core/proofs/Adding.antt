@@ -22,7 +22,7 @@ use Rattle.gate_model.specs.declared.entry.Entry.TheVariants.{Feed, Join, Read, 
 use Rattle.gate_model.specs.terminal.Screens.{shown}
 use Rattle.gate_model.specs.picture.Shape.{Shape}
 use Rattle.gate_model.specs.text.Text.{texts}
-use Rattle.gate_model.specs.session.History.{History, at, bytes, columns, rows, newest, next_stamp, joined, share_mode, is_closed}
+use Rattle.gate_model.specs.session.History.{History, at, bytes, columns, rows, frames, newest, next_stamp, joined, share_mode, is_closed}
 use Rattle.gate_model.specs.session.Delivered.{closing, position, handed}
 use Rattle.gate_model.specs.session.Output.{untaken}
 use Rattle.gate_model.specs.session.Refusals.{only_if, close_cause, feed_refusal, join_refusal, read_stop, write_refusal}
@@ -33,21 +33,24 @@ use Rattle.gate_model.specs.session.Runs.{handed_out}
 use Rattle.gate_model.proofs.Truth.{facts_of}
 use Rattle.gate_model.proofs.Histories.{plain-join, plain-read, plain-write, plain-take, plain-leave, plain-close}
 use Rattle.viewer_book.specs.Book as book
-use Rattle.viewer_book.specs.Book.{BookState, added, changed, removed, holding}
+use Rattle.viewer_book.specs.Book.{BookState, added, changed, removed}
+use Rattle.viewer_book.specs.declared.viewer.Viewer.{Viewer}
+use Rattle.display_history.specs.Laws.{texts_of}
 use Rattle.desk_core.specs.declared.host.Heard.{Heard}
 use Rattle.desk_core.specs.declared.desk.update.Update.{Update}
 use Rattle.desk_core.specs.declared.typing.Typed.{Typed}
 use Rattle.desk_core.specs.Drawing.{DrawingState, Draws}
 use Rattle.desk_core.specs.Frames.{AddsFrame, FramesState}
 use Rattle.desk_core.specs.Log.{LogState, with_entry}
-use Rattle.desk_core.specs.Viewers.{HasBook, brought}
+use Rattle.desk_core.specs.Viewers.{HasBook, brought, noted}
 use Rattle.desk_core.specs.Desk.{DeskState, IsWaiting, Stands}
 use Rattle.desk_core.specs.Calls.{Answered}
 use Rattle.desk_core.specs.Parts.{Brings, Follows, Pictures, Types}
-use Rattle.desk_core.proofs.Seating.{same, book-same, book-join, book-read, book-write, book-leave}
+use Rattle.desk_core.proofs.Seating.{same, waits_on, book-same, book-join, book-read, book-write, book-leave}
 use Rattle.desk_core.proofs.Standing.{log_of, waits-silent, waits-more, waits-take, plain_desk, fed_desk}
 use Rattle.desk_core.proofs.Following.{cols_of, rows_of}
-use Rattle.desk_core.proofs.Telling.{join_goes, reading}
+use Rattle.desk_core.proofs.Telling.{is_open, join_goes, reading}
+use Rattle.desk_core.proofs.Reaching.{brought-number, reached}
 use Rattle.gate_model.proofs.Stepping.{feed_step, fresh_step, join_step, read_step, write_step, take_step, leave_step, close_step}
 
 -- a Feed
@@ -76,7 +79,7 @@ added_join d h asked role n t first l b before after s allowed granted pictures 
     let now : t ≡ newest h = stamped ∙ s.frames.stamp in
     let told : Joined = record { viewer = n; role = role; stamp = t } in
     let step : Step h (join asked) (joined_as (Ok told)) (Join n role first ∷ []) = join_step h asked told first allowed granted next now pictures.shows in
-    let has : HasBook (added d.book role t) (Join n role first ∷ h) = book-join d.book h role first t n s.book s.legal (facts_of h s.legal) next pictures.shows now g.live g.number in
+    let has : HasBook (added d.book role t) (Join n role first ∷ h) = book-join d.book h role first t n s.book s.legal (facts_of h s.legal) next pictures.shows now (is_open h g.goes) g.live g.number in
     let itself : (n == n) ≡ true = eq-eqb n n refl in
     let gives : (if n == n then first else []) ++ [] ≡ first = rw itself (append-nil first) in
     record {
@@ -93,13 +96,14 @@ reads h v Suffix free covers = read_step h v (lacked h v) (newest h) (is_closed 
 reads h v (Fresh is) free shows = fresh_step h v (newest h) (is_closed h) is free shows.0 shows.1 refl refl
 
 pub added_read : (d : DeskState) (h : History) (v : ℕ) (u : Update) (t : ℕ) (closed : Bool) (l : LogState) (b : BookState) (before after : List ℕ) → Stands d h → read_stop h v ≡ None → Brings h v u
-    → t ≡ d.frames.stamp → closed ≡ is_closed h → l ≡ with_entry (log_of d) (Read v u.how) → b ≡ changed d.book v (brought t closed) → after ≡ before ++ texts (handed h (position h v) u.how ++ closing h)
+    → t ≡ d.frames.stamp → closed ≡ is_closed h → l ≡ with_entry (log_of d) (Read v u.how) → b ≡ changed d.book v (brought (texts_of (frames h)) (position h v) t u.how closed) → after ≡ before ++ texts (handed h (position h v) u.how ++ closing h)
     → Answered h (read v) (was_read (Ok u.answer)) record d { book = b; past = l.past; entries = l.entries } before after
 added_read d h v u t closed l b before after s allowed brings stamped is logs seated gains =
     let now : t ≡ newest h = stamped ∙ s.frames.stamp in
     let step : Step h (read v) (was_read (Ok u.answer)) (Read v u.how ∷ []) = subst (λ (a : ReadAnswer). Step h (read v) (was_read (Ok a)) (Read v u.how ∷ [])) (sym brings.answers) (reads h v u.how allowed brings.updates) in
-    let has : HasBook (changed d.book v (brought t closed)) (Read v u.how ∷ h) =
-    book-read d.book h v u.how t closed (brought t closed) s.book (facts_of h s.legal) brings.updates now is (reading d h v s allowed).more (λ w. record { number = refl; role = refl; position = refl; ended = refl; mods = refl }) in
+    let change : Viewer → Viewer = brought (texts_of (frames h)) (position h v) t u.how closed in
+    let has : HasBook (changed d.book v change) (Read v u.how ∷ h) =
+    book-read d.book h v u.how t closed change s.book (facts_of h s.legal) brings.updates now is (reading d h v s allowed).more (brought-number (texts_of (frames h)) (position h v) t u.how closed) (λ w seated. reached h v u.how t closed w s.legal (facts_of h s.legal) brings.updates now is seated) in
     let itself : (v == v) ≡ true = eq-eqb v v refl in
     let gives : (if v == v then handed h (position h v) u.how else []) ++ (if v == v then closing h else []) ≡ handed h (position h v) u.how ++ closing h = rw itself refl in
     record {
@@ -113,12 +117,12 @@ added_read d h v u t closed l b before after s allowed brings stamped is logs se
 -- a Write
 pub added_write : (d : DeskState) (h : History) (v : ℕ) (acts : List Act) (t : Typed) (may_type : Bool) (keys denied : ℕ) (l : LogState) (outgoing : List ℕ) (b : BookState) → Stands d h → IsWrite acts → write_refusal h v ≡ None → may_type ≡ may h v → Types h v acts t
     → keys ≡ (if may_type then count_by is_key_act acts else 0) → denied ≡ (if may_type then 0 else count_by is_key_act acts)
-    → l ≡ with_entry (log_of d) (Write v acts) → outgoing ≡ d.outgoing ++ t.bytes.items → b ≡ changed d.book v (holding t.held)
+    → l ≡ with_entry (log_of d) (Write v acts) → outgoing ≡ d.outgoing ++ t.bytes.items → b ≡ changed d.book v (noted t.held acts)
     → Answered h (write v acts) (was_written (Ok record { keys = keys; denied = denied })) record d { outgoing = outgoing; book = b; past = l.past; entries = l.entries } [] []
 added_write d h v acts t may_type keys denied l outgoing b s is allowed is_may types counted refused logs waits seated =
     let told : Written = record { keys = keys; denied = denied } in
     let step : Step h (write v acts) (was_written (Ok told)) (Write v acts ∷ []) = write_step h v acts told is allowed (counted ∙ ap (λ (q : Bool). if q then count_by is_key_act acts else 0) is_may) (refused ∙ ap (λ (q : Bool). if q then 0 else count_by is_key_act acts) is_may) in
-    let has : HasBook (changed d.book v (holding t.held)) (Write v acts ∷ h) = book-write d.book h v acts t.held s.book types.held in
+    let has : HasBook (changed d.book v (noted t.held acts)) (Write v acts ∷ h) = book-write d.book h v acts t.held s.book types.held in
     record {
       added = Write v acts ∷ [];
       step = step;
@@ -149,7 +153,7 @@ added_close d h c l s none logs = let step : Step h (close c) (was_closed (Ok tt
   added = Close c ∷ [];
   step = step;
   stands = plain_desk d h (Close c) l d.outgoing d.book (Some c) s record { plain = plain-close c; event = close c; answer = was_closed (Ok tt); step = step; stamp = refl; frame = refl; room = refl; mode = refl; term = refl; restores = tt; few = tt } logs (waits-silent d.outgoing h (Close c) s.outgoing refl refl)
-      (book-same d.book h (Close c) s.book refl refl (λ u. same h (Close c) u refl refl refl refl refl refl)) refl;
+      (book-same d.book h (Close c) s.book refl refl (λ u. same h (Close c) u refl refl refl refl refl refl (waits_on h u))) refl;
   appended = refl;
 }
 
@@ -184,7 +188,7 @@ added_take d h count closed l outgoing before after s shut is some logs left han
       step = step;
       stands = plain_desk d h (Take count) l outgoing d.book d.cause s record { plain = plain-take count; event = take_most (length before); answer = was_taken bytes closed; step = step; stamp = refl; frame = refl; room = refl; mode = refl; term = refl; restores = tt; few = tt } logs
           (subst (λ (xs : List ℕ). IsWaiting xs (Take count ∷ h)) (sym left) (waits-take d.outgoing h count s.outgoing (omega (arith, is))))
-          (book-same d.book h (Take count) s.book refl refl (λ u. same h (Take count) u refl refl refl refl refl refl)) s.cause;
+          (book-same d.book h (Take count) s.book refl refl (λ u. same h (Take count) u refl refl refl refl refl refl (waits_on h u))) s.cause;
       appended = refl;
     }
 

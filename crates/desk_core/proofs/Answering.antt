@@ -1,6 +1,6 @@
 -- A call that adds nothing: what the rule answers, and that the desk stays.
 use Rattle.std.proofs.Common.{◌≡◌, ℕ, List, [], ◌∷◌, length, Bool, true, false, not, ◌&&◌, sym, subst, append-nil}
-use Rattle.std.specs.Prelude.{Option, Some, None, Result, Ok, Err, ◌==◌}
+use Rattle.std.specs.Prelude.{Option, Some, None, Result, Ok, Err, ◌==◌, nat_lt}
 use Rattle.std.specs.Option.{option_map}
 use Rattle.gate_model.specs.declared.act.Act.{Act}
 use Rattle.gate_model.specs.declared.answer.Answer.{Answer}
@@ -13,7 +13,7 @@ use Rattle.gate_model.specs.declared.feed_refusal.FeedRefusal.TheVariants.{Close
 use Rattle.gate_model.specs.declared.join_refusal.JoinRefusal.{JoinRefusal}
 use Rattle.gate_model.specs.declared.join_refusal.JoinRefusal.TheVariants.{Closed as join_closed, Forbidden as join_forbidden, TooMany as join_too_many, Worn as join_worn, NoMemory as join_no_memory}
 use Rattle.gate_model.specs.declared.read_answer.ReadAnswer.{ReadAnswer}
-use Rattle.gate_model.specs.declared.read_answer.ReadAnswer.TheVariants.{Ended as over, Empty}
+use Rattle.gate_model.specs.declared.read_answer.ReadAnswer.TheVariants.{Ended as over, Empty, Hold}
 use Rattle.gate_model.specs.declared.read_refusal.ReadRefusal.{ReadRefusal}
 use Rattle.gate_model.specs.declared.read_refusal.ReadRefusal.TheVariants.{NoViewer as read_no_viewer, Worn as read_worn}
 use Rattle.gate_model.specs.declared.write_refusal.WriteRefusal.{WriteRefusal}
@@ -22,6 +22,8 @@ use Rattle.gate_model.specs.declared.sharing.Asked.{Asked}
 use Rattle.gate_model.specs.session.History.{History, newest, joined, share_mode, is_closed, is_full}
 use Rattle.gate_model.specs.session.Delivered.{position, ended}
 use Rattle.gate_model.specs.session.Rights.{is_live, live_count}
+use Rattle.gate_model.specs.session.Waiting.{waiting}
+use Rattle.gate_model.specs.Limits.{most_waiting}
 use Rattle.gate_model.specs.session.Refusals.{first_of, only_if, close_cause, is_forbidden, is_crowded, feed_refusal, join_refusal, read_stop, write_refusal}
 use Rattle.gate_model.specs.session.Calls.{IsPiece, IsWrite, Step}
 use Rattle.gate_model.proofs.Stepping.{feed_stop, join_stop, read_stopped, write_stop}
@@ -69,25 +71,29 @@ write_stops d h v acts write_no_memory w s is e = absurd (never (is_live h v) (c
 
 -- what may stop a read
 stop_kinds : (h : History) (v : ℕ) (r : Result ReadAnswer ReadRefusal) (P : Result ReadAnswer ReadRefusal → Type 0) → read_stop h v ≡ Some r
-    → P (Err read_no_viewer) → P (Ok over) → P (Ok Empty) → P (Err (read_worn (length h))) → P r
-stop_kinds h v r P e p1 p2 p3 p4 = cases (is_live h v) (ended h v) (is_closed h) (position h v == newest h) (is_full h) e
+    → P (Err read_no_viewer) → P (Ok over) → P (Ok Empty) → P (Ok (Hold (waiting h v))) → P (Err (read_worn (length h))) → P r
+stop_kinds h v r P e p1 p2 p3 p4 p5 = cases (is_live h v) (ended h v) (is_closed h) (position h v == newest h) (nat_lt most_waiting (waiting h v)) (is_full h) e
   where
     given : (x : Result ReadAnswer ReadRefusal) → P x → Some x ≡ Some r → P r
     given x p q = let same : x ≡ r = cc in subst P same p
 
-    cases : (a b c d f : Bool) → first_of (only_if (not a) (Err read_no_viewer) ∷ only_if b (Ok over) ∷ only_if (not c && d) (Ok Empty) ∷ only_if (not c && f) (Err (read_worn (length h))) ∷ []) ≡ Some r → P r
-    cases false b c d f q = given (Err read_no_viewer) p1 q
-    cases true true c d f q = given (Ok over) p2 q
-    cases true false true d f q = absurd (let w : None ≡ Some r = q in cc)
-    cases true false false true f q = given (Ok Empty) p3 q
-    cases true false false false true q = given (Err (read_worn (length h))) p4 q
-    cases true false false false false q = absurd (let w : None ≡ Some r = q in cc)
+    cases : (a b c d k f : Bool) → first_of (only_if (not a) (Err read_no_viewer) ∷ only_if b (Ok over) ∷ only_if (not c && d) (Ok Empty) ∷ only_if (not c && k) (Ok (Hold (waiting h v))) ∷ only_if (not c && f) (Err (read_worn (length h))) ∷ []) ≡ Some r → P r
+    cases false b c d k f q = given (Err read_no_viewer) p1 q
+    cases true true c d k f q = given (Ok over) p2 q
+    cases true false true d k f q = absurd (let w : None ≡ Some r = q in cc)
+    cases true false false true k f q = given (Ok Empty) p3 q
+    cases true false false false true f q = given (Ok (Hold (waiting h v))) p4 q
+    cases true false false false false true q = given (Err (read_worn (length h))) p5 q
+    cases true false false false false false q = absurd (let w : None ≡ Some r = q in cc)
 
 pub read_stops : (d : DeskState) (h : History) (v : ℕ) (r : Result ReadAnswer ReadRefusal) (w : List ℕ) → Stands d h → read_stop h v ≡ Some r → Ended h (read v) (read_answer r) d d w w
-read_stops d h v r w s e = stop_kinds h v r (λ x. read_stop h v ≡ Some x → Ended h (read v) (read_answer x) d d w w) e (λ q. stays d h (read v) (was_read (Err read_no_viewer)) w s (read_stopped h v (Err read_no_viewer) q)) (λ q. stays d h (read v) (was_read (Ok over)) w s (read_stopped h v (Ok over) q)) (λ q. stays d h (read v) (was_read (Ok Empty)) w s (read_stopped h v (Ok Empty) q)) (λ q. stays d h (read v) (was_read (Err (read_worn (length h)))) w s (read_stopped h v (Err (read_worn (length h))) q)) e
+read_stops d h v r w s e = stop_kinds h v r (λ x. read_stop h v ≡ Some x → Ended h (read v) (read_answer x) d d w w) e (told (Err read_no_viewer)) (told (Ok over)) (told (Ok Empty)) (told (Ok (Hold (waiting h v)))) (told (Err (read_worn (length h)))) e
+  where
+    told : (x : Result ReadAnswer ReadRefusal) → read_stop h v ≡ Some x → Answered h (read v) (was_read x) d w w
+    told x q = stays d h (read v) (was_read x) w s (read_stopped h v x q)
 
 pub nothing_kept : (h : History) (v : ℕ) (r : Result ReadAnswer ReadRefusal) (P : Type 0) → read_stop h v ≡ Some r → P → OnNothing r P
-nothing_kept h v r P e p = stop_kinds h v r (λ x. OnNothing x P) e p p p p
+nothing_kept h v r P e p = stop_kinds h v r (λ x. OnNothing x P) e p p p p p
 
 pub nothing_given : (h : History) (v : ℕ) (r : Result ReadAnswer ReadRefusal) (P : Type 0) → read_stop h v ≡ Some r → OnGiven r P
-nothing_given h v r P e = stop_kinds h v r (λ x. OnGiven x P) e tt tt tt tt
+nothing_given h v r P e = stop_kinds h v r (λ x. OnGiven x P) e tt tt tt tt tt

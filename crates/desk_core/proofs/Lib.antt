@@ -1,9 +1,12 @@
--- In reading order: results, the host and its keys, the viewers, a desk with one entry more, what its parts tell, how each call is answered and what it adds, lists of calls.
+-- In reading order: results, the host and its keys, the viewers and what waits for them, a desk with one entry more, what its parts tell, how each call is answered and what it adds, lists of calls.
 pub mod Results
 pub mod DataRuns
 pub mod Hearing
 pub mod Keying
+pub mod Awaiting
+pub mod Bringing
 pub mod Seating
+pub mod Reaching
 pub mod FrameTexts
 pub mod Drawn
 pub mod Standing

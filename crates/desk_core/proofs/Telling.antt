@@ -1,6 +1,6 @@
 -- What the parts of a desk tell of its history, and what follows where no rule stops a call.
-use Rattle.std.proofs.Common.{◌≡◌, ℕ, ◌+◌, ◌-◌, ◌<◌, ◌≤◌, ◌^◌, [], ◌∷◌, length, Bool, true, false, not, ◌&&◌, ◌||◌, ◌⊎◌, inl, inr, refl, ap, sym, ◌∙◌, arith}
-use Rattle.std.specs.Prelude.{Option, Some, None, is_some, Result, Ok, Err, ◌==◌, nat_le}
+use Rattle.std.proofs.Common.{◌≡◌, ℕ, ◌+◌, ◌-◌, ◌<◌, ◌≤◌, ◌^◌, [], ◌∷◌, length, Bool, true, false, not, ◌&&◌, ◌||◌, ◌⊎◌, inl, inr, refl, ap, sym, ◌∙◌, lt-ltb, le-ltb, ltb-false, arith}
+use Rattle.std.specs.Prelude.{Option, Some, None, is_some, Result, Ok, Err, ◌==◌, nat_le, nat_lt}
 use Rattle.std.specs.Option.{option_map}
 use Rattle.std.proofs.lemmas.Bool.{eq-eqb}
 use Rattle.std.proofs.lemmas.Bool.Decides.{eqb_tells, leb_tells}
@@ -10,15 +10,16 @@ use Rattle.gate_model.specs.declared.sharing.Asked.{Asked}
 use Rattle.gate_model.specs.declared.sharing.Role.{Role}
 use Rattle.gate_model.specs.declared.feed_refusal.FeedRefusal.TheVariants.{Closed as feed_closed, Worn as feed_worn}
 use Rattle.gate_model.specs.declared.join_refusal.JoinRefusal.TheVariants.{Closed as join_closed, Forbidden as join_forbidden, TooMany as join_too_many, Worn as join_worn}
-use Rattle.gate_model.specs.declared.read_answer.ReadAnswer.TheVariants.{Ended, Empty}
+use Rattle.gate_model.specs.declared.read_answer.ReadAnswer.TheVariants.{Ended, Empty, Hold}
 use Rattle.gate_model.specs.declared.read_answer.ReadAnswer.{ReadAnswer}
 use Rattle.gate_model.specs.declared.read_refusal.ReadRefusal.{ReadRefusal}
 use Rattle.gate_model.specs.declared.read_refusal.ReadRefusal.TheVariants.{NoViewer as read_no_viewer, Worn as read_worn}
 use Rattle.gate_model.specs.declared.write_refusal.WriteRefusal.TheVariants.{NoViewer as write_no_viewer, Closed as write_closed, Worn as write_worn}
-use Rattle.gate_model.specs.Limits.{most_live, most_joined}
+use Rattle.gate_model.specs.Limits.{most_live, most_joined, most_waiting}
 use Rattle.gate_model.specs.session.History.{History, newest, capacity, joined, is_closed, is_full, share_mode}
 use Rattle.gate_model.specs.session.Delivered.{closing, farewell, position, ended}
 use Rattle.gate_model.specs.session.Rights.{is_live, live_count, role_in, is_control, may, mods}
+use Rattle.gate_model.specs.session.Waiting.{waiting}
 use Rattle.gate_model.specs.session.Refusals.{first_of, only_if, close_cause, is_forbidden, feed_refusal, join_refusal, read_stop, write_refusal}
 use Rattle.gate_model.specs.session.Laws.{EntriesAreFew}
 use Rattle.gate_model.proofs.Facts.{Facts}
@@ -160,27 +161,33 @@ pub record Reading (d : DeskState) (h : History) (v : ℕ) : Type 0 where
   pub live : is_live h v ≡ true
   pub more : ended h v ≡ false
   pub behind : is_closed h ≡ false → (position h v == newest h) ≡ false
+  pub few : is_closed h ≡ false → waiting h v ≤ most_waiting
   pub room : is_closed h ≡ false → is_full h ≡ false
 
-record Unstopped (live over shut same full : Bool) : Type 0 where
+record Unstopped (live over shut same held full : Bool) : Type 0 where
   there : live ≡ true
   more : over ≡ false
   behind : shut ≡ false → same ≡ false
+  few : shut ≡ false → held ≡ false
   room : shut ≡ false → full ≡ false
 
-unstopped : (h : History) (v : ℕ) → read_stop h v ≡ None → Unstopped (is_live h v) (ended h v) (is_closed h) (position h v == newest h) (is_full h)
-unstopped h v e = cases (is_live h v) (ended h v) (is_closed h) (position h v == newest h) (is_full h) e
+unstopped : (h : History) (v : ℕ) → read_stop h v ≡ None → Unstopped (is_live h v) (ended h v) (is_closed h) (position h v == newest h) (nat_lt most_waiting (waiting h v)) (is_full h)
+unstopped h v e = cases (is_live h v) (ended h v) (is_closed h) (position h v == newest h) (nat_lt most_waiting (waiting h v)) (is_full h) e
   where
     never : {A : Type 0} (x : Result ReadAnswer ReadRefusal) → Some x ≡ None → A
     never x q = absurd (let w : None ≡ Some x = sym q in cc)
 
-    cases : (a b c d f : Bool) → first_of (only_if (not a) (Err read_no_viewer) ∷ only_if b (Ok Ended) ∷ only_if (not c && d) (Ok Empty) ∷ only_if (not c && f) (Err (read_worn (length h))) ∷ []) ≡ None → Unstopped a b c d f
-    cases false b c d f q = never (Err read_no_viewer) q
-    cases true true c d f q = never (Ok Ended) q
-    cases true false true d f q = record { there = refl; more = refl; behind = λ z. absurd (let w : false ≡ true = sym z in cc); room = λ z. absurd (let w : false ≡ true = sym z in cc) }
-    cases true false false true f q = never (Ok Empty) q
-    cases true false false false true q = never (Err (read_worn (length h))) q
-    cases true false false false false q = record { there = refl; more = refl; behind = λ z. refl; room = λ z. refl }
+    isnt : {A : Type 0} → true ≡ false → A
+    isnt z = absurd (let w : false ≡ true = sym z in cc)
+
+    cases : (a b c d k f : Bool) → first_of (only_if (not a) (Err read_no_viewer) ∷ only_if b (Ok Ended) ∷ only_if (not c && d) (Ok Empty) ∷ only_if (not c && k) (Ok (Hold (waiting h v))) ∷ only_if (not c && f) (Err (read_worn (length h))) ∷ []) ≡ None → Unstopped a b c d k f
+    cases false b c d k f q = never (Err read_no_viewer) q
+    cases true true c d k f q = never (Ok Ended) q
+    cases true false true d k f q = record { there = refl; more = refl; behind = isnt; few = isnt; room = isnt }
+    cases true false false true k f q = never (Ok Empty) q
+    cases true false false false true f q = never (Ok (Hold (waiting h v))) q
+    cases true false false false false true q = never (Err (read_worn (length h))) q
+    cases true false false false false false q = record { there = refl; more = refl; behind = λ z. refl; few = λ z. refl; room = λ z. refl }
 
 pub reading : (d : DeskState) (h : History) (v : ℕ) → Stands d h → read_stop h v ≡ None → Reading d h v
 reading d h v s free =
@@ -191,6 +198,7 @@ reading d h v s free =
       live = u.there;
       more = u.more;
       behind = u.behind;
+      few = λ stays. ltb-false most_waiting (waiting h v) (u.few stays);
       room = u.room;
     }
 
@@ -242,14 +250,27 @@ module _ (d : DeskState) (h : History) (v : ℕ) (s : Stands d h) (there : book.
   behind : (position h v ≡ d.frames.stamp → ⊥) → (position h v == newest h) ≡ false
   behind differs = elim (eqb_tells (position h v) (newest h)) [ inl q ↦ absurd (differs (q.1 ∙ sym s.frames.stamp)) | inr q ↦ q.0 ]
 
-  pub read_is_worn : ended h v ≡ false → is_some d.cause ≡ false → (position h v ≡ d.frames.stamp → ⊥) → nat_le d.setup.entries d.entries ≡ true → read_stop h v ≡ Some (Err (read_worn d.entries))
-  read_is_worn more stays differs full =
+  pub waiting_is : (count : ℕ) → option_map (λ (w : Viewer). length w.waiting) (viewer_at d.book v) ≡ Some count → waiting h v ≡ count
+  waiting_is count is = sym (told (λ (w : Viewer). length w.waiting) (viewer_at d.book v) seat.viewer count seat.found is ∙ ap length seat.seated.waiting)
+
+  pub read_is_held : ended h v ≡ false → is_some d.cause ≡ false → (position h v ≡ d.frames.stamp → ⊥) → most_waiting < waiting h v → read_stop h v ≡ Some (Ok (Hold (waiting h v)))
+  read_is_held more stays differs many =
+      let q : is_closed h ≡ false = sym (shut_is d h s) ∙ stays in
+      let held : nat_lt most_waiting (waiting h v) ≡ true = lt-ltb most_waiting (waiting h v) many in
+      rw (is_there, more, q, behind differs, held) refl
+
+  -- .. nor is it held
+  not_held : waiting h v ≤ most_waiting → nat_lt most_waiting (waiting h v) ≡ false
+  not_held few = le-ltb most_waiting (waiting h v) few
+
+  pub read_is_worn : ended h v ≡ false → is_some d.cause ≡ false → (position h v ≡ d.frames.stamp → ⊥) → waiting h v ≤ most_waiting → nat_le d.setup.entries d.entries ≡ true → read_stop h v ≡ Some (Err (read_worn d.entries))
+  read_is_worn more stays differs few full =
       let q : is_closed h ≡ false = sym (shut_is d h s) ∙ stays in
       let f : is_full h ≡ true = rw (sym s.setup.entries, sym s.entries) full in
-      rw (is_there, more, q, behind differs, f, s.entries) refl
+      rw (is_there, more, q, behind differs, not_held few, f, s.entries) refl
 
-  pub read_is_allowed : ended h v ≡ false → is_some d.cause ≡ false → (position h v ≡ d.frames.stamp → ⊥) → nat_le d.setup.entries d.entries ≡ false → read_stop h v ≡ None
-  read_is_allowed more stays differs room =
+  pub read_is_allowed : ended h v ≡ false → is_some d.cause ≡ false → (position h v ≡ d.frames.stamp → ⊥) → waiting h v ≤ most_waiting → nat_le d.setup.entries d.entries ≡ false → read_stop h v ≡ None
+  read_is_allowed more stays differs few room =
       let q : is_closed h ≡ false = sym (shut_is d h s) ∙ stays in
       let f : is_full h ≡ false = rw (sym s.setup.entries, sym s.entries) room in
-      rw (is_there, more, q, behind differs, f) refl
+      rw (is_there, more, q, behind differs, not_held few, f) refl

@@ -1,6 +1,6 @@
 -- What brings a viewer up to date: frames that are kept, or a picture.
-use Rattle.std.proofs.Common.{◌≡◌, ℕ, ◌+◌, ◌*◌, ◌≤◌, List, ◌++◌, length, Bool, true, false, ap, sym, ◌∙◌, subst, append_assoc}
-use Rattle.std.specs.Prelude.{IsTrue}
+use Rattle.std.proofs.Common.{◌≡◌, ℕ, ◌+◌, ◌*◌, ◌≤◌, List, ◌++◌, length, Bool, true, false, ap, sym, ◌∙◌, subst, append_assoc, arith}
+use Rattle.std.specs.Prelude.{IsTrue, None, Some}
 use Rattle.std.proofs.lemmas.List.{length-map}
 use Rattle.gate_model.specs.declared.how.How.TheVariants.{Suffix, Fresh as Picture}
 use Rattle.gate_model.specs.declared.instr.Instr.{Instr}
@@ -10,23 +10,28 @@ use Rattle.gate_model.specs.picture.KeyGrid.{KeyGrid}
 use Rattle.gate_model.specs.picture.Shape.{Shape}
 use Rattle.gate_model.specs.terminal.Screens.{AreColoured}
 use Rattle.gate_model.specs.text.Text.{texts}
-use Rattle.gate_model.specs.session.Calls.{lacked}
+use Rattle.gate_model.specs.session.Calls.{Updates, lacked}
 use Rattle.gate_model.specs.session.Delivered.{closing, handed, position}
 use Rattle.gate_model.specs.session.History.{History, bytes, columns, rows, frames, frames_after, instructions, newest, is_closed}
 use Rattle.gate_model.specs.session.Kept.{Covers}
+use Rattle.gate_model.specs.session.Refusals.{read_stop}
 use Rattle.gate_model.specs.session.Steps.{IsScreenSize}
 use Rattle.gate_model.specs.session.WholeLaws.{MakingRestores}
 use Rattle.gate_model.proofs.Histories.{legal-size}
 use Rattle.gate_model.proofs.ScreenLaws.{coloured-screen}
 use Rattle.display_history.specs.Keeping.{HasKept, after_stamp, covers}
 use Rattle.display_history.specs.Laws.{CoversHistory, TextsGoAfter, texts_of}
+use Rattle.viewer_book.specs.declared.viewer.Viewer.{Viewer}
+use Rattle.viewer_book.specs.Book.{viewer_at}
+use Rattle.desk_core.specs.declared.desk.update.Update.{Update}
 use Rattle.desk_core.specs.Desk.{DeskState, Stands}
 use Rattle.desk_core.specs.Farewell.{farewell_of}
 use Rattle.desk_core.specs.Frames.{joined_texts}
 use Rattle.desk_core.specs.Parts.{Brings, Pictures}
 use Rattle.desk_core.proofs.Following.{drawn_cols, drawn_rows}
 use Rattle.desk_core.proofs.FrameTexts.{joined_is, texts-append}
-use Rattle.desk_core.proofs.Telling.{closing_is}
+use Rattle.desk_core.specs.Viewers.{IsBehind}
+use Rattle.desk_core.proofs.Telling.{closing_is, is_below, not_above, reading}
 
 -- ---- a picture
 
@@ -90,3 +95,16 @@ picture_brings d h v t is stamp closed s exactly at uncovered p now shut = recor
 
 pub picture_given : (d : DeskState) (h : History) (v : ℕ) (is : List Instr) (before new : List ℕ) → Stands d h → new ≡ before ++ texts is ++ texts (farewell_of d.cause) → new ≡ before ++ texts (handed h (position h v) (Picture is) ++ closing h)
 picture_given d h v is before new s gains = gains ∙ (append_assoc before (texts is) (texts (farewell_of d.cause)) ∙ ap (λ (xs : List ℕ). before ++ xs) (text_given d h is s))
+
+-- ---- a viewer that is brought up to date
+
+pub is_behind : (d : DeskState) (h : History) (v : ℕ) (u : Update) (closed : Bool) (w : Viewer) → Stands d h → read_stop h v ≡ None → Brings h v u → CoversHistory → closed ≡ is_closed h → viewer_at d.book v ≡ Some w → IsBehind d.frames u.how closed w
+is_behind d h v u closed w s free brings exactly shut found =
+    let r = reading d h v s free in
+    let seat = s.book.seated v w found in
+    record {
+      reached = not_above d h v w s found;
+      lacks = λ stays. is_below d h v w s found (r.behind (sym shut ∙ stays));
+      few = λ stays. omega (arith, ap length seat.waiting, r.few (sym shut ∙ stays));
+      kept = λ stays suffix. (exactly h s.legal d.frames.kept s.frames.kept w.position).1 (subst (Covers h) (sym seat.position) (subst (Updates h (position h v)) suffix brings.updates));
+    }

@@ -1,6 +1,6 @@
 ghost use Rattle.std.specs.Prelude.{◌≡◌, ◌<◌, ◌≤◌, ℕ, List, length, IfOk, IsTrue, OnErr, OnOk};
 ghost use Rattle.gate_model.specs.text.Text.{texts};
-ghost use Rattle.display_history.specs.Keeping.{HasKept, after_stamp, covers};
+ghost use Rattle.display_history.specs.Keeping.{AreRising, HasKept, after_stamp, covers};
 ghost use Rattle.desk_core.specs.Frames.{AddsFrame, no_frames};
 
 use display_history::laws::{kept_are_few, newest_is_last};
@@ -86,6 +86,7 @@ impl Frames {
         requires { IsTrue (covers self.now.kept stamp) }
         ensures frames { (all : List (ℕ × List ℕ)) → HasKept self.now.kept all → result.now ≡ after_stamp stamp all }
         ensures few { length result.now ≤ 256 }
+        ensures rising { AreRising stamp result.now }
     {
         kept_are_few();
         self.kept.after(stamp)

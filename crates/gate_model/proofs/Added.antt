@@ -1,6 +1,6 @@
 -- What a call that nothing stops tells of the entry that it adds, by the kind of the entry.
 use Rattle.std.proofs.Common.{◌≡◌, ℕ, ◌+◌, ◌<◌, ◌≤◌, List, [], ◌∷◌, length, take, Bool, true, false, not, ◌&&◌, ◌||◌, ◌⊎◌, inl, inr, refl, sym, ◌∙◌, subst, arith, length-take, length-drop}
-use Rattle.std.specs.Prelude.{Option, Some, None, Result, Ok, Err, ◌==◌, nat_le}
+use Rattle.std.specs.Prelude.{Option, Some, None, Result, Ok, Err, ◌==◌, nat_le, nat_lt}
 use Rattle.std.specs.Option.{option_map}
 use Rattle.std.proofs.lemmas.Bool.{leb-false}
 use Rattle.std.proofs.lemmas.Bool.Decides.{eqb_tells}
@@ -24,15 +24,16 @@ use Rattle.gate_model.specs.declared.join_refusal.JoinRefusal.TheVariants.{Close
 use Rattle.gate_model.specs.declared.write_refusal.WriteRefusal.{WriteRefusal}
 use Rattle.gate_model.specs.declared.write_refusal.WriteRefusal.TheVariants.{NoViewer as write_no_viewer, Closed as write_closed, Worn as write_worn}
 use Rattle.gate_model.specs.declared.read_answer.ReadAnswer.{ReadAnswer}
-use Rattle.gate_model.specs.declared.read_answer.ReadAnswer.TheVariants.{Ended, Empty}
+use Rattle.gate_model.specs.declared.read_answer.ReadAnswer.TheVariants.{Ended, Empty, Hold}
 use Rattle.gate_model.specs.declared.read_refusal.ReadRefusal.{ReadRefusal}
 use Rattle.gate_model.specs.declared.read_refusal.ReadRefusal.TheVariants.{NoViewer as read_no_viewer, Worn as read_worn}
-use Rattle.gate_model.specs.Limits.{most_piece, most_acts, most_live, most_joined}
+use Rattle.gate_model.specs.Limits.{most_piece, most_acts, most_live, most_joined, most_waiting}
 use Rattle.gate_model.specs.picture.Shape.{Shape}
 use Rattle.gate_model.specs.session.History.{History, next_stamp, size_now, newest, columns, rows, terminal_type, joined, share_mode, is_closed, is_full}
 use Rattle.gate_model.specs.session.Delivered.{position, ended}
 use Rattle.gate_model.specs.session.Output.{out, taken, untaken}
 use Rattle.gate_model.specs.session.Rights.{is_live, live_count}
+use Rattle.gate_model.specs.session.Waiting.{waiting}
 use Rattle.gate_model.specs.session.Roles.{grant_of}
 use Rattle.gate_model.specs.session.Refusals.{first_of, only_if, close_cause, is_crowded, is_forbidden, feed_refusal, join_refusal, read_stop, write_refusal, leave_refusal, close_refusal}
 use Rattle.gate_model.specs.session.Calls.{AreBytes, ShowsNewest, Updates, Step}
@@ -145,10 +146,12 @@ read_free h viewer how e updates =
     let over : Option (Result ReadAnswer ReadRefusal) = only_if (ended h viewer) (Ok Ended) in
     let empty : Option (Result ReadAnswer ReadRefusal) = only_if (not (is_closed h) && position h viewer == newest h) (Ok Empty) in
     let worn : Option (Result ReadAnswer ReadRefusal) = only_if (not (is_closed h) && is_full h) (Err (read_worn (length h))) in
-    let p = none_first away (over ∷ empty ∷ worn ∷ []) e in
-    let q = none_first over (empty ∷ worn ∷ []) p.1 in
-    let r = none_first empty (worn ∷ []) q.1 in
-    let s = none_first worn [] r.1 in
+    let held : Option (Result ReadAnswer ReadRefusal) = only_if (not (is_closed h) && nat_lt most_waiting (waiting h viewer)) (Ok (Hold (waiting h viewer))) in
+    let p = none_first away (over ∷ empty ∷ held ∷ worn ∷ []) e in
+    let q = none_first over (empty ∷ held ∷ worn ∷ []) p.1 in
+    let r = none_first empty (held ∷ worn ∷ []) q.1 in
+    let w = none_first held (worn ∷ []) r.1 in
+    let s = none_first worn [] w.1 in
     record {
       live = holds (is_live h viewer) (not_there (not (is_live h viewer)) (Err read_no_viewer) p.0);
       not_ended = not_there (ended h viewer) (Ok Ended) q.0;

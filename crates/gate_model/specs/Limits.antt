@@ -28,6 +28,10 @@ most_entries = 2 ^ 40
 abbrev pub most_clock : ℕ
 most_clock = 2 ^ 53
 
+-- the most stamps that may wait for a viewer's acknowledgement when it is given more
+abbrev pub most_waiting : ℕ
+most_waiting = 64
+
 -- the most acts of one write
 abbrev pub most_acts : ℕ
 most_acts = 4096

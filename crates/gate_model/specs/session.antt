@@ -4,6 +4,7 @@ pub mod Entries
 pub mod History
 pub mod Delivered
 pub mod Rights
+pub mod Waiting
 pub mod Output
 pub mod Kept
 pub mod Refusals

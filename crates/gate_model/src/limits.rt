@@ -22,6 +22,9 @@ pub const MOST_ENTRIES: u64 = 1 << 40;
 /// The clock counts no further than this.
 pub const MOST_CLOCK: u64 = 1 << 53;
 
+/// The most stamps that may wait for a viewer's acknowledgement when it is given more.
+pub const MOST_WAITING: usize = 64;
+
 /// The most acts of one write.
 pub const MOST_ACTS: usize = 4_096;
 

@@ -20,7 +20,7 @@ use Rattle.gate_model.specs.declared.event.Event.TheVariants.{Feed as feed, Join
 use Rattle.gate_model.specs.declared.feed_refusal.FeedRefusal.TheVariants.{Closed as feed_closed, Worn as feed_worn}
 use Rattle.gate_model.specs.declared.join_refusal.JoinRefusal.TheVariants.{Closed as join_closed, Forbidden as join_forbidden, TooMany as join_too_many, Worn as join_worn}
 use Rattle.gate_model.specs.declared.no_viewer.NoViewer.{NoViewer}
-use Rattle.gate_model.specs.declared.read_answer.ReadAnswer.TheVariants.{Ended, Empty}
+use Rattle.gate_model.specs.declared.read_answer.ReadAnswer.TheVariants.{Ended, Empty, Hold}
 use Rattle.gate_model.specs.declared.read_refusal.ReadRefusal.TheVariants.{NoViewer as read_no_viewer, Worn as read_worn}
 use Rattle.gate_model.specs.declared.setup.Setup.{Setup}
 use Rattle.gate_model.specs.declared.sharing.Asked.{Asked}
@@ -226,12 +226,13 @@ join_full m n live joins None false true d e = none_some n e
 join_full m n live joins None false false true e = refl
 join_full m n live joins None false false false e = none_some n e
 
-read_full : (m n : ℕ) (b c d x : Bool) → worn_in (option_map was_read (first_of (only_if b (Err read_no_viewer) ∷ only_if c (Ok Ended) ∷ only_if d (Ok Empty) ∷ only_if x (Err (read_worn m)) ∷ []))) ≡ Some n → x ≡ true
-read_full m n true c d x e = none_some n e
-read_full m n false true d x e = none_some n e
-read_full m n false false true x e = none_some n e
-read_full m n false false false true e = refl
-read_full m n false false false false e = none_some n e
+read_full : (k m n : ℕ) (b c d x y : Bool) → worn_in (option_map was_read (first_of (only_if b (Err read_no_viewer) ∷ only_if c (Ok Ended) ∷ only_if d (Ok Empty) ∷ only_if x (Ok (Hold k)) ∷ only_if y (Err (read_worn m)) ∷ []))) ≡ Some n → y ≡ true
+read_full k m n true c d x y e = none_some n e
+read_full k m n false true d x y e = none_some n e
+read_full k m n false false true x y e = none_some n e
+read_full k m n false false false true y e = none_some n e
+read_full k m n false false false false true e = refl
+read_full k m n false false false false false e = none_some n e
 
 write_full : (m n : ℕ) (b : Bool) (o : Option Cause) (d : Bool) → worn_in (option_map (λ refusal. was_written (Err refusal)) (first_of (only_if b write_no_viewer ∷ option_map write_closed o ∷ only_if d (write_worn m) ∷ []))) ≡ Some n → d ≡ true
 write_full m n true o d e = none_some n e
@@ -258,7 +259,7 @@ second_holds false c e = absurd cc
 worn_is_full : (h : History) (event : Event) (n : ℕ) → worn_in (stop_of h event) ≡ Some n → is_full h ≡ true
 worn_is_full h (feed bytes now) n e = feed_full _ n _ (is_full h) e
 worn_is_full h (join_in asked) n e = join_full _ n _ _ _ _ _ (is_full h) e
-worn_is_full h (read_as viewer) n e = second_holds _ (is_full h) (read_full _ n _ _ _ _ e)
+worn_is_full h (read_as viewer) n e = second_holds _ (is_full h) (read_full _ _ n _ _ _ _ _ e)
 worn_is_full h (write_acts viewer acts) n e = write_full _ n _ _ (is_full h) e
 worn_is_full h (take_most most) n e = take_full n _ _ e
 worn_is_full h (leave_as viewer) n e = leave_full n _ e

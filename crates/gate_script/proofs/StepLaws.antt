@@ -1,6 +1,6 @@
 -- The entries that a call adds, by its answer.
-use Rattle.std.proofs.Common.{◌≡◌, ℕ, ◌+◌, List, [], ◌∷◌, length, take, Bool, true, false, not, ◌&&◌, ◌⊎◌, inl, inr, refl, ap, sym, ◌∙◌, subst, arith}
-use Rattle.std.specs.Prelude.{Result, Ok, Err, Option, Some, None, ◌==◌}
+use Rattle.std.proofs.Common.{◌≡◌, ℕ, ◌+◌, List, [], ◌∷◌, length, take, Bool, true, false, not, ◌&&◌, refl, ap, sym, ◌∙◌, subst, arith}
+use Rattle.std.specs.Prelude.{Result, Ok, Err, Option, Some, None, ◌==◌, nat_lt}
 use Rattle.std.specs.Option.{option_map}
 use Rattle.std.proofs.lemmas.Bool.Decides.{nat_tests}
 use Rattle.gate_model.specs.declared.act.Act.{Act}
@@ -32,6 +32,8 @@ use Rattle.gate_model.specs.session.History.{History, newest, next_stamp, joined
 use Rattle.gate_model.specs.session.Output.{untaken}
 use Rattle.gate_model.specs.session.Refusals.{only_if, first_of, feed_refusal, join_refusal, write_refusal, leave_refusal, close_refusal}
 use Rattle.gate_model.specs.session.Rights.{is_live}
+use Rattle.gate_model.specs.session.Waiting.{waiting}
+use Rattle.gate_model.specs.Limits.{most_waiting}
 
 -- ---- in general
 
@@ -108,38 +110,35 @@ close_adds h cause u added s =
     no_stop None e = let w : None ≡ Some (was_closed (Ok u)) = e in cc
     no_stop (Some r) e = let w : Some (was_closed (Err r)) ≡ Some (was_closed (Ok u)) = e in cc
 
--- what stops a read tells that it has ended, or has nothing new
-read_stops : (h : History) (viewer : ℕ) (answer : ReadAnswer) → stop_of h (read_as viewer) ≡ Some (was_read (Ok answer)) → (answer ≡ Ended) ⊎ (answer ≡ Empty)
-read_stops h viewer answer e = cases (is_live h viewer) (ended h viewer) (not (is_closed h) && position h viewer == newest h) (not (is_closed h) && is_full h) (read_worn (length h)) e
-  where
-    cases : (there over one two : Bool) (worn : ReadRefusal)
-        → option_map was_read (first_of (only_if (not there) (Err read_no_viewer) ∷ only_if over (Ok Ended) ∷ only_if one (Ok Empty) ∷ only_if two (Err worn) ∷ [])) ≡ Some (was_read (Ok answer)) → (answer ≡ Ended) ⊎ (answer ≡ Empty)
-    cases false over one two worn q = absurd (let w : Some (was_read (Err read_no_viewer)) ≡ Some (was_read (Ok answer)) = q in cc)
-    cases true true one two worn q = inl (let w : Some (was_read (Ok Ended)) ≡ Some (was_read (Ok answer)) = q in cc)
-    cases true false true two worn q = inr (let w : Some (was_read (Ok Empty)) ≡ Some (was_read (Ok answer)) = q in cc)
-    cases true false false true worn q = absurd (let w : Some (was_read (Err worn)) ≡ Some (was_read (Ok answer)) = q in cc)
-    cases true false false false worn q = absurd (let w : None ≡ Some (was_read (Ok answer)) = q in cc)
-
 -- a read that gave something
 abbrev pub Gave : ReadAnswer → Type 0
 Gave (Frames count stamp closed) = Unit {0}
 Gave (Fresh stamp closed) = Unit {0}
 Gave answer = ⊥
 
--- it adds a Read, by the frames or by a picture
+-- what stops a read gives nothing
+read_stops : (h : History) (viewer : ℕ) (answer : ReadAnswer) → stop_of h (read_as viewer) ≡ Some (was_read (Ok answer)) → Gave answer → ⊥
+read_stops h viewer answer e gave = cases (is_live h viewer) (ended h viewer) (not (is_closed h) && position h viewer == newest h) (not (is_closed h) && nat_lt most_waiting (waiting h viewer)) (not (is_closed h) && is_full h) e
+  where
+    none : (x : ReadAnswer) → (Gave x → ⊥) → Some (was_read (Ok x)) ≡ Some (was_read (Ok answer)) → ⊥
+    none x nothing q =
+        let same : answer ≡ x = (let w : Some (was_read (Ok x)) ≡ Some (was_read (Ok answer)) = q in cc) in
+        nothing (subst Gave same gave)
+
+    cases : (there over one two three : Bool)
+        → option_map was_read (first_of (only_if (not there) (Err read_no_viewer) ∷ only_if over (Ok Ended) ∷ only_if one (Ok Empty) ∷ only_if two (Ok (Hold (waiting h viewer))) ∷ only_if three (Err (read_worn (length h))) ∷ [])) ≡ Some (was_read (Ok answer)) → ⊥
+    cases false over one two three q = let w : Some (was_read (Err read_no_viewer)) ≡ Some (was_read (Ok answer)) = q in cc
+    cases true true one two three q = none Ended (λ g. g) q
+    cases true false true two three q = none Empty (λ g. g) q
+    cases true false false true three q = none (Hold (waiting h viewer)) (λ g. g) q
+    cases true false false false true q = let w : Some (was_read (Err (read_worn (length h)))) ≡ Some (was_read (Ok answer)) = q in cc
+    cases true false false false false q = let w : None ≡ Some (was_read (Ok answer)) = q in cc
+
+-- a read that gave something adds a Read, by the frames or by a picture
 pub read_adds : (h : History) (viewer : ℕ) (answer : ReadAnswer) (added : List Entry) → Gave answer → Step h (read_as viewer) (was_read (Ok answer)) added → (how : How) × (added ≡ Read viewer how ∷ [])
 read_adds h viewer answer added gave s =
-    let one = adding h (read_as viewer) (was_read (Ok answer)) added (λ e. no_stop answer gave (read_stops h viewer answer e)) s in
+    let one = adding h (read_as viewer) (was_read (Ok answer)) added (λ e. read_stops h viewer answer e gave) s in
     (one.1.0, one.2 ∙ ap (λ (e : Entry). e ∷ []) one.1.3)
-  where
-    no_stop : (answer : ReadAnswer) → Gave answer → (answer ≡ Ended) ⊎ (answer ≡ Empty) → ⊥
-    no_stop (Frames count stamp closed) gave (inl e) = cc
-    no_stop (Frames count stamp closed) gave (inr e) = cc
-    no_stop (Fresh stamp closed) gave (inl e) = cc
-    no_stop (Fresh stamp closed) gave (inr e) = cc
-    no_stop Ended gave e = gave
-    no_stop Empty gave e = gave
-    no_stop (Hold waiting) gave e = gave
 
 -- ---- calls that add nothing
 

@@ -1,6 +1,6 @@
 -- What one look of a reader's pass comes to, and two of them.
 use Rattle.std.proofs.Common.{◌≡◌, ◌⊎◌, ℕ, ◌+◌, ◌≤◌, List, [], ◌∷◌, ◌++◌, length, Bool, true, false, inl, inr, refl, ap, sym, ◌∙◌, subst, append_assoc, arith}
-use Rattle.std.specs.Prelude.{Option, Some, None, Result, Ok, Err, Contains, not, ◌&&◌, ◌||◌, ◌==◌, if◌then◌else◌}
+use Rattle.std.specs.Prelude.{Option, Some, None, Result, Ok, Err, Contains, not, ◌&&◌, ◌||◌, ◌==◌, nat_lt, if◌then◌else◌}
 use Rattle.std.specs.Option.{option_map}
 use Rattle.std.proofs.lemmas.Bool.{eq-eqb, eqb-true}
 use Rattle.turn_lock.proofs.Elements.{contains_head, contains_tail, later_trans}
@@ -21,6 +21,8 @@ use Rattle.gate_model.specs.session.Delivered.{closed_by, closing, delivered, en
 use Rattle.gate_model.specs.session.History.{History, is_closed, is_full, newest}
 use Rattle.gate_model.specs.session.Refusals.{first_of, only_if, read_stop}
 use Rattle.gate_model.specs.session.Rights.{is_live}
+use Rattle.gate_model.specs.session.Waiting.{waiting}
+use Rattle.gate_model.specs.Limits.{most_waiting}
 use Rattle.gate_model.specs.session.Steps.{Legal}
 use Rattle.gate_model.specs.text.Text.{text, texts}
 use Rattle.gate_model.specs.Sequences.{IsLater}
@@ -69,8 +71,12 @@ later_given (e ∷ added) g v =
 same_some : {A : Type 0} (x y : A) → Some x ≡ Some y → x ≡ y
 same_some x y e = cc
 
-abbrev pub chain : (away over none full : Bool) (n : ℕ) → Option (Result ReadAnswer ReadRefusal)
-chain away over none full n = first_of (only_if away (Err read_no_viewer) ∷ only_if over (Ok read_ended) ∷ only_if none (Ok Empty) ∷ only_if full (Err (read_worn n)) ∷ [])
+abbrev pub chain : (away over none held full : Bool) (m n : ℕ) → Option (Result ReadAnswer ReadRefusal)
+chain away over none held full m n = first_of (only_if away (Err read_no_viewer) ∷ only_if over (Ok read_ended) ∷ only_if none (Ok Empty) ∷ only_if held (Ok (Hold m)) ∷ only_if full (Err (read_worn n)) ∷ [])
+
+-- what may stop the viewer's read after the history
+abbrev pub stops_after : History → ℕ → Option (Result ReadAnswer ReadRefusal)
+stops_after h viewer = chain (not (is_live h viewer)) (ended h viewer) (not (is_closed h) && position h viewer == newest h) (not (is_closed h) && nat_lt most_waiting (waiting h viewer)) (not (is_closed h) && is_full h) (waiting h viewer) (length h)
 
 -- what a stopped read's answer says of its viewer's end
 abbrev Said : Bool → Result ReadAnswer ReadRefusal → Type 0
@@ -78,22 +84,29 @@ Said over (Ok (Frames n stamp closed)) = ⊥
 Said over (Ok (Fresh stamp closed)) = ⊥
 Said over (Ok read_ended) = over ≡ true
 Said over (Ok Empty) = over ≡ false
-Said over (Ok (Hold n)) = ⊥
+Said over (Ok (Hold n)) = over ≡ false
 Said over (Err refused) = Unit {0}
 
-said : (away over none full : Bool) (n : ℕ) (r : Result ReadAnswer ReadRefusal) → chain away over none full n ≡ Some r → Said over r
-said true over none full n r e = subst (λ (x : Result ReadAnswer ReadRefusal). Said over x) (same_some (Err read_no_viewer) r e) tt
-said false true none full n r e = subst (λ (x : Result ReadAnswer ReadRefusal). Said true x) (same_some (Ok read_ended) r e) refl
-said false false true full n r e = subst (λ (x : Result ReadAnswer ReadRefusal). Said false x) (same_some (Ok Empty) r e) refl
-said false false false true n r e = subst (λ (x : Result ReadAnswer ReadRefusal). Said false x) (same_some (Err (read_worn n)) r e) tt
-said false false false false n r e = absurd (let z : None ≡ Some r = e in cc)
+said : (away over none held full : Bool) (m n : ℕ) (r : Result ReadAnswer ReadRefusal) → chain away over none held full m n ≡ Some r → Said over r
+said true over none held full m n r e = subst (λ (x : Result ReadAnswer ReadRefusal). Said over x) (same_some (Err read_no_viewer) r e) tt
+said false true none held full m n r e = subst (λ (x : Result ReadAnswer ReadRefusal). Said true x) (same_some (Ok read_ended) r e) refl
+said false false true held full m n r e = subst (λ (x : Result ReadAnswer ReadRefusal). Said false x) (same_some (Ok Empty) r e) refl
+said false false false true full m n r e = subst (λ (x : Result ReadAnswer ReadRefusal). Said false x) (same_some (Ok (Hold m)) r e) refl
+said false false false false true m n r e = subst (λ (x : Result ReadAnswer ReadRefusal). Said false x) (same_some (Err (read_worn n)) r e) tt
+said false false false false false m n r e = absurd (let z : None ≡ Some r = e in cc)
+
+said_after : (h : History) (viewer : ℕ) (r : Result ReadAnswer ReadRefusal) → stops_after h viewer ≡ Some r → Said (ended h viewer) r
+said_after h viewer r e = said (not (is_live h viewer)) (ended h viewer) (not (is_closed h) && position h viewer == newest h) (not (is_closed h) && nat_lt most_waiting (waiting h viewer)) (not (is_closed h) && is_full h) (waiting h viewer) (length h) r e
 
 -- a read that nothing stops: its viewer isn't at its end, and lacks something where the session is open
-unstopped : (away over none full : Bool) (n : ℕ) → chain away over none full n ≡ None → (over ≡ false) × (none ≡ false)
-unstopped true over none full n e = absurd (let z : Some (Err read_no_viewer) ≡ None = e in cc)
-unstopped false true none full n e = absurd (let z : Some (Ok read_ended) ≡ None = e in cc)
-unstopped false false true full n e = absurd (let z : Some (Ok Empty) ≡ None = e in cc)
-unstopped false false false full n e = (refl, refl)
+unstopped : (away over none held full : Bool) (m n : ℕ) → chain away over none held full m n ≡ None → (over ≡ false) × (none ≡ false)
+unstopped true over none held full m n e = absurd (let z : Some (Err read_no_viewer) ≡ None = e in cc)
+unstopped false true none held full m n e = absurd (let z : Some (Ok read_ended) ≡ None = e in cc)
+unstopped false false true held full m n e = absurd (let z : Some (Ok Empty) ≡ None = e in cc)
+unstopped false false false held full m n e = (refl, refl)
+
+unstopped_after : (h : History) (viewer : ℕ) → stops_after h viewer ≡ None → (ended h viewer ≡ false) × ((not (is_closed h) && position h viewer == newest h) ≡ false)
+unstopped_after h viewer e = unstopped (not (is_live h viewer)) (ended h viewer) (not (is_closed h) && position h viewer == newest h) (not (is_closed h) && nat_lt most_waiting (waiting h viewer)) (not (is_closed h) && is_full h) (waiting h viewer) (length h) e
 
 read_inj : (x y : Result ReadAnswer ReadRefusal) → was_read x ≡ was_read y → x ≡ y
 read_inj x y e = cc
@@ -111,7 +124,7 @@ stopped_cause h viewer more (Ok (Frames n stamp closed)) stop s = absurd s
 stopped_cause h viewer more (Ok (Fresh stamp closed)) stop s = absurd s
 stopped_cause h viewer more (Ok read_ended) stop s = s
 stopped_cause h viewer more (Ok Empty) stop s = (refl, s, inl stop)
-stopped_cause h viewer more (Ok (Hold n)) stop s = absurd s
+stopped_cause h viewer more (Ok (Hold n)) stop s = (refl, s, inr (n, stop))
 stopped_cause h viewer more (Err read_no_viewer) stop s = stop
 stopped_cause h viewer more (Err (read_worn n)) stop s = stop
 stopped_cause h viewer more (Err read_no_memory) stop s = tt
@@ -168,9 +181,9 @@ module _ (g : History) (viewer : ℕ) (how : How) where
   added_cause : (first : History) → IsLater first g → Legal g → Updates g (position g viewer) how → stop_of g (read viewer) ≡ None → (more : List Instr) → delivered (Read viewer how ∷ g) viewer ≡ delivered first viewer ++ more
       → (closed : Bool) → is_closed g ≡ closed → TunnelCause (Ok (if closed then Ended else Open)) viewer (Read viewer how ∷ g) more
   added_cause first later legal updates stop more is true closed =
-      ended_as true (unstopped (not (is_live g viewer)) (ended g viewer) (not (is_closed g) && position g viewer == newest g) (not (is_closed g) && is_full g) (length g) (mapped_none (read_stop g viewer) stop)).0 closed
+      ended_as true (unstopped_after g viewer (mapped_none (read_stop g viewer) stop)).0 closed
   added_cause first later legal updates stop more is false closed =
-      let free = unstopped (not (is_live g viewer)) (ended g viewer) (not (is_closed g) && position g viewer == newest g) (not (is_closed g) && is_full g) (length g) (mapped_none (read_stop g viewer) stop) in
+      let free = unstopped_after g viewer (mapped_none (read_stop g viewer) stop) in
       let k = later_given later.0 first viewer in
       let found : delivered g viewer ≡ delivered first viewer ++ k.0 = ap (λ (h : History). delivered h viewer) later.1 ∙ k.1 in
       let own = given g (delivered g viewer) viewer (Read viewer how) in
@@ -229,7 +242,7 @@ module _ (v w : View Entry) (viewer : ℕ) (more : List Instr) (given_more : del
         reads = [];
         few = inl refl;
         own = own_same v w _ t none;
-        cause = subst (λ (h : History). LookCause (look_of r) viewer h more []) (sym seen) (stopped_cause t.before viewer more r s.1 (said (not (is_live t.before viewer)) (ended t.before viewer) (not (is_closed t.before) && position t.before viewer == newest t.before) (not (is_closed t.before) && is_full t.before) (length t.before) r (mapped_read (read_stop t.before viewer) r s.1)));
+        cause = subst (λ (h : History). LookCause (look_of r) viewer h more []) (sym seen) (stopped_cause t.before viewer more r s.1 (said_after t.before viewer r (mapped_read (read_stop t.before viewer) r s.1)));
         nothing = stopped_nothing r (texts more) (right_none before (texts more) (sym wrote ∙ (t.did_it.1 ∙ (ap (λ (es : List Entry). before ++ texts (handed_out t.before (read viewer) (was_read r) es)) none ∙ append_nil before))));
       }
       by (e ∷ []) is s seen =

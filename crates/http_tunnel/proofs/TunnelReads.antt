@@ -1,13 +1,15 @@
 -- What the steps of a read of a tunnel come to.
 use Rattle.std.proofs.Common.{◌≡◌, inl, inr, ℕ, List, ◌++◌, length, Bool, true, false, refl, ap, sym, ◌∙◌, subst}
-use Rattle.std.specs.Prelude.{Option, Some, None, IfSome, is_some, Result, Ok, Err, not, ◌&&◌, ◌||◌, ◌==◌, if◌then◌else◌}
-use Rattle.gate_model.specs.declared.read_answer.ReadAnswer.TheVariants.{Ended as read_ended, Empty}
+use Rattle.std.specs.Prelude.{Option, Some, None, IfSome, is_some, Result, Ok, Err, not, ◌&&◌, ◌||◌, ◌==◌, nat_lt, if◌then◌else◌}
+use Rattle.gate_model.specs.declared.read_answer.ReadAnswer.TheVariants.{Ended as read_ended, Empty, Hold}
 use Rattle.gate_model.specs.declared.read_refusal.ReadRefusal.TheVariants.{NoViewer as read_no_viewer, Worn as read_worn}
 use Rattle.gate_model.specs.declared.instr.Instr.{Instr}
 use Rattle.gate_model.specs.session.Delivered.{ended, position}
 use Rattle.gate_model.specs.session.History.{History, is_closed, is_full, newest}
 use Rattle.gate_model.specs.session.Refusals.{read_stop}
 use Rattle.gate_model.specs.session.Rights.{is_live}
+use Rattle.gate_model.specs.session.Waiting.{waiting}
+use Rattle.gate_model.specs.Limits.{most_waiting}
 use Rattle.id_table.specs.Maps.{Changed, IsLent, Same, Shelved, Told, had}
 use Rattle.shared_desk.specs.Members.{ViewerState}
 use Rattle.http_tunnel.specs.Reads.{HasRead, TunnelCause, mark_of}
@@ -22,24 +24,33 @@ use Rattle.http_tunnel.specs.declared.reading.TunnelRefusal.TheVariants.{NoViewe
 use Rattle.http_tunnel.specs.declared.refusal.Refusal.{Refusal}
 use Rattle.http_tunnel.specs.declared.refusal.Refusal.TheVariants.{NotFound}
 use Rattle.http_tunnel.specs.declared.tunnel.Tunnel.{Tunnel}
-use Rattle.http_tunnel.proofs.Looks.{append_nil, chain, mapped_read}
+use Rattle.http_tunnel.proofs.Looks.{append_nil, chain, mapped_read, stops_after}
 use Rattle.http_tunnel.proofs.Shelves.{Lends, after_told, all_changed, all_same, changed_after, changed_none, changed_twice, same_refl, same_trans, some_inj, told_as, told_none, told_on, told_with}
 
 -- ---- why it was refused
 
-away_is : (away over none full : Bool) (n : ℕ) → chain away over none full n ≡ Some (Err read_no_viewer) → away ≡ true
-away_is true over none full n e = refl
-away_is false true none full n e = absurd (let z : Some (Ok read_ended) ≡ Some (Err read_no_viewer) = e in cc)
-away_is false false true full n e = absurd (let z : Some (Ok Empty) ≡ Some (Err read_no_viewer) = e in cc)
-away_is false false false true n e = absurd (let z : Some (Err (read_worn n)) ≡ Some (Err read_no_viewer) = e in cc)
-away_is false false false false n e = absurd (let z : None ≡ Some (Err read_no_viewer) = e in cc)
+away_is : (away over none held full : Bool) (m n : ℕ) → chain away over none held full m n ≡ Some (Err read_no_viewer) → away ≡ true
+away_is true over none held full m n e = refl
+away_is false true none held full m n e = absurd (let z : Some (Ok read_ended) ≡ Some (Err read_no_viewer) = e in cc)
+away_is false false true held full m n e = absurd (let z : Some (Ok Empty) ≡ Some (Err read_no_viewer) = e in cc)
+away_is false false false true full m n e = absurd (let z : Some (Ok (Hold m)) ≡ Some (Err read_no_viewer) = e in cc)
+away_is false false false false true m n e = absurd (let z : Some (Err (read_worn n)) ≡ Some (Err read_no_viewer) = e in cc)
+away_is false false false false false m n e = absurd (let z : None ≡ Some (Err read_no_viewer) = e in cc)
 
-full_is : (away over none full : Bool) (n k : ℕ) → chain away over none full n ≡ Some (Err (read_worn k)) → full ≡ true
-full_is true over none full n k e = absurd (let z : Some (Err read_no_viewer) ≡ Some (Err (read_worn k)) = e in cc)
-full_is false true none full n k e = absurd (let z : Some (Ok read_ended) ≡ Some (Err (read_worn k)) = e in cc)
-full_is false false true full n k e = absurd (let z : Some (Ok Empty) ≡ Some (Err (read_worn k)) = e in cc)
-full_is false false false true n k e = refl
-full_is false false false false n k e = absurd (let z : None ≡ Some (Err (read_worn k)) = e in cc)
+full_is : (away over none held full : Bool) (m n k : ℕ) → chain away over none held full m n ≡ Some (Err (read_worn k)) → full ≡ true
+full_is true over none held full m n k e = absurd (let z : Some (Err read_no_viewer) ≡ Some (Err (read_worn k)) = e in cc)
+full_is false true none held full m n k e = absurd (let z : Some (Ok read_ended) ≡ Some (Err (read_worn k)) = e in cc)
+full_is false false true held full m n k e = absurd (let z : Some (Ok Empty) ≡ Some (Err (read_worn k)) = e in cc)
+full_is false false false true full m n k e = absurd (let z : Some (Ok (Hold m)) ≡ Some (Err (read_worn k)) = e in cc)
+full_is false false false false true m n k e = refl
+full_is false false false false false m n k e = absurd (let z : None ≡ Some (Err (read_worn k)) = e in cc)
+
+-- .. of the viewer's read after the history
+away_after : (h : History) (viewer : ℕ) → stops_after h viewer ≡ Some (Err read_no_viewer) → not (is_live h viewer) ≡ true
+away_after h viewer e = away_is (not (is_live h viewer)) (ended h viewer) (not (is_closed h) && position h viewer == newest h) (not (is_closed h) && nat_lt most_waiting (waiting h viewer)) (not (is_closed h) && is_full h) (waiting h viewer) (length h) e
+
+full_after : (h : History) (viewer k : ℕ) → stops_after h viewer ≡ Some (Err (read_worn k)) → (not (is_closed h) && is_full h) ≡ true
+full_after h viewer k e = full_is (not (is_live h viewer)) (ended h viewer) (not (is_closed h) && position h viewer == newest h) (not (is_closed h) && nat_lt most_waiting (waiting h viewer)) (not (is_closed h) && is_full h) (waiting h viewer) (length h) k e
 
 not_true : (b : Bool) → not b ≡ true → b ≡ false
 not_true false e = refl
@@ -51,8 +62,8 @@ and_right false b e = absurd (let z : false ≡ true = e in cc)
 
 cause_of : (end : Result TunnelEnd TunnelRefusal) (viewer : ℕ) (seen : History) (more : List Instr) → TunnelCause end viewer seen more → RefusedCause end viewer seen
 cause_of (Ok end) viewer seen more c = tt
-cause_of (Err NoViewer) viewer seen more c = not_true (is_live seen viewer) (away_is (not (is_live seen viewer)) (ended seen viewer) (not (is_closed seen) && position seen viewer == newest seen) (not (is_closed seen) && is_full seen) (length seen) (mapped_read (read_stop seen viewer) (Err read_no_viewer) c))
-cause_of (Err (Worn n)) viewer seen more c = and_right (not (is_closed seen)) (is_full seen) (full_is (not (is_live seen viewer)) (ended seen viewer) (not (is_closed seen) && position seen viewer == newest seen) (not (is_closed seen) && is_full seen) (length seen) n (mapped_read (read_stop seen viewer) (Err (read_worn n)) c))
+cause_of (Err NoViewer) viewer seen more c = not_true (is_live seen viewer) (away_after seen viewer (mapped_read (read_stop seen viewer) (Err read_no_viewer) c))
+cause_of (Err (Worn n)) viewer seen more c = and_right (not (is_closed seen)) (is_full seen) (full_after seen viewer n (mapped_read (read_stop seen viewer) (Err (read_worn n)) c))
 cause_of (Err NoMemory) viewer seen more c = tt
 
 -- ---- its beginning

@@ -63,10 +63,10 @@ fn hands(alloc: Global, readers: u32) -> Result<Vec<Timed<BareHand>>> {
     Ok(hands)
 }
 
-// A viewer that joins.
+// A recorder that joins, which need acknowledge nothing.
 fn joined(alloc: Global, desk: &mut Desk) -> Result<u32> {
     let mut text = Vec::new(alloc);
-    match desk.join(Asked::View, &mut text) {
+    match desk.join(Asked::Keep, &mut text) {
         Ok(joined) => Ok(joined.viewer),
         Err(_) => bail!("not joined"),
     }

@@ -56,9 +56,10 @@ fn hands<R: Wait>(rt: &R, alloc: Global, readers: u32) -> Result<Vec<Timed<PassH
     Ok(hands)
 }
 
+// A recorder, which need acknowledge nothing.
 fn reader<R: Wait>(rt: &R, alloc: Global, host: &mut HostPass) -> Result<PassHand> {
     let mut text = Vec::new(alloc);
-    match host.join(rt, Asked::View, &mut text) {
+    match host.join(rt, Asked::Keep, &mut text) {
         Ok(place) => Ok(PassHand::Reader(place.reader, text)),
         Err(_) => bail!("not joined"),
     }

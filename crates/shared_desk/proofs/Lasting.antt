@@ -1,7 +1,7 @@
 -- What the loops over passes rest on: what a call adds to a pass's own entries, why it was refused, and what stays
 -- once it was seen.
 use Rattle.std.proofs.Common.{◌≡◌, ◌⊎◌, ℕ, ◌+◌, ◌≤◌, List, [], ◌∷◌, ◌++◌, length, Bool, true, false, inl, inr, refl, ap, sym, ◌∙◌, subst, append_assoc, arith}
-use Rattle.std.specs.Prelude.{Option, Some, None, Contains, Result, Ok, Err, not, ◌&&◌, ◌||◌, ◌==◌, nat_le, if◌then◌else◌, take}
+use Rattle.std.specs.Prelude.{Option, Some, None, Contains, Result, Ok, Err, not, ◌&&◌, ◌||◌, ◌==◌, nat_le, nat_lt, if◌then◌else◌, take}
 use Rattle.std.specs.Option.{option_map}
 use Rattle.std.proofs.lemmas.Bool.{eq-eqb, leb-true, le-leb}
 use Rattle.std.proofs.lemmas.Bool.Decides.{eqb_tells}
@@ -33,6 +33,8 @@ use Rattle.gate_model.specs.session.Calls.{Step, lacked, take_entry, updated_as}
 use Rattle.gate_model.specs.session.History.{History, capacity, is_closed, is_full, joined, newest}
 use Rattle.gate_model.specs.session.Refusals.{first_of, only_if, close_cause, feed_refusal, read_stop, write_refusal, leave_refusal, close_refusal}
 use Rattle.gate_model.specs.session.Rights.{is_live}
+use Rattle.gate_model.specs.session.Waiting.{waiting}
+use Rattle.gate_model.specs.Limits.{most_waiting}
 use Rattle.gate_model.specs.session.Delivered.{closed_by, closing, ended, farewell_to, is_some_list, position}
 use Rattle.gate_model.specs.session.Steps.{Legal}
 use Rattle.gate_model.specs.Sequences.{IsLater}
@@ -366,13 +368,14 @@ ReadCause (Err read_no_memory) viewer h = Unit {0}
 same_some : {A : Type 0} (x y : A) → Some x ≡ Some y → x ≡ y
 same_some x y e = cc
 
-read_why : (away over none full : Bool) (n viewer : ℕ) (h : History) (r : Result ReadAnswer ReadRefusal) → (away ≡ true → is_live h viewer ≡ false) → (over ≡ true → ended h viewer ≡ true) → (full ≡ true → is_full h ≡ true)
-    → first_of (only_if away (Err read_no_viewer) ∷ only_if over (Ok Ended) ∷ only_if none (Ok Empty) ∷ only_if full (Err (read_worn n)) ∷ []) ≡ Some r → ReadCause r viewer h
-read_why true over none full n viewer h r gone told worn e = subst (λ (x : Result ReadAnswer ReadRefusal). ReadCause x viewer h) (same_some (Err read_no_viewer) r e) (gone refl)
-read_why false true none full n viewer h r gone told worn e = subst (λ (x : Result ReadAnswer ReadRefusal). ReadCause x viewer h) (same_some (Ok Ended) r e) (told refl)
-read_why false false true full n viewer h r gone told worn e = subst (λ (x : Result ReadAnswer ReadRefusal). ReadCause x viewer h) (same_some (Ok Empty) r e) tt
-read_why false false false true n viewer h r gone told worn e = subst (λ (x : Result ReadAnswer ReadRefusal). ReadCause x viewer h) (same_some (Err (read_worn n)) r e) (worn refl)
-read_why false false false false n viewer h r gone told worn e = absurd (let z : None ≡ Some r = e in cc)
+read_why : (away over none held full : Bool) (m n viewer : ℕ) (h : History) (r : Result ReadAnswer ReadRefusal) → (away ≡ true → is_live h viewer ≡ false) → (over ≡ true → ended h viewer ≡ true) → (full ≡ true → is_full h ≡ true)
+    → first_of (only_if away (Err read_no_viewer) ∷ only_if over (Ok Ended) ∷ only_if none (Ok Empty) ∷ only_if held (Ok (Hold m)) ∷ only_if full (Err (read_worn n)) ∷ []) ≡ Some r → ReadCause r viewer h
+read_why true over none held full m n viewer h r gone told worn e = subst (λ (x : Result ReadAnswer ReadRefusal). ReadCause x viewer h) (same_some (Err read_no_viewer) r e) (gone refl)
+read_why false true none held full m n viewer h r gone told worn e = subst (λ (x : Result ReadAnswer ReadRefusal). ReadCause x viewer h) (same_some (Ok Ended) r e) (told refl)
+read_why false false true held full m n viewer h r gone told worn e = subst (λ (x : Result ReadAnswer ReadRefusal). ReadCause x viewer h) (same_some (Ok Empty) r e) tt
+read_why false false false true full m n viewer h r gone told worn e = subst (λ (x : Result ReadAnswer ReadRefusal). ReadCause x viewer h) (same_some (Ok (Hold m)) r e) tt
+read_why false false false false true m n viewer h r gone told worn e = subst (λ (x : Result ReadAnswer ReadRefusal). ReadCause x viewer h) (same_some (Err (read_worn n)) r e) (worn refl)
+read_why false false false false false m n viewer h r gone told worn e = absurd (let z : None ≡ Some r = e in cc)
 
 and_right : (a b : Bool) → (a && b) ≡ true → b ≡ true
 and_right true b e = e
@@ -433,7 +436,7 @@ read_turned v w viewer r before after t = by t.added t.did_it.0 (own_turn v w _ 
     by : (added : List Entry) → Step t.before (read viewer) (was_read r) added → own_entries w ≡ added ++ own_entries v → w.seen ≡ added ++ t.before → ReadOn v w viewer r
     by [] s own seen =
         let g = t.before in
-        let cause = read_why (not (is_live g viewer)) (ended g viewer) (not (is_closed g) && position g viewer == newest g) (not (is_closed g) && is_full g) (length g) viewer g r (λ e. not_true (is_live g viewer) e) (λ e. e)
+        let cause = read_why (not (is_live g viewer)) (ended g viewer) (not (is_closed g) && position g viewer == newest g) (not (is_closed g) && nat_lt most_waiting (waiting g viewer)) (not (is_closed g) && is_full g) (waiting g viewer) (length g) viewer g r (λ e. not_true (is_live g viewer) e) (λ e. e)
         (λ e. and_right (not (is_closed g)) (is_full g) e) (mapped_read (read_stop g viewer) r s.1) in
         record { reads = []; few = inl refl; own = own; cause = subst (λ (h : History). ReadCause r viewer h) (sym seen) cause }
     by (e ∷ []) s own seen =

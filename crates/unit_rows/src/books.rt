@@ -1,4 +1,4 @@
-//! A book of viewers after joins, deliveries, ends and leaves.
+//! A book of viewers after joins, deliveries, acknowledgements, ends and leaves.
 
 ghost use Rattle.std.specs.Prelude.{◌<◌, IsTrue};
 ghost use Rattle.viewer_book.specs.Book.{is_live};
@@ -45,6 +45,7 @@ fn make(book: &mut Book, name: &str, numbers: &[u32]) -> Result<()> {
         ("views", [count]) => add_views(book, *count),
         ("leave", [viewer]) => leave(book, *viewer),
         ("deliver", [viewer, stamp]) => deliver(book, *viewer, u64::from(*stamp)),
+        ("sync", [viewer, stamp]) => acknowledge(book, *viewer, u64::from(*stamp)),
         ("end", [viewer, stamp]) => end(book, *viewer, u64::from(*stamp)),
         ("alt", [viewer]) => hold_alt(book, *viewer),
         _ => bail!("no call"),
@@ -102,11 +103,20 @@ fn add_views(book: &mut Book, count: u32) -> Result<()> {
 }
 
 fn deliver(book: &mut Book, viewer: u32, stamp: u64) -> Result<()> {
-    if book.is_live(viewer) && book.position(viewer) < stamp {
+    if book.is_live(viewer) && book.position(viewer) < stamp && book.waiting(viewer) < 321 {
         book.deliver(viewer, stamp);
         Ok(())
     } else {
-        bail!("not above its position");
+        bail!("not above its position, or no room");
+    }
+}
+
+fn acknowledge(book: &mut Book, viewer: u32, stamp: u64) -> Result<()> {
+    if book.is_live(viewer) {
+        book.acknowledge(viewer, stamp);
+        Ok(())
+    } else {
+        bail!("no viewer");
     }
 }
 
@@ -124,7 +134,11 @@ fn push_viewer(text: &mut String, book: &Book, viewer: u32) -> Result<()>
 {
     let role = book.role(viewer);
     let position = book.position(viewer);
+    let waiting = book.waiting(viewer);
     let ended = if book.ended(viewer) { " ended" } else { "" };
-    write!(text, ", {viewer} {role:?} at {position}{ended} ")?;
+    write!(
+        text,
+        ", {viewer} {role:?} at {position}, {waiting} waiting,{ended} "
+    )?;
     push_held(text, book.mods(viewer))
 }

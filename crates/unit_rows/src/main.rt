@@ -8,6 +8,7 @@
 #![tactic(auto)]
 
 mod books;
+mod histories;
 mod keys;
 mod sequences;
 mod telnet;

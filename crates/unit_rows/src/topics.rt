@@ -1,6 +1,6 @@
 //! Which calls are made for the rows of a file.
 
-use crate::{books, keys, sequences, telnet, texts};
+use crate::{books, histories, keys, sequences, telnet, texts};
 use anyhow::{Result, bail};
 use std::alloc::Global;
 
@@ -15,6 +15,7 @@ pub fn value(alloc: Global, topic: &str, input: &str) -> Result<String> {
         "keys" => keys::sent(alloc, input),
         "modifiers" => keys::held(alloc, input),
         "books" => books::told(alloc, input),
+        "histories" => histories::told(alloc, input),
         "framing" => texts::front(alloc, input),
         "elements" => texts::elements(alloc, input),
         "values" => texts::written(alloc, input),

@@ -6,7 +6,7 @@ use Rattle.gate_model.specs.declared.sharing.Role.TheVariants.{Control, View, Ke
 use Rattle.viewer_book.specs.declared.viewer.Viewer.{Viewer}
 use Rattle.gate_model.specs.session.Rights.{none_held}
 use Rattle.gate_model.specs.Limits.{most_live, most_joined}
-use Rattle.viewer_book.specs.Book.{BookState, AreRising, IsBook, has_number, viewer_at, is_live, live_count, nobody, newcomer, added, changed, removed, holding, moved_to, ended_at}
+use Rattle.viewer_book.specs.Book.{BookState, AreRising, IsBook, has_number, viewer_at, is_live, live_count, nobody, newcomer, added, changed, removed, holding, moved_to, acknowledging, ended_at}
 
 sixty_four_live : most_live ≡ 64
 sixty_four_live = refl
@@ -17,7 +17,7 @@ a_million_joined = refl
 nothing_is_held : none_held ≡ record { control_left = false; control_right = false; alt_left = false; alt_right = false }
 nothing_is_held = refl
 
-a_recorder_joins : newcomer 7 Keep 12 ≡ record { number = 7; role = Keep; position = 12; ended = false; mods = none_held }
+a_recorder_joins : newcomer 7 Keep 12 ≡ record { number = 7; role = Keep; position = 12; waiting = []; ended = false; mods = none_held }
 a_recorder_joins = refl
 
 -- an owner, who joined at stamp 1, and one who looks on since stamp 6
@@ -64,16 +64,42 @@ nobody_is_live = refl
 
 -- ---- what a call makes of it
 
-second_moves_on : changed two 2 (moved_to 9) ≡ record { joined = 2; viewers = owner ∷ record { number = 2; role = View; position = 9; ended = false; mods = none_held } ∷ [] }
+second_moves_on : changed two 2 (moved_to 9) ≡ record { joined = 2; viewers = owner ∷ record { number = 2; role = View; position = 9; waiting = 6 ∷ 9 ∷ []; ended = false; mods = none_held } ∷ [] }
 second_moves_on = refl
 
-first_ends : changed two 1 (ended_at 6) ≡ record { joined = 2; viewers = record { number = 1; role = Control; position = 6; ended = true; mods = none_held } ∷ onlooker ∷ [] }
+first_ends : changed two 1 (ended_at 6) ≡ record { joined = 2; viewers = record { number = 1; role = Control; position = 6; waiting = 1 ∷ []; ended = true; mods = none_held } ∷ onlooker ∷ [] }
 first_ends = refl
+
+-- a recorder's stamps don't wait
+recorder_moves_on : moved_to 9 (newcomer 7 Keep 6) ≡ newcomer 7 Keep 9
+recorder_moves_on = refl
+
+-- an acknowledgement takes what is up to its stamp, given or not, and one above the position has no effect
+abbrev behind : Viewer
+behind = moved_to 9 (moved_to 6 owner)
+
+all_wait : behind.waiting ≡ 1 ∷ 6 ∷ 9 ∷ []
+all_wait = refl
+
+none_below : acknowledging 0 behind ≡ behind
+none_below = refl
+
+first_two_are_acknowledged : acknowledging 6 behind ≡ record behind { waiting = 9 ∷ [] }
+first_two_are_acknowledged = refl
+
+between_stamps : acknowledging 8 behind ≡ record behind { waiting = 9 ∷ [] }
+between_stamps = refl
+
+all_are_acknowledged : acknowledging 9 behind ≡ record behind { waiting = [] }
+all_are_acknowledged = refl
+
+not_given_yet : acknowledging 10 behind ≡ behind
+not_given_yet = refl
 
 abbrev control_held : Mods
 control_held = record none_held { control_left = true }
 
-first_holds_control : changed two 1 (holding control_held) ≡ record { joined = 2; viewers = record { number = 1; role = Control; position = 1; ended = false; mods = control_held } ∷ onlooker ∷ [] }
+first_holds_control : changed two 1 (holding control_held) ≡ record { joined = 2; viewers = record { number = 1; role = Control; position = 1; waiting = 1 ∷ []; ended = false; mods = control_held } ∷ onlooker ∷ [] }
 first_holds_control = refl
 
 no_third_to_change : changed two 3 (moved_to 9) ≡ two

@@ -1,12 +1,13 @@
 -- The laws about books: each change touches one viewer, and leaves a book.
-use Rattle.std.proofs.Common.{◌≡◌, ◌+◌, [], ◌∷◌, length, map, refl, sym, arith, length-append}
+use Rattle.std.proofs.Common.{◌≡◌, ℕ, ◌+◌, List, [], ◌∷◌, length, map, inl, inr, refl, ap, ap₂, sym, arith, length-append}
 use Rattle.std.specs.Prelude.{Bool, true, false, not}
+use Rattle.std.proofs.lemmas.Bool.Decides.{eqb_tells}
 use Rattle.std.proofs.lemmas.List.{length-map}
 use Rattle.std.proofs.lemmas.List.Filters.{length-filter_both}
 use Rattle.viewer_book.specs.declared.viewer.Viewer.{Viewer}
-use Rattle.viewer_book.specs.Book.{IsBook, has_number, nobody, newcomer}
+use Rattle.viewer_book.specs.Book.{BookState, IsBook, has_number, nobody, newcomer, changed}
 use Rattle.viewer_book.specs.Laws.{AdditionsAddOne, ChangesChangeOne, RemovalsRemoveOne, LiveHaveJoined, NextIsNew}
-use Rattle.viewer_book.proofs.Lists.{only, is_other, rising-append, rising-map, rising-filter, find-high, find-own, find-append_other, find-append_same, find-map_same, find-map_other, find-filter_same, find-filter_other, length-filter_found}
+use Rattle.viewer_book.proofs.Lists.{KeepsNumber, only, is_other, rising-append, rising-map, rising-filter, find-high, find-own, find-append_other, find-append_same, find-map_same, find-map_other, find-filter_same, find-filter_other, length-filter_found}
 
 not-twice : (b : Bool) → b ≡ not (not b)
 not-twice true = refl
@@ -53,6 +54,20 @@ changes-one b number change is keeps =
         rising = rising-map number change b.viewers 0 b.joined keeps is.rising;
       };
     }
+
+-- one change of a viewer after another is one change
+pub changes-join : (b : BookState) (number : ℕ) (first second : Viewer → Viewer) → KeepsNumber first → changed (changed b number first) number second ≡ changed b number (λ v. second (first v))
+changes-join b number first second keeps = ap (λ (l : List Viewer). record { joined = b.joined; viewers = l }) (joins b.viewers)
+  where
+    both : (v : Viewer) → only number second (only number first v) ≡ only number (λ w. second (first w)) v
+    both v = elim (eqb_tells v.number number) [
+      | inl q ↦ rw q.0 (rw (keeps v, q.0) refl)
+      | inr q ↦ rw q.0 (rw q.0 refl)
+    ]
+
+    joins : (l : List Viewer) → map (only number second) (map (only number first) l) ≡ map (only number (λ w. second (first w))) l
+    joins [] = refl
+    joins (v ∷ l) = ap₂ (λ (w : Viewer) (ws : List Viewer). w ∷ ws) (both v) (joins l)
 
 pub removes-one : RemovalsRemoveOne
 removes-one b number is = record {

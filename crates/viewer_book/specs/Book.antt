@@ -1,10 +1,11 @@
 -- What the book of a session's viewers keeps, and what each call makes of it (this project's own).
-use Rattle.std.specs.Prelude.{ℕ, ◌+◌, ◌<◌, ◌≤◌, List, [], ◌∷◌, ◌++◌, length, map, filter, Bool, true, false, not, ◌==◌, if◌then◌else◌, Option, is_some, ⊤}
+use Rattle.std.specs.Prelude.{ℕ, ◌+◌, ◌<◌, ◌≤◌, List, [], ◌∷◌, ◌++◌, length, map, filter, Bool, true, false, not, ◌==◌, nat_le, nat_lt, if◌then◌else◌, Option, Some, is_some, ⊤}
 use Rattle.std.specs.List.{find}
 use Rattle.gate_model.specs.declared.mods.Mods.{Mods}
 use Rattle.gate_model.specs.declared.sharing.Role.{Role}
 use Rattle.gate_model.specs.Limits.{most_live, most_joined}
 use Rattle.gate_model.specs.session.Rights.{none_held}
+use Rattle.gate_model.specs.session.Waiting.{is_keep}
 use Rattle.viewer_book.specs.declared.viewer.Viewer.{Viewer}
 
 -- how many viewers have joined, and those that are live, in the order of their numbers
@@ -48,9 +49,13 @@ live_count b = length b.viewers
 abbrev pub nobody : BookState
 nobody = record { joined = 0; viewers = [] }
 
+-- a stamp that a viewer of this role was given waits for its acknowledgement, but for a recorder's
+abbrev pub with_stamp : Role → List ℕ → ℕ → List ℕ
+with_stamp role stamps stamp = if is_keep (Some role) then stamps else stamps ++ stamp ∷ []
+
 -- a viewer that joins: it was given everything up to the stamp
 abbrev pub newcomer : ℕ → Role → ℕ → Viewer
-newcomer number role stamp = record { number = number; role = role; position = stamp; ended = false; mods = none_held }
+newcomer number role stamp = record { number = number; role = role; position = stamp; waiting = with_stamp role [] stamp; ended = false; mods = none_held }
 
 -- the next viewer has joined
 abbrev pub added : BookState → Role → ℕ → BookState
@@ -70,9 +75,13 @@ removed b number = record b { viewers = filter (λ v. not (has_number number v))
 abbrev pub holding : Mods → Viewer → Viewer
 holding mods v = record v { mods = mods }
 
--- it was given everything up to the stamp
+-- it was given everything up to the stamp, which waits
 abbrev pub moved_to : ℕ → Viewer → Viewer
-moved_to stamp v = record v { position = stamp }
+moved_to stamp v = record v { position = stamp; waiting = with_stamp v.role v.waiting stamp }
+
+-- it acknowledges the stamps up to this one, if that isn't above its position
+abbrev pub acknowledging : ℕ → Viewer → Viewer
+acknowledging stamp v = record v { waiting = if nat_le stamp v.position then filter (λ s. nat_lt stamp s) v.waiting else v.waiting }
 
 -- it was given everything up to the stamp, and the closing instruction
 abbrev pub ended_at : ℕ → Viewer → Viewer

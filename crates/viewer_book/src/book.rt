@@ -1,7 +1,8 @@
-ghost use Rattle.std.specs.Prelude.{◌≡◌, ◌+◌, ◌<◌, ◌≤◌, Some, IsTrue, IfOk, OnErr, OnOk, option_map, position};
+ghost use Rattle.std.specs.Prelude.{◌≡◌, ◌+◌, ◌<◌, ◌≤◌, Some, IsTrue, IfOk, OnErr, OnOk, length, option_map, position};
 ghost use Rattle.std.specs.Option.{ForSome};
 ghost use Rattle.gate_model.specs.Limits.{most_joined, most_live};
-ghost use Rattle.viewer_book.specs.Book.{IsBook, added, changed, ended_at, has_number, holding, is_live, live_count, moved_to, nobody, removed, viewer_at};
+ghost use Rattle.viewer_book.specs.Book.{IsBook, acknowledging, added, changed, ended_at, has_number, holding, is_live, live_count, moved_to, nobody, removed, viewer_at};
+ghost use Rattle.viewer_book.specs.Room.{room};
 
 use crate::viewer::Viewer;
 use gate_model::limits::MOST_LIVE;
@@ -13,6 +14,7 @@ use std::marker::Model;
 /// order of their numbers. Contracts see a book as a `BookState` (this project's own rule).
 #[derive(Drop)]
 pub struct Book {
+    alloc: Global,
     joined: u32,
     viewers: Vec<Viewer>,
 }
@@ -33,15 +35,18 @@ impl Book {
     pub fn new(alloc: Global) -> Result<Book, NoMemory>
         ensures { IfOk result (λ book. book ≡ nobody) }
     {
+        let viewers = Vec::with_capacity(alloc, MOST_LIVE)?;
         Ok(Book {
+            alloc,
             joined: 0,
-            viewers: Vec::with_capacity(alloc, MOST_LIVE)?,
+            viewers,
         })
     }
 
     /// Adds a live viewer and answers its number, one more than have joined before; no number is given
-    /// twice. It was given everything up to the stamp, wasn't given the closing instruction, and holds
-    /// no modifier. There are fewer than 64 live viewers, and fewer than 1,000,000 have joined. It is
+    /// twice. It was given everything up to the stamp, which waits for its acknowledgement but for a
+    /// recorder's, wasn't given the closing instruction, and holds no modifier. There are fewer than 64
+    /// live viewers, and fewer than 1,000,000 have joined. It takes room for 321 stamps that wait. It is
     /// refused for want of memory alone, and then changes nothing (this project's own rule).
     pub fn add(&mut self, role: Role, stamp: u64) -> Result<u32, NoMemory>
         requires few_live { live_count self.old < most_live }
@@ -51,7 +56,8 @@ impl Book {
         ensures unchanged { OnErr result (self.new ≡ self.old) }
     {
         let number = self.joined + 1;
-        self.viewers.push(Viewer::newcomer(number, role, stamp))?;
+        let viewer = Viewer::newcomer(self.alloc, number, role, stamp)?;
+        self.viewers.push(viewer)?;
         self.joined = number;
         Ok(number)
     }
@@ -98,6 +104,15 @@ impl Book {
         self.viewer(viewer).position
     }
 
+    /// How many stamps wait for a live viewer's acknowledgement, at most 321: none for a recorder's (this
+    /// project's own rule).
+    pub fn waiting(&self, viewer: u32) -> u32
+        requires { IsTrue (is_live self.now viewer) }
+        ensures { option_map (λ v. length v.waiting) (viewer_at self.now viewer) ≡ Some result }
+    {
+        self.viewer(viewer).waiting.len() as u32
+    }
+
     /// Whether a live viewer was given the closing instruction (this project's own rule).
     pub fn ended(&self, viewer: u32) -> bool
         requires { IsTrue (is_live self.now viewer) }
@@ -123,19 +138,31 @@ impl Book {
         self.viewers[place].mods = mods;
     }
 
-    /// A live viewer was given everything up to the stamp, which is above its position (this project's
-    /// own rule).
+    /// A live viewer was given everything up to the stamp, which is above its position and waits for its
+    /// acknowledgement, but for a recorder's. Fewer than 321 wait. It takes no memory (this project's own
+    /// rule).
     pub fn deliver(&mut self, viewer: u32, stamp: u64)
         requires live { IsTrue (is_live self.old viewer) }
         requires rises { ForSome (viewer_at self.old viewer) (λ v. v.position < stamp) }
+        requires few { ForSome (viewer_at self.old viewer) (λ v. length v.waiting < room) }
         ensures { self.new ≡ changed self.old viewer (moved_to stamp) }
     {
         let place = self.place(viewer);
-        self.viewers[place].position = stamp;
+        self.viewers[place].give(stamp);
+    }
+
+    /// A live viewer acknowledges the stamps up to this one, which wait no more. A stamp above its
+    /// position has no effect (this project's own rule).
+    pub fn acknowledge(&mut self, viewer: u32, stamp: u64)
+        requires { IsTrue (is_live self.old viewer) }
+        ensures { self.new ≡ changed self.old viewer (acknowledging stamp) }
+    {
+        let place = self.place(viewer);
+        self.viewers[place].acknowledge(stamp);
     }
 
     /// A live viewer was given the closing instruction, and everything up to the stamp, which isn't
-    /// below its position (this project's own rule).
+    /// below its position. No stamp waits more than did (this project's own rule).
     pub fn end(&mut self, viewer: u32, stamp: u64)
         requires live { IsTrue (is_live self.old viewer) }
         requires rises { ForSome (viewer_at self.old viewer) (λ v. v.position ≤ stamp) }
@@ -156,11 +183,11 @@ impl Book {
     }
 
     // What is kept of a live viewer.
-    fn viewer(&self, number: u32) -> Viewer
+    fn viewer(&self, number: u32) -> &Viewer
         requires { IsTrue (is_live self.now number) }
-        ensures { viewer_at self.now number ≡ Some result }
+        ensures { viewer_at self.now number ≡ Some result.now }
     {
-        self.viewers[self.place(number)]
+        &self.viewers[self.place(number)]
     }
 
     // The place of a live viewer.

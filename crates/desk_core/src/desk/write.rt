@@ -6,12 +6,14 @@ ghost use Rattle.gate_model.specs.session.History.{History, is_closed};
 ghost use Rattle.gate_model.specs.session.Refusals.{write_refusal};
 ghost use Rattle.gate_model.specs.session.Rights.{may};
 ghost use Rattle.gate_model.specs.declared.event.Event.TheVariants.{Write};
-ghost use Rattle.viewer_book.specs.Book.{is_live};
+ghost use Rattle.viewer_book.specs.Book.{changed, is_live};
+ghost use Rattle.desk_core.specs.Viewers.{heeding, noted};
 
 use crate::desk::Desk;
 use crate::typing::{Typed, typed_by, types};
-use gate_model::{Act, NoMemory, WriteRefusal, Written};
+use gate_model::{Act, Mods, NoMemory, WriteRefusal, Written};
 use std::alloc::Global;
+use viewer_book::Book;
 
 impl Desk {
     ghost use Rattle.gate_model.specs.session.Calls.{IsWrite};
@@ -20,8 +22,9 @@ impl Desk {
     ghost use Rattle.desk_core.specs.Parts.{Types};
 
     /// Takes at most 4,096 acts of a viewer, and lets wait for the Telnet host what the presses among
-    /// them send, if the viewer may type. It answers how many keys count and how many are denied (this
-    /// project's own rule).
+    /// them send, if the viewer may type. A sync among them acknowledges the stamps up to its own, where
+    /// the viewer was given that or a later one. It answers how many keys count and how many are denied
+    /// (this project's own rule).
     pub fn write(
         &mut self,
         alloc: Global,
@@ -41,7 +44,7 @@ impl Desk {
         let typed = self.typed(alloc, viewer, acts, may_type)?;
         self.outgoing.append(&typed.bytes)?;
         self.log.write(viewer, acts);
-        self.book.set_mods(viewer, typed.held);
+        note(&mut self.book, viewer, typed.held, acts);
         Ok(counted(may_type, keys_among(acts)))
     }
 
@@ -84,6 +87,27 @@ impl Desk {
         let held = self.book.mods(viewer);
         let cursor_mode = self.host.screen.cursor_mode();
         typed_by(alloc, acts, may_type, held, cursor_mode)
+    }
+}
+
+// A live viewer holds these modifiers after these acts, and has acknowledged what they do.
+fn note(book: &mut Book, viewer: u32, held: Mods, acts: &[Act])
+    requires { IsTrue (is_live book.old viewer) }
+    ensures { book.new ≡ changed book.old viewer (noted held acts.now) }
+{
+    book.set_mods(viewer, held);
+    for act in acts {
+        heed(book, viewer, act);
+    }
+}
+
+// A live viewer acknowledges what it does by this act.
+fn heed(book: &mut Book, viewer: u32, act: &Act)
+    requires { IsTrue (is_live book.old viewer) }
+    ensures { book.new ≡ changed book.old viewer (heeding act.now) }
+{
+    if let Act::Sync { stamp } = *act {
+        book.acknowledge(viewer, stamp);
     }
 }
 

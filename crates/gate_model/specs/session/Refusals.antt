@@ -1,6 +1,6 @@
 -- Why a call adds nothing: of its conditions, in their order, the first that holds (this project's
 -- own). Want of memory comes after them all, and isn't told here.
-use Rattle.std.specs.Prelude.{ℕ, List, [], ◌∷◌, length, Bool, not, ◌&&◌, ◌||◌, ◌==◌, nat_le, is_err, if◌then◌else◌, Option, Some, None, Result, Ok, Err}
+use Rattle.std.specs.Prelude.{ℕ, List, [], ◌∷◌, length, Bool, not, ◌&&◌, ◌||◌, ◌==◌, nat_le, nat_lt, is_err, if◌then◌else◌, Option, Some, None, Result, Ok, Err}
 use Rattle.std.specs.Option.{option_map}
 use Rattle.gate_model.specs.declared.cause.Cause.{Cause}
 use Rattle.gate_model.specs.declared.closed.Closed.{Closed}
@@ -13,15 +13,16 @@ use Rattle.gate_model.specs.declared.feed_refusal.FeedRefusal.TheVariants.{Close
 use Rattle.gate_model.specs.declared.join_refusal.JoinRefusal.{JoinRefusal}
 use Rattle.gate_model.specs.declared.join_refusal.JoinRefusal.TheVariants.{Closed as join_closed, Forbidden as join_forbidden, TooMany as join_too_many, Worn as join_worn}
 use Rattle.gate_model.specs.declared.read_answer.ReadAnswer.{ReadAnswer}
-use Rattle.gate_model.specs.declared.read_answer.ReadAnswer.TheVariants.{Ended, Empty}
+use Rattle.gate_model.specs.declared.read_answer.ReadAnswer.TheVariants.{Ended, Empty, Hold}
 use Rattle.gate_model.specs.declared.read_refusal.ReadRefusal.{ReadRefusal}
 use Rattle.gate_model.specs.declared.read_refusal.ReadRefusal.TheVariants.{NoViewer as read_no_viewer, Worn as read_worn}
 use Rattle.gate_model.specs.declared.write_refusal.WriteRefusal.{WriteRefusal}
 use Rattle.gate_model.specs.declared.write_refusal.WriteRefusal.TheVariants.{NoViewer as write_no_viewer, Closed as write_closed, Worn as write_worn}
 use Rattle.gate_model.specs.session.History.{History, newest, joined, share_mode, is_closed, is_full}
-use Rattle.gate_model.specs.Limits.{most_live, most_joined}
+use Rattle.gate_model.specs.Limits.{most_live, most_joined, most_waiting}
 use Rattle.gate_model.specs.session.Delivered.{position, ended}
 use Rattle.gate_model.specs.session.Rights.{is_live, live_count}
+use Rattle.gate_model.specs.session.Waiting.{waiting}
 use Rattle.gate_model.specs.session.Roles.{grant_of}
 
 -- the first that is there
@@ -64,12 +65,13 @@ join_refusal h asked = first_of (
     ∷ [])
 
 -- read: the viewer isn't there; it was given the closing instruction; it has every frame of an open
--- session; an open session is full
+-- session; in an open session more than 64 stamps wait for its acknowledgement; an open session is full
 abbrev pub read_stop : History → ℕ → Option (Result ReadAnswer ReadRefusal)
 read_stop h viewer = first_of (
     only_if (not (is_live h viewer)) (Err read_no_viewer)
     ∷ only_if (ended h viewer) (Ok Ended)
     ∷ only_if (not (is_closed h) && position h viewer == newest h) (Ok Empty)
+    ∷ only_if (not (is_closed h) && nat_lt most_waiting (waiting h viewer)) (Ok (Hold (waiting h viewer)))
     ∷ only_if (not (is_closed h) && is_full h) (Err (read_worn (length h)))
     ∷ [])
 

@@ -29,9 +29,9 @@ invariant_of-self-2 c =
     let stood : Stands c.args.self.now h = subst (λ (k : DeskState). Stands k h) c.self.view_is s in
     let allowed : write_refusal h c.args.viewer ≡ None = sym (c.write_refusal.ensures h stood) ∙ is_none c.write_refusal.result c.in_default.not-Some in
     let is_may = c.may_type-may_type.ensures h stood (is_open h (write_goes h c.args.viewer allowed).goes) in
-    let a = added_write d h c.args.viewer c.args.acts.now c.in_ok-typed.typed c.may_type-may_type.result c.counted.result.keys c.counted.result.denied c.write.new.self c.append.new.self c.set_mods.new.self s c.requires allowed is_may (c.in_ok-typed.ensures h stood is_may)
+    let a = added_write d h c.args.viewer c.args.acts.now c.in_ok-typed.typed c.may_type-may_type.result c.counted.result.keys c.counted.result.denied c.write.new.self c.append.new.self c.note.new.book s c.requires allowed is_may (c.in_ok-typed.ensures h stood is_may)
     (c.counted.ensures.keys ∙ ap (λ (n : ℕ). if c.may_type-may_type.result then n else 0) c.keys_among.ensures) (c.counted.ensures.denied ∙ ap (λ (n : ℕ). if c.may_type-may_type.result then 0 else n) c.keys_among.ensures)
-    c.write.ensures (c.in_ok-append.ensures.appended ∙ ap (λ (xs : List ℕ). c.self.inside.outgoing ++ xs) c.deref.ensures.value) c.set_mods.ensures in
+    c.write.ensures (c.in_ok-append.ensures.appended ∙ ap (λ (xs : List ℕ). c.self.inside.outgoing ++ xs) c.deref.ensures.value) c.note.ensures in
     (a.added ++ h, a.stands)
 
 pub returns-clause-step : goal.returns-clause-step
@@ -40,9 +40,9 @@ returns-clause-step c = λ h stood.
     let s : Stands d h = subst (λ (k : DeskState). Stands k h) (sym c.self.view_is) stood in
     let allowed : write_refusal h c.args.viewer ≡ None = sym (c.write_refusal.ensures h stood) ∙ is_none c.write_refusal.result c.in_default.not-Some in
     let is_may = c.may_type-may_type.ensures h stood (is_open h (write_goes h c.args.viewer allowed).goes) in
-    added_write d h c.args.viewer c.args.acts.now c.in_ok-typed.typed c.may_type-may_type.result c.counted.result.keys c.counted.result.denied c.write.new.self c.append.new.self c.set_mods.new.self s c.requires allowed is_may (c.in_ok-typed.ensures h stood is_may)
+    added_write d h c.args.viewer c.args.acts.now c.in_ok-typed.typed c.may_type-may_type.result c.counted.result.keys c.counted.result.denied c.write.new.self c.append.new.self c.note.new.book s c.requires allowed is_may (c.in_ok-typed.ensures h stood is_may)
     (c.counted.ensures.keys ∙ ap (λ (n : ℕ). if c.may_type-may_type.result then n else 0) c.keys_among.ensures) (c.counted.ensures.denied ∙ ap (λ (n : ℕ). if c.may_type-may_type.result then 0 else n) c.keys_among.ensures)
-    c.write.ensures (c.in_ok-append.ensures.appended ∙ ap (λ (xs : List ℕ). c.self.inside.outgoing ++ xs) c.deref.ensures.value) c.set_mods.ensures
+    c.write.ensures (c.in_ok-append.ensures.appended ∙ ap (λ (xs : List ℕ). c.self.inside.outgoing ++ xs) c.deref.ensures.value) c.note.ensures
 
 pub returns-clause-few : goal.returns-clause-few
 returns-clause-few c =
