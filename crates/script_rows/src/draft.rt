@@ -1,6 +1,6 @@
 //! A row, or what rows begin with, while its lines are read.
 
-use crate::row::{Ends, Extent, Row, Wanted};
+use crate::row::{Ends, Extent, Row, Sweep, Target, Wanted};
 use anyhow::{Context, Result, anyhow, bail};
 use std::alloc::Global;
 use text_rows::ByteReader;
@@ -20,6 +20,7 @@ pub struct Draft {
     pub title: String,
     pub is_opening: bool,
     pub ends: Ends,
+    pub sweep: Option<Sweep>,
     pub input: ByteReader,
     pub status: Option<u8>,
     pub answers_extent: Extent,
@@ -45,11 +46,14 @@ impl Draft {
             is_opening,
             ends: Ends {
                 piece: 7,
+                answers_piece: 64,
+                frames_piece: 4096,
                 source: 0,
                 answers: 0,
                 frames: 0,
                 turns: 0,
             },
+            sweep: None,
             input: ByteReader::new(alloc),
             status: None,
             answers_extent: Extent::Whole,
@@ -93,6 +97,7 @@ impl Draft {
             title,
             is_opening: _,
             ends,
+            sweep,
             input,
             status,
             answers_extent,
@@ -107,6 +112,7 @@ impl Draft {
             words: opening.words.clone()?,
             input: joined(alloc, &opening.input, &input.finish()?)?,
             ends,
+            sweep,
             status: status.context("no status")?,
             answers: Wanted {
                 extent: answers_extent,
@@ -131,17 +137,26 @@ impl Draft {
     }
 
     fn set(&mut self, setting: &str) -> Result<()> {
-        let (name, number) = setting.split_once(' ').context("no number")?;
+        let (name, number) = setting.rsplit_once(' ').context("no number")?;
         let number = number.parse::<u64>().context("no number")?;
         match name {
             "piece" => self.ends.piece = usize::try_from(number)?,
+            "answers piece" => self.ends.answers_piece = usize::try_from(number)?,
+            "frames piece" => self.ends.frames_piece = usize::try_from(number)?,
             "source" => self.ends.source = number,
             "answers" => self.ends.answers = number,
             "frames" => self.ends.frames = number,
             "turns" => self.ends.turns = number,
+            "sweep source" => self.sweep(Target::Source, number),
+            "sweep answers" => self.sweep(Target::Answers, number),
+            "sweep frames" => self.sweep(Target::Frames, number),
             _ => bail!("no such setting"),
         }
         Ok(())
+    }
+
+    fn sweep(&mut self, target: Target, calls: u64) {
+        self.sweep = Some(Sweep { target, calls });
     }
 
     fn input(&mut self, line: &str) -> Result<()> {

@@ -9,11 +9,15 @@ mod draft;
 mod reading;
 mod row;
 mod running;
+mod sweeping;
 mod turns;
 
 use crate::reading::read_rows;
+use crate::row::Row;
 use crate::running::difference;
+use crate::sweeping::swept;
 use anyhow::{Context, Result};
+use std::alloc::Global;
 use std::rt::{Env, Files};
 use std::{env, fs};
 
@@ -32,7 +36,7 @@ fn run_file(rt: &(impl AllocGlobal + Files + Print), name: &str) -> Result<()> {
     let text = fs::read_to_string(rt, name)?;
     let rows = read_rows(rt.alloc(), text.as_str())?;
     for row in rows.iter() {
-        if let Some(found) = difference(rt.alloc(), row)? {
+        if let Some(found) = found_in(rt.alloc(), row)? {
             let title = row.title.as_str();
             println!(rt; "{name}: {title}: {found}")?;
         }
@@ -40,4 +44,12 @@ fn run_file(rt: &(impl AllocGlobal + Files + Print), name: &str) -> Result<()> {
     let count = rows.len();
     println!(rt; "{name}: {count} rows")?;
     Ok(())
+}
+
+// What the row gives, where it isn't what it has to give.
+fn found_in(alloc: Global, row: &Row) -> Result<Option<String>> {
+    match row.sweep {
+        Some(sweep) => swept(alloc, row, sweep),
+        None => difference(alloc, row),
+    }
 }

@@ -15,11 +15,18 @@
 //! ```
 //!
 //! The input and the answers are in the notation of `text_rows`, and empty lines of the answers don't
-//! count. After `==` may stand comments, which begin with `#`, and settings, which begin with `@`: `@ piece
-//! 1`, how many bytes a read gives at most, 7 where none is told; `@ source 2`, `@ answers 1` and `@ frames
-//! 4`, the number of the call that fails. After the status may stand `front`, where a front of the answers
-//! is written, or `end`, where the answers end so. Then may come `-- frames`, or `-- frames front` or `--
-//! frames end`, and what is written to the sink of frames.
+//! count. After `==` may stand comments, which begin with `#`, and settings, which begin with `@`. After the
+//! status may stand `front`, where a front of the answers is written, or `end`, where the answers end so.
+//! Then may come `-- frames`, or `-- frames front` or `-- frames end`, and what is written to the sink of
+//! frames.
+//!
+//! - `@ piece 1`, `@ answers piece 5` and `@ frames piece 9`: how many bytes a read gives at most, and how
+//!   many a write takes of the answers and of the frames; 7, 64 and 4,096 where none is told.
+//! - `@ source 2`, `@ answers 1` and `@ frames 4`: the number of the call that fails.
+//! - `@ sweep source 50`, `@ sweep answers 53` and `@ sweep frames 80`: so many reads, or so many writes of
+//!   one sink, does the run make. It is run again with each of them failing, and ends then with the fault's
+//!   status and with fronts of the answers and of the frames.
+//! - `@ turns 1`: each read gives a line, and has to come after the answers to the lines before it.
 
 use crate::draft::{Draft, Opening};
 use crate::row::Row;

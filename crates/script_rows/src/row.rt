@@ -15,15 +15,34 @@ pub struct Wanted {
     pub bytes: Vec<u8>,
 }
 
-/// How the input is given, and which calls fail, by their numbers, counted from 1; 0 for none. Where `turns`
-/// isn't 0, each read gives a line, and has to come after the answers to the lines before it.
+/// How many bytes a read gives and a write takes at most, and which calls fail, by their numbers, counted from
+/// 1; 0 for none. Where `turns` isn't 0, each read gives a line, and has to come after the answers to the lines
+/// before it.
 #[derive(Clone, Copy)]
 pub struct Ends {
     pub piece: usize,
+    pub answers_piece: usize,
+    pub frames_piece: usize,
     pub source: u64,
     pub answers: u64,
     pub frames: u64,
     pub turns: u64,
+}
+
+/// The end of which a call fails.
+#[derive(Clone, Copy)]
+pub enum Target {
+    Source,
+    Answers,
+    Frames,
+}
+
+/// Further runs of a row, one for each call of one end, in which that call fails.
+#[derive(Clone, Copy)]
+pub struct Sweep {
+    pub target: Target,
+    /// How many calls of that end a run without a fault makes.
+    pub calls: u64,
 }
 
 #[derive(Drop)]
@@ -32,6 +51,7 @@ pub struct Row {
     pub words: Vec<String>,
     pub input: Vec<u8>,
     pub ends: Ends,
+    pub sweep: Option<Sweep>,
     pub status: u8,
     pub answers: Wanted,
     pub frames: Option<Wanted>,
@@ -45,6 +65,34 @@ impl Wanted {
             Extent::Whole => written == wanted,
             Extent::Front => wanted.starts_with(written),
             Extent::End => written.ends_with(wanted),
+        }
+    }
+}
+
+impl Sweep {
+    /// The ends, of which the call with this number fails.
+    pub fn ends(self, ends: Ends, call: u64) -> Ends {
+        match self.target {
+            Target::Source => Ends {
+                source: call,
+                ..ends
+            },
+            Target::Answers => Ends {
+                answers: call,
+                ..ends
+            },
+            Target::Frames => Ends {
+                frames: call,
+                ..ends
+            },
+        }
+    }
+
+    /// The status of a run in which a call fails.
+    pub fn status(self) -> u8 {
+        match self.target {
+            Target::Source => 4,
+            Target::Answers | Target::Frames => 5,
         }
     }
 }

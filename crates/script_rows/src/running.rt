@@ -1,6 +1,6 @@
 //! A row is run over memory.
 
-use crate::row::Row;
+use crate::row::{Ends, Row};
 use crate::turns::{LineSink, LineSource, Tally};
 use anyhow::{Result, anyhow};
 use gate_outside::{MemSink, MemSource};
@@ -13,22 +13,35 @@ const ANSWERS_ROOM: usize = 1 << 20;
 
 const FRAMES_ROOM: usize = 1 << 23;
 
+/// What a run of a row gave.
+#[derive(Drop)]
+pub struct Given {
+    pub status: u8,
+    pub answers: Vec<u8>,
+    pub frames: Vec<u8>,
+}
+
 /// What the row gives, where it isn't what it has to give.
 pub fn difference(alloc: Global, row: &Row) -> Result<Option<String>> {
-    let ends = row.ends;
-    if ends.turns > 0 {
+    if row.ends.turns > 0 {
         return late(alloc, row);
     }
-    if row.frames.is_none() && ends.frames == 0 {
+    if row.frames.is_none() && row.ends.frames == 0 {
         return twice(alloc, row);
     }
+    let given = run_row(alloc, row, row.ends)?;
+    unmet(alloc, row, &given)
+}
+
+/// What a run of the row over these ends gives.
+pub fn run_row(alloc: Global, row: &Row, ends: Ends) -> Result<Given> {
     let mut source = MemSource::new(
         row.input.to_vec(alloc)?,
         ends.piece.max(1),
         [ends.source].to_vec(alloc)?,
     );
-    let mut answers = sink(alloc, ANSWERS_ROOM, 64, ends.answers)?;
-    let mut frames = sink(alloc, FRAMES_ROOM, 4096, ends.frames)?;
+    let mut answers = sink(alloc, ANSWERS_ROOM, ends.answers_piece, ends.answers)?;
+    let mut frames = sink(alloc, FRAMES_ROOM, ends.frames_piece, ends.frames)?;
     let status = command(
         alloc,
         row.words.as_slice(),
@@ -36,16 +49,26 @@ pub fn difference(alloc: Global, row: &Row) -> Result<Option<String>> {
         &mut answers,
         &mut frames,
     );
-    Ok(if status != row.status {
+    Ok(Given {
+        status,
+        answers: answers.written().to_vec(alloc)?,
+        frames: frames.written().to_vec(alloc)?,
+    })
+}
+
+/// What was given, where it isn't what the row has to give.
+pub fn unmet(alloc: Global, row: &Row, given: &Given) -> Result<Option<String>> {
+    Ok(if given.status != row.status {
+        let status = given.status;
         Some(format!(in alloc; "status {status}")?)
-    } else if !row.answers.is_met(answers.written()) {
-        Some(shown(alloc, "answers", answers.written())?)
+    } else if !row.answers.is_met(&given.answers) {
+        Some(shown(alloc, "answers", &given.answers)?)
     } else if row
         .frames
         .as_ref()
-        .is_some_and(|wanted| !wanted.is_met(frames.written()))
+        .is_some_and(|wanted| !wanted.is_met(&given.frames))
     {
-        Some(shown(alloc, "frames", frames.written())?)
+        Some(shown(alloc, "frames", &given.frames)?)
     } else {
         None
     })
@@ -53,7 +76,7 @@ pub fn difference(alloc: Global, row: &Row) -> Result<Option<String>> {
 
 // What a run gave, with a sum over its frames, of which there may be very many.
 #[derive(Drop)]
-struct Given {
+struct Tallied {
     status: u8,
     answers: Vec<u8>,
     frames: Tally,
@@ -76,14 +99,14 @@ fn twice(alloc: Global, row: &Row) -> Result<Option<String>> {
 }
 
 // What a run of the row gives.
-fn run_once(alloc: Global, row: &Row) -> Result<Given> {
+fn run_once(alloc: Global, row: &Row) -> Result<Tallied> {
     let ends = row.ends;
     let mut source = MemSource::new(
         row.input.to_vec(alloc)?,
         ends.piece.max(1),
         [ends.source].to_vec(alloc)?,
     );
-    let mut answers = sink(alloc, ANSWERS_ROOM, 64, ends.answers)?;
+    let mut answers = sink(alloc, ANSWERS_ROOM, ends.answers_piece, ends.answers)?;
     let mut frames = Tally { count: 0, sum: 0 };
     let status = command(
         alloc,
@@ -92,7 +115,7 @@ fn run_once(alloc: Global, row: &Row) -> Result<Given> {
         &mut answers,
         &mut frames,
     );
-    Ok(Given {
+    Ok(Tallied {
         status,
         answers: answers.written().to_vec(alloc)?,
         frames,
@@ -133,8 +156,8 @@ fn sink(alloc: Global, room: usize, most: usize, fail: u64) -> Result<MemSink> {
     MemSink::new(alloc, room, most.max(1), [fail].to_vec(alloc)?).map_err(|_| anyhow!("no memory"))
 }
 
-// What was written, in one line.
-fn shown(alloc: Global, what: &str, written: &[u8]) -> Result<String> {
+/// What was written, in one line.
+pub fn shown(alloc: Global, what: &str, written: &[u8]) -> Result<String> {
     let mut line = format!(in alloc; "{what}: ")?;
     for byte in written {
         match byte {

@@ -13,7 +13,8 @@ use std::sync::{Arc, Wait};
 use std::thread::Threads;
 use std::time::Clock;
 
-const JOIN: &[u8] =
+/// What a client sends that joins the session of the ID that is drawn first.
+pub const JOIN: &[u8] =
     b"6.select,37.$00010203-0405-4607-8809-0a0b0c0d0e0f;7.connect,13.VERSION_1_1_0,0.;";
 
 /// What both viewers are given, where it is said that a write is held, and how many moments didn't come.

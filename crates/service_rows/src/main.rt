@@ -2,6 +2,7 @@
 //! whatever the order in which threads run.
 #![tactic(auto)]
 
+mod faults;
 mod gate;
 mod memory;
 mod rows;
@@ -11,5 +12,7 @@ use anyhow::Result;
 fn main(rt: HostRuntime) -> Result<()> {
     rows::daemon(&rt, rt.alloc())?;
     rows::connects(&rt, rt.alloc())?;
-    gate::gate(&rt, rt.alloc())
+    gate::gate(&rt, rt.alloc())?;
+    faults::dials(&rt, rt.alloc())?;
+    faults::starts(&rt, rt.alloc())
 }

@@ -1,6 +1,6 @@
 //! A net in memory: connections whose bytes are given, a Telnet host that sends one letter and ends, jobs that run in
-//! the call or in threads, a clock that stands at 0, and dice that count. Who gives bytes may wait for what others
-//! were given.
+//! the call or in threads, a clock that stands at 0, and dice that count. One dial may fail, and one start of a job be
+//! refused. Who gives bytes may wait for what others were given.
 
 ghost use Rattle.std.specs.Prelude.{◌≡◌, ◌≤◌, None, length};
 
@@ -205,14 +205,40 @@ impl<R: Moments + Wait + Drop> Sink for RowSink<R> {
     fn finish(&mut self) {}
 }
 
+/// Which dial fails, and which start of a job is refused, counted from 1 over a whole service; 0 for none.
+#[derive(Clone, Copy)]
+pub struct Faults {
+    pub dial: u64,
+    pub start: u64,
+}
+
+/// How many dials and starts of jobs there were, and how many bytes were drawn.
+#[derive(Drop)]
+struct Counts {
+    dials: AtomicU64,
+    starts: AtomicU64,
+    drawn: AtomicU64,
+}
+
 /// What the connections of a net share: when its Telnet host sends and when it ends, whether its jobs run in threads,
-/// and how many bytes were drawn.
+/// which calls fail, and what is counted.
 #[derive(Drop)]
 struct Common {
     first: Option<Moment>,
     last: Option<Moment>,
     threads: bool,
-    drawn: Arc<AtomicU64, Global>,
+    faults: Faults,
+    counts: Arc<Counts, Global>,
+}
+
+impl Counts {
+    fn new() -> Counts {
+        Counts {
+            dials: AtomicU64::new(0),
+            starts: AtomicU64::new(0),
+            drawn: AtomicU64::new(0),
+        }
+    }
 }
 
 impl Common {
@@ -223,8 +249,21 @@ impl Common {
             first,
             last,
             threads: self.threads,
-            drawn: Arc::try_clone(&self.drawn)?,
+            faults: self.faults,
+            counts: Arc::try_clone(&self.counts)?,
         })
+    }
+
+    // Counts a dial, and answers whether it is the one that fails.
+    fn dial_fails(&self) -> bool {
+        let before = self.counts.dials.fetch_add(1, SeqCst);
+        before.saturating_add(1) == self.faults.dial
+    }
+
+    // Counts a start of a job, and answers whether it is the one that is refused.
+    fn start_is_refused(&self) -> bool {
+        let before = self.counts.starts.fetch_add(1, SeqCst);
+        before.saturating_add(1) == self.faults.start
     }
 }
 
@@ -240,6 +279,7 @@ fn another(moment: &Option<Moment>) -> Result<Option<Moment>, NoMemory> {
 pub struct RowHelper<R> {
     rt: R,
     common: Common,
+    undialed: u64,
     refused: u64,
 }
 
@@ -271,7 +311,7 @@ impl<R: Copy> RowHelper<R> {
 }
 
 impl<R: Drop> Counted for RowHelper<R> {
-    ghost dial_faults = { λ _. 0 };
+    ghost dial_faults = { λ s. s.undialed };
 
     ghost start_faults = { λ s. s.refused };
 
@@ -289,6 +329,10 @@ impl<R: Moments + Wait + Copy + Send + Drop + 'static> Dialer for RowHelper<R> {
         _host: &str,
         _port: u16,
     ) -> Result<(RowSource<R>, RowSink<R>), DialFault> {
+        if self.common.dial_fails() {
+            self.undialed = self.undialed.saturating_add(1);
+            return Err(DialFault::Failed);
+        }
         Ok((self.host(alloc)?, self.hole(alloc)?))
     }
 }
@@ -297,7 +341,9 @@ impl<R: Drop> Spawner for RowHelper<R> {
     ghost refuses = { λ _. None };
 
     fn way(&mut self) -> Way {
-        if self.common.threads {
+        if self.common.start_is_refused() {
+            Way::Refused
+        } else if self.common.threads {
             Way::Thread
         } else {
             Way::Here
@@ -319,7 +365,7 @@ impl<R: Drop> Dice for RowHelper<R> {
     fn bytes(&mut self) -> [u8; 16] {
         let mut bytes = [0u8; 16];
         for byte in bytes.iter_mut() {
-            *byte = (self.common.drawn.fetch_add(1, SeqCst) & 0xff) as u8;
+            *byte = (self.common.counts.drawn.fetch_add(1, SeqCst) & 0xff) as u8;
         }
         bytes
     }
@@ -330,6 +376,7 @@ impl<R: Moments + Wait + Copy + Send + Drop + 'static> Helper for RowHelper<R> {
         Ok(RowHelper {
             rt: self.rt,
             common: self.common.another()?,
+            undialed: 0,
             refused: 0,
         })
     }
@@ -355,7 +402,8 @@ impl<R: Copy> RowNet<R> {
                 first: None,
                 last: None,
                 threads: false,
-                drawn: Arc::new(alloc, AtomicU64::new(0))?,
+                faults: Faults { dial: 0, start: 0 },
+                counts: Arc::new(alloc, Counts::new())?,
             },
             links: Vec::new(alloc),
             moments: Vec::new(alloc),
@@ -368,6 +416,11 @@ impl<R: Copy> RowNet<R> {
         self.common.first = Some(first);
         self.common.last = Some(last);
         self.common.threads = true;
+    }
+
+    /// From now on this dial fails, and this start is refused.
+    pub fn fail(&mut self, faults: Faults) {
+        self.common.faults = faults;
     }
 
     /// It waits for this moment too before it fails.
@@ -444,6 +497,7 @@ impl<R: Moments + Wait + Copy + Send + Drop + 'static> Net for RowNet<R> {
         Ok(RowHelper {
             rt: self.rt,
             common: self.common.another()?,
+            undialed: 0,
             refused: 0,
         })
     }

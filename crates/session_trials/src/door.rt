@@ -18,17 +18,27 @@ impl Job for NoJob {
     fn run<R: Wait>(self, _rt: &R) {}
 }
 
-/// A door to one session, which is called `here`. It begins none.
+/// A door to one session, which is called `here`. It begins none, and counts the places that it is given.
 #[derive(Drop)]
 pub struct OneDoor {
     host: HostPass,
     faults: u64,
+    given: u64,
 }
 
 impl OneDoor {
     /// A door to the session of this host.
     pub fn new(host: HostPass) -> OneDoor {
-        OneDoor { host, faults: 0 }
+        OneDoor {
+            host,
+            faults: 0,
+            given: 0,
+        }
+    }
+
+    /// How many places it was given.
+    pub fn given(&self) -> u64 {
+        self.given
     }
 }
 
@@ -100,5 +110,14 @@ impl Door for OneDoor {
         }
     }
 
-    fn give<R: Wait>(&mut self, _rt: &R, _id: &str, _place: Place) {}
+    /// Its viewer leaves.
+    fn give<R: Wait>(&mut self, rt: &R, _id: &str, place: Place) {
+        let Place {
+            reader: _,
+            mut writer,
+            role: _,
+        } = place;
+        let _ = writer.leave(rt);
+        self.given = self.given.saturating_add(1);
+    }
 }

@@ -6,7 +6,7 @@ use crate::workers::{Hand, LETTERS, ROUNDS, Worker, feed, letter, run_all, take}
 use anyhow::{Context, Result, bail};
 use canvas::Canvas;
 use gate_model::Asked;
-use shared_desk::{HostPass, Place, ReadAnswer, ReaderPass, SenderPass, WriterPass};
+use shared_desk::{HostPass, ReadAnswer, ReaderPass, SenderPass};
 use std::alloc::Global;
 use std::sync::Wait;
 use std::thread::Threads;
@@ -14,10 +14,13 @@ use std::thread::Threads;
 // The keysyms of the first letters of the two typists: the letters up to m, and from n on.
 const FIRST: [u32; 2] = [0x61, 0x6e];
 
+// How many read.
+const RECORDERS: u32 = 3;
+
 // How many takes empty what waits for the host.
 const TAKES: u32 = 1000;
 
-/// Eight threads feed, take, read, type, let join and leave at once. Afterwards each viewer sees what one who joins
+/// Eight threads feed, take, read, type, let join and leave at once. Afterwards each reader sees what one who joins
 /// last sees, and the bytes taken are the letters of each typist, in order, and whole answers to the host, in order:
 /// how many calls were answered as they should be, how many canvases are the same, and whether the bytes are so.
 pub fn eight_threads<R: Threads + Wait + Sync>(rt: &R, alloc: Global) -> Result<String> {
@@ -41,7 +44,9 @@ fn eight_workers<R: Wait>(rt: &R, alloc: Global) -> Result<Vec<Worker>> {
     for first in FIRST {
         add_typist(rt, alloc, &mut host, &mut workers, first)?;
     }
-    let _writer = add_reader(rt, alloc, &mut host, &mut workers, Asked::View)?;
+    for _ in 0..RECORDERS {
+        add_recorder(rt, alloc, &mut host, &mut workers)?;
+    }
     workers.push(Worker::new(Hand::Host(host)))?;
     Ok(workers)
 }
@@ -56,7 +61,7 @@ fn add_link(alloc: Global, host: &mut HostPass, workers: &mut Vec<Worker>) -> Re
     Ok(())
 }
 
-// Two for a viewer that joins: one reads, and one types from this letter on.
+// One that types from this letter on, for a viewer that joins.
 fn add_typist<R: Wait>(
     rt: &R,
     alloc: Global,
@@ -64,29 +69,25 @@ fn add_typist<R: Wait>(
     workers: &mut Vec<Worker>,
     first: u32,
 ) -> Result<()> {
-    let writer = add_reader(rt, alloc, host, workers, Asked::Owner)?;
-    workers.push(Worker::new(Hand::Typist(writer, first)))?;
+    let Ok((place, _first)) = joined(rt, alloc, host, Asked::Owner) else {
+        bail!("not joined");
+    };
+    workers.push(Worker::new(Hand::Typist(place.writer, first)))?;
     Ok(())
 }
 
-// One that reads for a viewer that joins, whose writer is answered.
-fn add_reader<R: Wait>(
+// One that reads for a recorder that joins: it is never held, so that nobody need acknowledge what it is given.
+fn add_recorder<R: Wait>(
     rt: &R,
     alloc: Global,
     host: &mut HostPass,
     workers: &mut Vec<Worker>,
-    asked: Asked,
-) -> Result<WriterPass> {
-    let Ok((place, first)) = joined(rt, alloc, host, asked) else {
+) -> Result<()> {
+    let Ok((place, first)) = joined(rt, alloc, host, Asked::Keep) else {
         bail!("not joined");
     };
-    let Place {
-        reader,
-        writer,
-        role: _,
-    } = place;
-    workers.push(Worker::new(Hand::Reader(reader, first.into_inner())))?;
-    Ok(writer)
+    workers.push(Worker::new(Hand::Reader(place.reader, first.into_inner())))?;
+    Ok(())
 }
 
 // How many calls were answered as they should be.

@@ -3,13 +3,16 @@
 #![tactic(auto)]
 
 mod canvases;
+mod closing_bell;
 mod door;
 mod links;
 mod load;
+mod nines;
 mod recordings;
 mod rows;
 mod sessions;
 mod users;
+mod visits;
 mod workers;
 
 use anyhow::Result;
@@ -45,6 +48,8 @@ fn tell_links<R: Print + Wait>(rt: &R, alloc: Global) -> Result<()> {
     println!(rt; "a link that ends: {}", links::whole(rt, alloc)?)?;
     println!(rt; "a read that fails: {}", links::failed_read(rt, alloc)?)?;
     println!(rt; "a write that fails: {}", links::failed_write(rt, alloc)?)?;
+    println!(rt; "read k that fails: {}", links::failing_reads(rt, alloc)?)?;
+    println!(rt; "write k that fails: {}", links::failing_writes(rt, alloc)?)?;
     Ok(())
 }
 
@@ -57,6 +62,7 @@ where
     println!(rt; "a viewer's read that fails: {}", users::unread(rt, alloc)?)?;
     println!(rt; "a viewer's bad byte: {}", users::broken(rt, alloc)?)?;
     println!(rt; "a viewer's bytes that end: {}", users::cut(rt, alloc)?)?;
+    println!(rt; "digits without an end: {}", users::endless(rt, alloc)?)?;
     println!(rt; "a closed session shown: {}", users::shown(rt, alloc)?)?;
     println!(rt;
         "a viewer's write that fails: {}",
@@ -65,5 +71,9 @@ where
     println!(rt; "a viewer that left: {}", users::left(rt, alloc)?)?;
     println!(rt; "a visit: {}", users::visited(rt, alloc)?)?;
     println!(rt; "a visitor turned away: {}", users::turned_away(rt, alloc)?)?;
+    println!(rt;
+        "a visit whose write k fails: {}",
+        visits::failing_writes(rt, alloc)?
+    )?;
     Ok(())
 }

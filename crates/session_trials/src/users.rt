@@ -2,11 +2,12 @@
 
 use crate::door::OneDoor;
 use crate::links::{sent, sink};
+use crate::nines::Nines;
 use crate::sessions::{Screen, joined, opened};
 use anyhow::{Context, Result, bail};
 use gate_model::{Asked, Bytes, Cause};
 use gate_outside::{MemBell, MemSink, MemSource};
-use shared_desk::{HostPass, Place};
+use shared_desk::{HostPass, Place, ReadRefusal};
 use std::alloc::Global;
 use std::sync::Wait;
 use std::thread::Threads;
@@ -20,8 +21,9 @@ const REST: &[u8] = b"3.key,2.97,1.1;3.key,2.9";
 
 const MORE: &[u8] = b"8,1.1;10.disconnect;3.key,2.99,1.1;";
 
-// A viewer's greeting (the Guacamole manual, "The Guacamole protocol"), and then a key.
-const VISIT: &[u8] = b"6.select,4.here;7.connect,13.VERSION_1_1_0,0.;3.key,2.97,1.1;10.disconnect;";
+/// A viewer's greeting (the Guacamole manual, "The Guacamole protocol"), and then a key.
+pub const VISIT: &[u8] =
+    b"6.select,4.here;7.connect,13.VERSION_1_1_0,0.;3.key,2.97,1.1;10.disconnect;";
 
 // A viewer that asks for another session.
 const AWAY: &[u8] = b"6.select,5.there;";
@@ -45,6 +47,30 @@ pub fn broken<R: Wait>(rt: &R, alloc: Global) -> Result<String> {
 /// The bytes end within an instruction.
 pub fn cut<R: Wait>(rt: &R, alloc: Global) -> Result<String> {
     heard(rt, alloc, b"", 0)
+}
+
+/// Bytes that begin an instruction whose first length has no end: how the intake ended, and whether its viewer has left.
+pub fn endless<R: Wait>(rt: &R, alloc: Global) -> Result<String> {
+    let mut host = opened(alloc, Screen::Small)?;
+    let Ok((place, _first)) = joined(rt, alloc, &mut host, Asked::Owner) else {
+        bail!("not joined");
+    };
+    let Place {
+        mut reader,
+        mut writer,
+        role: _,
+    } = place;
+    let (mut source, mut bytes) = (Nines, Vec::new(alloc));
+    let end = intake(
+        rt,
+        alloc,
+        &mut writer,
+        &mut source,
+        &mut bytes,
+        &MemBell::new(),
+    );
+    let left = matches!(reader.read(rt, &mut bytes), Err(ReadRefusal::NoViewer));
+    Ok(format!(in alloc; "{end:?}, left: {left}")?)
 }
 
 fn heard<R: Wait>(rt: &R, alloc: Global, more: &[u8], fail: u64) -> Result<String> {
