@@ -1,6 +1,16 @@
 """Counts what is compared."""
+import contextlib
 
 counts = {"passed": 0, "failed": 0}
+tried = []
+
+
+@contextlib.contextmanager
+def trying(name):
+    """What fails within is told with this name."""
+    tried.append(f"{name}: ")
+    yield
+    tried.pop()
 
 
 def check(name, wanted, got):
@@ -8,7 +18,7 @@ def check(name, wanted, got):
         counts["passed"] += 1
         return
     counts["failed"] += 1
-    print(f"FAILED {name}\n  wanted: {wanted!r:.200}\n  got:    {got!r:.200}")
+    print(f"FAILED {''.join(tried)}{name}\n  wanted: {wanted!r:.200}\n  got:    {got!r:.200}")
 
 
 def verdict():

@@ -172,6 +172,11 @@ class Viewer:
         with contextlib.suppress(OSError):
             while piece := self.socket.recv(65536):
                 self.text += piece
+                self.acknowledge()
+
+    def acknowledge(self):
+        """Answers the last sync, as a client does: one who doesn't is given nothing more after 64."""
+        self.socket.sendall(last_sync(self.text))
 
     @property
     def id(self):
@@ -179,6 +184,12 @@ class Viewer:
 
     def close(self):
         self.socket.close()
+
+
+def last_sync(text):
+    """The last sync of a text that is whole, or nothing where the last isn't."""
+    begin = text.rfind(b"4.sync,")
+    return text[begin : text.find(b";", begin) + 1] if begin >= 0 else b""
 
 
 def owner(gateway_port, telnet_port, sharing, width=640, height=384):

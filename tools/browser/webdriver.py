@@ -1,4 +1,4 @@
-"""A browser that is steered through chromedriver, by the requests of WebDriver (W3C) that the tests need."""
+"""Chromium, steered through chromedriver by the requests of WebDriver (W3C) that the tests need."""
 import base64
 import contextlib
 import json
@@ -12,9 +12,19 @@ ELEMENT = "element-6066-11e4-a52e-4f735466cecf"
 class Driver:
     """A running chromedriver. It ends with the `with` block, and so does each browser that is still open."""
 
+    name = "Chromium"
+    has_input_methods = True
+
     def __init__(self, port):
         self.port = port
         self.pages = []
+
+    def page(self, address, *arguments):
+        """Opens an address in a browser of its own."""
+        page = Page(self, *arguments)
+        self.pages.append(page)
+        page.post("/url", url=address)
+        return page
 
     def __enter__(self):
         self.process = subprocess.Popen(["chromedriver", f"--port={self.port}"], stdout=subprocess.DEVNULL, stderr=subprocess.DEVNULL)
@@ -45,13 +55,11 @@ class Page:
 
     ARGUMENTS = ["--headless=new", "--no-sandbox", "--disable-gpu", "--disable-dev-shm-usage", "--window-size=1000,700"]
 
-    def __init__(self, driver, address, *arguments):
+    def __init__(self, driver, *arguments):
         self.driver = driver
         options = {"goog:chromeOptions": {"args": [*self.ARGUMENTS, *arguments]}}
         made = driver.call("POST", "/session", {"capabilities": {"alwaysMatch": options}})
         self.path = f"/session/{made['sessionId']}"
-        driver.pages.append(self)
-        self.post("/url", url=address)
 
     def go(self, address):
         """Opens another address anew, even one that differs behind its `#` alone."""
@@ -101,6 +109,10 @@ class Page:
         for step in steps:
             self.command("Input.imeSetComposition", text=step, selectionStart=len(step), selectionEnd=len(step))
         self.command("Input.insertText", text=text)
+
+    def may_copy(self):
+        """Lets scripts of the page write to the clipboard."""
+        self.command("Browser.grantPermissions", permissions=["clipboardReadWrite", "clipboardSanitizedWrite"])
 
     def command(self, name, **given):
         """A command of Chromium's own protocol, for what WebDriver has no request."""
