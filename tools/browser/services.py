@@ -203,6 +203,13 @@ def screen_of(stream):
     return subprocess.run([LOOK], input=stream, stdout=subprocess.PIPE, stderr=subprocess.DEVNULL).stdout.decode()
 
 
+def until_prompt(stream_of, seconds=10):
+    """Waits for the shell's prompt. What is typed before it is shown on a line of its own, above it."""
+    end = time.time() + seconds
+    while screen_of(stream_of()).rstrip()[-1:] not in ("$", "#") and time.time() < end:
+        time.sleep(0.05)
+
+
 def picture_at(stream, stamp):
     """The pixels that the gateway's own canvas shows of a stream at a stamp: width, height, and the bytes of red,
     green and blue, from `look`."""
