@@ -1,11 +1,11 @@
 //! A session under a mixed load.
 
 use crate::canvases::{is_alike, played};
-use crate::sessions::{Screen, joined, opened};
 use crate::workers::{Hand, LETTERS, ROUNDS, Worker, feed, letter, run_all, take};
 use anyhow::{Context, Result, bail};
 use canvas::Canvas;
 use gate_model::Asked;
+use session_runs::{Screen, joined, opened};
 use shared_desk::{HostPass, ReadAnswer, ReaderPass, SenderPass};
 use std::alloc::Global;
 use std::sync::Wait;

@@ -1,22 +1,13 @@
-//! The program `session_trials`: it runs sessions that are shared by passes, in one thread and in many, with the
-//! loops over them, and tells what came of each. It prints the same whatever the order in which threads run.
+//! The program `session_trials`: it runs sessions that are shared by passes, in one thread and in many, and tells what
+//! came of each. It prints the same whatever the order in which threads run.
 #![tactic(auto)]
 
 mod canvases;
-mod closing_bell;
-mod door;
-mod links;
 mod load;
-mod nines;
-mod recordings;
 mod rows;
-mod sessions;
-mod users;
-mod visits;
 mod workers;
 
 use anyhow::Result;
-use std::alloc::Global;
 use std::sync::Wait;
 use std::thread::Threads;
 
@@ -34,46 +25,5 @@ where
     println!(rt; "a second link: {}", rows::a_second_link(alloc)?)?;
     println!(rt; "a second close: {}", rows::a_second_close(rt, alloc)?)?;
     println!(rt; "mixed load: {}", load::eight_threads(rt, alloc)?)?;
-    tell_links(rt, alloc)?;
-    tell_users(rt, alloc)?;
-    println!(rt;
-        "a recording of three feeds: {}",
-        recordings::three_feeds(rt, alloc)?
-    )?;
-    Ok(())
-}
-
-// What came of the loops over a link.
-fn tell_links<R: Print + Wait>(rt: &R, alloc: Global) -> Result<()> {
-    println!(rt; "a link that ends: {}", links::whole(rt, alloc)?)?;
-    println!(rt; "a read that fails: {}", links::failed_read(rt, alloc)?)?;
-    println!(rt; "a write that fails: {}", links::failed_write(rt, alloc)?)?;
-    println!(rt; "read k that fails: {}", links::failing_reads(rt, alloc)?)?;
-    println!(rt; "write k that fails: {}", links::failing_writes(rt, alloc)?)?;
-    Ok(())
-}
-
-// What came of the loops of a viewer.
-fn tell_users<R>(rt: &R, alloc: Global) -> Result<()>
-where
-    R: Print + Threads + Wait + Copy + Send + Sync + 'static,
-{
-    println!(rt; "keys and disconnect: {}", users::typed(rt, alloc)?)?;
-    println!(rt; "a viewer's read that fails: {}", users::unread(rt, alloc)?)?;
-    println!(rt; "a viewer's bad byte: {}", users::broken(rt, alloc)?)?;
-    println!(rt; "a viewer's bytes that end: {}", users::cut(rt, alloc)?)?;
-    println!(rt; "digits without an end: {}", users::endless(rt, alloc)?)?;
-    println!(rt; "a closed session shown: {}", users::shown(rt, alloc)?)?;
-    println!(rt;
-        "a viewer's write that fails: {}",
-        users::unwritten(rt, alloc)?
-    )?;
-    println!(rt; "a viewer that left: {}", users::left(rt, alloc)?)?;
-    println!(rt; "a visit: {}", users::visited(rt, alloc)?)?;
-    println!(rt; "a visitor turned away: {}", users::turned_away(rt, alloc)?)?;
-    println!(rt;
-        "a visit whose write k fails: {}",
-        visits::failing_writes(rt, alloc)?
-    )?;
     Ok(())
 }

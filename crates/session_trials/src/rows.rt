@@ -2,10 +2,10 @@
 
 ghost use Rattle.std.specs.Prelude.{◌≡◌};
 
-use crate::sessions::{Screen, give_back, joined, opened};
 use crate::workers::type_key;
 use anyhow::{Result, bail};
 use gate_model::{Asked, Cause};
+use session_runs::{Screen, give_back, joined, opened};
 use shared_desk::{AnyPass, Closed, HostPass, Place, WriterPass, end_session};
 use std::alloc::Global;
 use std::sync::Wait;

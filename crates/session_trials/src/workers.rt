@@ -2,8 +2,8 @@
 
 ghost use Rattle.std.specs.Prelude.{◌≡◌};
 
-use crate::sessions::{give_back, joined};
 use gate_model::{Act, Asked};
+use session_runs::{give_back, joined};
 use shared_desk::{HostPass, LinkPass, Place, ReaderPass, SenderPass, WriterPass};
 use std::alloc::Global;
 use std::sync::Wait;

@@ -2,10 +2,10 @@
 
 ghost use Rattle.std.specs.Prelude.{None};
 
-use crate::sessions::joined;
 use gate_model::{Asked, Text};
 use gate_outside::{Counted, Way};
 use guac_handshake::{Ask, Begun, Door, Job, Refused, Welcome};
+use session_runs::joined;
 use shared_desk::{HostPass, JoinRefusal, Place};
 use std::alloc::Global;
 use std::sync::Wait;

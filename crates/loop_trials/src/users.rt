@@ -3,10 +3,10 @@
 use crate::door::OneDoor;
 use crate::links::{sent, sink};
 use crate::nines::Nines;
-use crate::sessions::{Screen, joined, opened};
 use anyhow::{Context, Result, bail};
 use gate_model::{Asked, Bytes, Cause};
 use gate_outside::{MemBell, MemSink, MemSource};
+use session_runs::{Screen, joined, opened};
 use shared_desk::{HostPass, Place, ReadRefusal};
 use std::alloc::Global;
 use std::sync::Wait;

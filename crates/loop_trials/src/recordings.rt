@@ -1,13 +1,13 @@
 //! A recording of a session.
 
 use crate::links::sink;
-use crate::sessions::{Screen, joined, opened};
 use anyhow::{Context, Result, bail};
 use gate_model::{Asked, Cause, Instr};
 use gate_outside::{MemBell, MemSink};
 use guac_framing::{Next, next_instruction};
 use guac_instr::read_server;
 use session_record::keep;
+use session_runs::{Screen, joined, opened};
 use std::alloc::Global;
 use std::sync::Wait;
 use user_serve::OutletEnd;

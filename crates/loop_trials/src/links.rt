@@ -1,11 +1,11 @@
 //! A pump and a sender over a link in memory.
 
 use crate::closing_bell::ClosingBell;
-use crate::sessions::{Screen, opened};
 use anyhow::{Context, Result, bail};
 use gate_model::Cause;
 use gate_outside::{MemBell, MemClock, MemSink, MemSource};
 use session_link::{PumpEnd, SenderEnd, pump, sender};
+use session_runs::{Screen, opened};
 use shared_desk::{Closed, HostPass, LinkPass, SenderPass};
 use std::alloc::Global;
 use std::sync::Wait;

@@ -2,12 +2,12 @@
 
 use crate::door::OneDoor;
 use crate::links::sink;
-use crate::sessions::{Screen, joined, opened};
 use crate::users::VISIT;
 use anyhow::{Context, Result, bail};
 use gate_model::Asked;
 use gate_outside::{MemBell, MemSource};
 use guac_handshake::Door;
+use session_runs::{Screen, joined, opened};
 use shared_desk::{LinkPass, ReadAnswer, ReaderPass};
 use std::alloc::Global;
 use std::sync::Wait;
