@@ -16,6 +16,7 @@ mod service;
 mod steps;
 mod topics;
 mod trials;
+mod twice;
 
 use crate::topics::value;
 use anyhow::{Context, Result};

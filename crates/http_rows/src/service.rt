@@ -37,6 +37,17 @@ impl Service {
         })
     }
 
+    /// A service over these tunnels, with a door of its own.
+    pub fn over(alloc: Global, tunnels: &LockedShelf<Tunnel>) -> Result<Service> {
+        let dice = dice(alloc)?;
+        Ok(Service {
+            tunnels: tunnels.another(),
+            door: DeskDoor::new(0),
+            dice,
+            bell: MemBell::new(),
+        })
+    }
+
     /// Answers a request.
     pub fn answer<R: Threads + Wait + Copy + Send + 'static>(
         &mut self,

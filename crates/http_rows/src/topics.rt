@@ -4,6 +4,7 @@ use crate::cuts::cuts;
 use crate::requests::{request, response};
 use crate::steps::{Shown, answers};
 use crate::trials::trials;
+use crate::twice::two_reads;
 use anyhow::{Result, bail};
 use std::alloc::Global;
 use std::sync::Wait;
@@ -24,6 +25,7 @@ pub fn value<R: Threads + Wait + Copy + Send + Sync + 'static>(
         "exchanges" => answers(rt, alloc, input, Shown::Text),
         "cuts" => cuts(rt, alloc, input),
         "trials" => trials(rt, alloc, input),
+        "twice" => two_reads(rt, alloc, input),
         _ => bail!("no such topic"),
     }
 }

@@ -1,3 +1,4 @@
 pub mod Apart
 pub mod Drawing
 pub mod Sweeping
+pub mod Crosses

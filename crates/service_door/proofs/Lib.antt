@@ -1,5 +1,5 @@
 -- In reading order: a table before and after a call, a session that is added, one that is lent, how a session
--- begins, how a viewer joins, how a recorder joins, that its job may go to another thread.
+-- begins, how a viewer joins, how a recorder joins, that a session and its jobs may go to other threads.
 mod Tables
 mod Adding
 mod Lending

@@ -2,8 +2,8 @@ use denote.Exit.{no}
 use denote.Param.{param}
 use denote.Param.Send.{arg_send, param_send}
 use Rattle.gate_outside.specs.contracts.mem_bell.MemBell as bell
-use Rattle.service_door.proofs.Crosses.{recorder_send}
-use Rattle.door_rows.proofs.Sends.{bell_send, pump_send, sending_send}
+use Rattle.service_door.proofs.Crosses.{pump_send, recorder_send, sending_send}
+use Rattle.door_rows.proofs.Sends.{bell_send}
 use Rattle.door_rows.proofs.service.at_door.Goals as goal
 
 -- the jobs of a session may go to other threads

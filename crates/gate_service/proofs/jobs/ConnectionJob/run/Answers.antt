@@ -1,8 +1,7 @@
 use denote.Exit.{no}
 use denote.Param.{param}
 use denote.Param.Send.{arg_send, param_send}
-use Rattle.service_door.proofs.Crosses.{recorder_send}
-use Rattle.gate_service.proofs.Crosses.{pump_send, sending_send}
+use Rattle.service_door.proofs.Crosses.{pump_send, recorder_send, sending_send}
 use Rattle.gate_service.proofs.jobs.ConnectionJob.run.Goals as goal
 
 -- the jobs of a session may go to other threads
