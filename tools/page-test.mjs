@@ -3,11 +3,18 @@
 // each recording is compared, pixel by pixel, with what the built `look` shows of the same frames. The last line
 // counts what was compared; the status is 1 where something differs.
 import { spawnSync } from 'node:child_process';
-import { existsSync, readFileSync, readdirSync } from 'node:fs';
-import { fileURLToPath } from 'node:url';
+import { cpSync, existsSync, mkdtempSync, readFileSync, readdirSync, rmSync, writeFileSync } from 'node:fs';
+import { tmpdir } from 'node:os';
+import { join } from 'node:path';
+import { fileURLToPath, pathToFileURL } from 'node:url';
 
 const top = fileURLToPath(new URL('..', import.meta.url));
-const module = (name) => import(`${top}web/${name}.js`);
+// A copy of the page, since older versions of node take its files as modules only where a package.json says so.
+const page = mkdtempSync(join(tmpdir(), 'page-'));
+process.on('exit', () => rmSync(page, { recursive: true }));
+cpSync(`${top}web`, page, { recursive: true });
+writeFileSync(join(page, 'package.json'), '{ "type": "module" }');
+const module = (name) => import(pathToFileURL(join(page, `${name}.js`)));
 const { Unreadable, instructionsOf, textOf } = await module('instructions');
 const { Layers } = await module('layers');
 const { keysymOfEvent, keysymsOf } = await module('keysyms');
