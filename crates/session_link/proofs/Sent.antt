@@ -5,7 +5,7 @@ use Rattle.std.proofs.Math.Seq.{take-add, take-append_seam}
 use Rattle.std.proofs.lemmas.List.{drop-append-le, drop-drop, drop_all, take-append-drop, take-append-le}
 use Rattle.std.proofs.lemmas.Bool.Decides.{eqb_tells, leb_tells}
 use Rattle.gate_model.specs.declared.entry.Entry.{Entry}
-use Rattle.gate_model.specs.declared.entry.Entry.TheVariants.{Start, Feed, Join, Read, Write, Take, Leave, Close}
+use Rattle.gate_model.specs.declared.entry.Entry.TheVariants.{Start, Feed, Size, Join, Read, Write, Take, Leave, Close}
 use Rattle.gate_model.specs.declared.event.Event.TheVariants.{Take as take_most}
 use Rattle.gate_model.specs.declared.taken.Taken.{Taken}
 use Rattle.gate_model.specs.session.Calls.{take_entry}
@@ -81,6 +81,7 @@ takes_more [] fs a b = b
 takes_more (Take n ∷ es) fs a b = takes_more es fs a b
 takes_more (Start c r m t n s f ∷ es) fs a b = absurd a
 takes_more (Feed bs s f ∷ es) fs a b = absurd a
+takes_more (Size v c r s f ∷ es) fs a b = absurd a
 takes_more (Join v r f ∷ es) fs a b = absurd a
 takes_more (Read v how ∷ es) fs a b = absurd a
 takes_more (Write v acts ∷ es) fs a b = absurd a

@@ -29,7 +29,7 @@ fn close_link<R: Wait, B: Bell>(rt: &R, pass: &mut LinkPass, bell: &B, cause: Ca
     ensures closed { HasClosed cause pass.old.view pass.new.view }
 {
     if pass.close(rt, cause).is_ok() {
-        bell.ring();
+        bell.ring_all(pass.spots());
     }
 }
 
@@ -50,6 +50,6 @@ fn close_sending<R: Wait, B: Bell>(rt: &R, pass: &mut SenderPass, bell: &B)
     ensures closed { HasClosedSending pass.old.view pass.new.view }
 {
     if pass.close(rt, Cause::LinkFault).is_ok() {
-        bell.ring();
+        bell.ring_all(pass.spots());
     }
 }

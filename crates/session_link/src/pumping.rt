@@ -9,7 +9,7 @@ ghost use Rattle.session_link.specs.declared.ends.PumpEnd.TheVariants as ends;
 
 use crate::PumpEnd;
 use crate::closing::close_after;
-use gate_outside::{Bell, Clock, Failed, Source};
+use gate_outside::{Bell, Clock, Failed, Source, ring_after_feed, wait_for_room};
 use shared_desk::{FeedRefusal, LinkPass};
 use std::alloc::Global;
 use std::sync::Wait;
@@ -17,7 +17,8 @@ use std::sync::Wait;
 /// How many bytes are read at once, and fed in one turn.
 const PIECE: usize = 4096;
 
-/// Feeds the session what the source gives, piece by piece, and rings after each. At the source's end, at a
+/// Feeds the session what the source gives, piece by piece, and rings after each. While more than 1,114,112 bytes wait
+/// for the host of an open session it reads no more, until fewer than half do. At the source's end, at a
 /// read that fails and where the session is worn it closes the session, with `ServerEnd`, `LinkFault` and
 /// `Worn`. At want of memory the session stays open (this project's own).
 pub fn pump<R: Wait, S: Source, C: Clock, B: Bell>(
@@ -63,7 +64,10 @@ fn feed_all<R: Wait, S: Source, C: Clock, B: Bell>(
     let mut piece = [0u8; PIECE];
     for _ in rt.forever() {
         match feed_next(rt, alloc, pass, source, clock, &mut piece) {
-            Ok(()) => bell.ring(),
+            Ok(()) => {
+                ring_after_feed(bell, pass.spots());
+                wait_for_room(rt, bell, pass.spots());
+            }
             Err(end) => return end,
         }
     }

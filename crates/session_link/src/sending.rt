@@ -7,7 +7,7 @@ ghost use Rattle.session_link.specs.declared.ends.SenderEnd.TheVariants as ends;
 
 use crate::SenderEnd;
 use crate::closing::shut_after;
-use gate_outside::{Bell, Failed, Sink, write_all};
+use gate_outside::{Bell, Failed, Sink, ring_after_take, write_all};
 use shared_desk::SenderPass;
 use std::sync::Wait;
 
@@ -48,9 +48,10 @@ fn send_all<R: Wait, K: Sink, B: Bell>(
 {
     let mut piece = [0u8; PIECE];
     for _ in rt.forever() {
+        let rings = pass.spots().sending().rings();
         match send_next(rt, pass, sink, bell, &mut piece) {
             Ok(true) => {}
-            Ok(false) => bell.wait(rt),
+            Ok(false) => bell.wait_at(rt, pass.spots().sending(), rings),
             Err(end) => return end,
         }
     }
@@ -81,7 +82,7 @@ fn send_next<R: Wait, K: Sink, B: Bell>(
             Ok(false)
         };
     }
-    bell.ring();
+    ring_after_take(bell, pass.spots());
     match write_all(sink, &piece[..count]) {
         Ok(()) => Ok(true),
         Err(Failed) => Err(SenderEnd::WriteFault),

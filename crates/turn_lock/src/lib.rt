@@ -10,6 +10,7 @@
 //! threads; no other call does.
 #![tactic(auto)]
 
+mod beds;
 mod kept;
 mod lock;
 mod pass;

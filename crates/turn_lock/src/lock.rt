@@ -1,6 +1,7 @@
 //! The lock: its making, a turn, and its end.
 ghost use Rattle.std.specs.Prelude.{◌≡◌};
 
+use crate::beds::Beds;
 use crate::kept::Kept;
 use crate::pass::Pass;
 use crate::rule::LockRule;
@@ -11,15 +12,17 @@ use gate_model::NoMemory;
 use ghost_list::{GhostList, Lists};
 use std::alloc::Global;
 use std::sync::Wait;
-use std::sync::atomic::AtomicU64;
+use wake_spot::Spots;
 
 /// A lock by tickets with one value. It is shared by `&` or in an `Arc`. Contracts name it by
 /// `name_of` of `specs/Passes.antt`.
 #[derive(Drop)]
 pub struct TurnLock<V: Kept + Drop> {
     pub(crate) table: Table<Option<V>, View<V::Entry>, GhostList<V::Entry>, LockRule<V>, Global>,
-    // How many passes sleep or are about to. No clause speaks of it.
-    pub(crate) sleepers: AtomicU64,
+    // Where passes sleep that wait for their turn, by their tickets. No clause speaks of it.
+    pub(crate) beds: Beds,
+    // Where those sleep who wait for news of the value. No clause speaks of it.
+    pub(crate) spots: Spots,
     ghost shape: { (table.shared.table_id.words ≡ 3) × (table.shared.table_id.slots ≡ 1) },
 }
 
@@ -43,17 +46,20 @@ impl<V: Kept + Drop> TurnLock<V> {
         ensures view { IfOk result (λ made. view_of made.1 ≡ beginning V.mark L.list) }
         ensures places { IfOk result (λ made. HasPlaces V.mark (view_of made.1)) }
     {
+        let (beds, spots) = resting(alloc)?;
         let words = [value.count(), 0, 0];
         let mut slots = Vec::with_capacity(alloc, 1)?;
         slots.push_reserved(Some(value));
         let opening = GhostList::of::<L>();
         match Table::new(alloc, &words, slots, &opening) {
-            Ok((table, seat)) => {
-                let sleepers = AtomicU64::new(0);
-                Ok((TurnLock { table, sleepers }, Pass { seat }))
-            }
+            Ok((table, seat)) => Ok((TurnLock { table, beds, spots }, Pass { seat })),
             Err(_refused) => Err(NoMemory),
         }
+    }
+
+    /// The spots at which those sleep who wait for news of the value.
+    pub fn spots(&self) -> &Spots {
+        &self.spots
     }
 
     /// The pass's next turn. It waits until the value was passed on to this pass, which has then seen
@@ -89,4 +95,9 @@ impl<V: Kept + Drop> TurnLock<V> {
         self.enter(rt, &mut pass, ticket);
         self.take(&mut pass)
     }
+}
+
+// Where passes sleep, and those who wait for news.
+fn resting(alloc: Global) -> Result<(Beds, Spots), NoMemory> {
+    Ok((Beds::new(alloc)?, Spots::new(alloc)?))
 }

@@ -125,6 +125,17 @@ fn wait_for<R: Wait>(rt: &R, count: &AtomicU64, wanted: u64) {
     unreachable!()
 }
 
+// Waits until so many passes sleep.
+fn wait_for_sleepers<R: Wait>(rt: &R, lock: &TurnLock<Tally>, wanted: u64) {
+    for _ in rt.forever() {
+        if lock.beds.sleepers() == wanted {
+            return;
+        }
+        spin_loop();
+    }
+    unreachable!()
+}
+
 // Keeps its turn until two passes sleep. `held` is 1 from when it has the turn on.
 fn hold_until_two_sleep<R: Wait>(
     rt: &R,
@@ -137,7 +148,7 @@ fn hold_until_two_sleep<R: Wait>(
 {
     let turn = lock.turn(rt, pass);
     held.store(1, SeqCst);
-    wait_for(rt, &lock.sleepers, 2);
+    wait_for_sleepers(rt, lock, 2);
     end_turn::<Brand>(turn, false, false);
 }
 

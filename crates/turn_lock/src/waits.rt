@@ -7,13 +7,12 @@ use crate::pass::Pass;
 use crate::steps::{NEXT, SERVING};
 use std::hint::spin_loop;
 use std::sync::Wait;
-use std::sync::atomic::Ordering::SeqCst;
 
 // How often a pass looks before it sleeps, where at most `NEAR` turns end before its own begins. With
-// more before it, it sleeps at once.
-const LOOKS: u32 = 1000;
+// more before it, it sleeps at once: whoever has its turn may be without a processor, which looks would keep from it.
+const LOOKS: u32 = 100;
 
-const NEAR: u64 = 4;
+const NEAR: u64 = 1;
 
 impl<V: Kept + Drop> TurnLock<V> {
     ghost use Rattle.turn_lock.specs.Passes.{name_of, lock_of, view_of, IsOutside, IsWaiting};
@@ -55,15 +54,16 @@ impl<V: Kept + Drop> TurnLock<V> {
         unreachable!()
     }
 
-    // Waits until another ticket than `served` is, or not so long.
+    // Waits until the ticket is served, or not so long, where `served` was before.
     fn wait<R: Wait>(&self, rt: &R, served: u64, ticket: u64) {
         if ticket.wrapping_sub(served) <= NEAR && self.sees_another(served) {
             return;
         }
-        self.sleepers.fetch_add(1, SeqCst);
-        let low = (served & 0xffff_ffff) as u32;
-        self.table.shared.park(rt, SERVING, low);
-        self.sleepers.fetch_sub(1, SeqCst);
+        let bed = self.beds.of(ticket);
+        let rings = bed.rings();
+        if self.table.shared.peek(SERVING) != ticket {
+            bed.wait(rt, rings);
+        }
     }
 
     // Looks for a while whether another ticket than `served` is.
@@ -77,11 +77,9 @@ impl<V: Kept + Drop> TurnLock<V> {
         false
     }
 
-    // Wakes those that sleep, once the next ticket is served. A pass that counts itself a sleeper later
-    // than this looks finds that ticket served, and doesn't fall asleep.
+    // Wakes the pass whose ticket is served now. A pass reads the number of its bed's rings before it looks whether its
+    // ticket is served, so it doesn't fall asleep where it is rung behind that.
     pub(crate) fn wake(&self) {
-        if self.sleepers.load(SeqCst) > 0 {
-            self.table.shared.wake_all(SERVING);
-        }
+        self.beds.of(self.table.shared.peek(SERVING)).ring();
     }
 }
