@@ -22,7 +22,7 @@ use Rattle.gate_model.specs.declared.entry.Entry.TheVariants.{Feed, Join, Read, 
 use Rattle.gate_model.specs.terminal.Screens.{shown}
 use Rattle.gate_model.specs.picture.Shape.{Shape}
 use Rattle.gate_model.specs.text.Text.{texts}
-use Rattle.gate_model.specs.session.History.{History, at, bytes, columns, rows, frames, newest, next_stamp, joined, share_mode, is_closed}
+use Rattle.gate_model.specs.session.History.{History, at, bytes, size_now, frames, newest, next_stamp, joined, share_mode, is_closed}
 use Rattle.gate_model.specs.session.Delivered.{closing, position, handed}
 use Rattle.gate_model.specs.session.Output.{untaken}
 use Rattle.gate_model.specs.session.Refusals.{only_if, close_cause, feed_refusal, join_refusal, read_stop, write_refusal}
@@ -60,7 +60,7 @@ pub added_feed : (d : DeskState) (h : History) (bs : List ℕ) (now t : ℕ) (r 
     → Answered h (feed bs now) (fed (Ok t)) record d { host = r.host; outgoing = outgoing; frames = frames; drawing = drawing; past = l.past; entries = l.entries } [] []
 added_feed d h bs now t r frame l outgoing frames drawing s piece octets allowed is_next follows draws logs waits shows =
     let next : t ≡ next_stamp (newest h) now = is_next ∙ ap (λ (n : ℕ). next_stamp n now) s.frames.stamp in
-    let shape : Shape (columns h) (rows h) frame t = subst (λ (k : ℕ). Shape (columns h) k frame t) (rows_of h r.host (at h).shift (bytes h ++ bs) follows.host) (subst (λ (k : ℕ). Shape k (shown r.host.screen).rows frame t) (cols_of h r.host (at h).shift (bytes h ++ bs) follows.host) draws.shape) in
+    let shape : Shape (size_now h).columns (size_now h).rows frame t = subst (λ (k : ℕ). Shape (size_now h).columns k frame t) (rows_of h r.host (at h).shift bs s.legal follows.host) (subst (λ (k : ℕ). Shape k (shown r.host.screen).rows frame t) (cols_of h r.host (at h).shift bs s.legal follows.host) draws.over.shape) in
     let step : Step h (feed bs now) (fed (Ok t)) (Feed bs t frame ∷ []) = feed_step h bs now t frame piece octets allowed next shape in
     record {
       added = Feed bs t frame ∷ [];

@@ -4,10 +4,10 @@ use Rattle.std.specs.Prelude.{Option, Some, None, Result, Ok, Err, ◌==◌, nat
 use Rattle.std.specs.Option.{option_map}
 use Rattle.gate_model.specs.declared.act.Act.{Act}
 use Rattle.gate_model.specs.declared.answer.Answer.{Answer}
-use Rattle.gate_model.specs.declared.answer.Answer.TheVariants.{Feed as fed, Join as joined_as, Read as was_read, Write as was_written}
+use Rattle.gate_model.specs.declared.answer.Answer.TheVariants.{Feed as fed, Join as joined_as, Read as was_read, Write as was_written, Resize as was_resized}
 use Rattle.gate_model.specs.declared.cause.Cause.{Cause}
 use Rattle.gate_model.specs.declared.event.Event.{Event}
-use Rattle.gate_model.specs.declared.event.Event.TheVariants.{Feed as feed, Join as join, Read as read, Write as write}
+use Rattle.gate_model.specs.declared.event.Event.TheVariants.{Feed as feed, Join as join, Read as read, Write as write, Resize as resize}
 use Rattle.gate_model.specs.declared.feed_refusal.FeedRefusal.{FeedRefusal}
 use Rattle.gate_model.specs.declared.feed_refusal.FeedRefusal.TheVariants.{Closed as feed_closed, Worn as feed_worn, NoMemory as feed_no_memory}
 use Rattle.gate_model.specs.declared.join_refusal.JoinRefusal.{JoinRefusal}
@@ -18,17 +18,20 @@ use Rattle.gate_model.specs.declared.read_refusal.ReadRefusal.{ReadRefusal}
 use Rattle.gate_model.specs.declared.read_refusal.ReadRefusal.TheVariants.{NoViewer as read_no_viewer, Worn as read_worn}
 use Rattle.gate_model.specs.declared.write_refusal.WriteRefusal.{WriteRefusal}
 use Rattle.gate_model.specs.declared.write_refusal.WriteRefusal.TheVariants.{NoViewer as write_no_viewer, Closed as write_closed, Worn as write_worn, NoMemory as write_no_memory}
+use Rattle.gate_model.specs.declared.resize_refusal.ResizeRefusal.{ResizeRefusal}
+use Rattle.gate_model.specs.declared.resize_refusal.ResizeRefusal.TheVariants.{NoViewer as resize_no_viewer, Closed as resize_closed, Denied, Same, Worn as resize_worn, NoMemory as resize_no_memory}
 use Rattle.gate_model.specs.declared.sharing.Asked.{Asked}
 use Rattle.gate_model.specs.session.History.{History, newest, joined, share_mode, is_closed, is_full}
 use Rattle.gate_model.specs.session.Delivered.{position, ended}
-use Rattle.gate_model.specs.session.Rights.{is_live, live_count}
+use Rattle.gate_model.specs.session.Rights.{is_live, live_count, role_in, is_control}
 use Rattle.gate_model.specs.session.Waiting.{waiting}
 use Rattle.gate_model.specs.Limits.{most_waiting}
-use Rattle.gate_model.specs.session.Refusals.{first_of, only_if, close_cause, is_forbidden, is_crowded, feed_refusal, join_refusal, read_stop, write_refusal}
+use Rattle.gate_model.specs.session.Refusals.{first_of, only_if, close_cause, is_forbidden, is_crowded, feed_refusal, join_refusal, read_stop, write_refusal, has_size, resize_refusal}
 use Rattle.gate_model.specs.session.Calls.{IsPiece, IsWrite, Step}
-use Rattle.gate_model.proofs.Stepping.{feed_stop, join_stop, read_stopped, write_stop}
+use Rattle.gate_model.specs.terminal.Sizes.{IsScreenSize}
+use Rattle.gate_model.proofs.Stepping.{feed_stop, join_stop, read_stopped, write_stop, resize_stop}
 use Rattle.desk_core.specs.Desk.{DeskState, Stands}
-use Rattle.desk_core.specs.Calls.{Answered, Ended, OnGiven, OnNothing, feed_answer, join_answer, read_answer, write_answer}
+use Rattle.desk_core.specs.Calls.{Answered, Ended, OnGiven, OnNothing, feed_answer, join_answer, read_answer, write_answer, resize_answer}
 
 pub stays : (d : DeskState) (h : History) (event : Event) (answer : Answer) (w : List ℕ) → Stands d h → Step h event answer [] → Answered h event answer d w w
 stays d h event answer w s step = record { added = []; step = step; stands = s; appended = sym (append-nil w) }
@@ -68,6 +71,22 @@ write_stops d h v acts write_no_memory w s is e = absurd (never (is_live h v) (c
     never true (Some c) b q = let z : Some (write_closed c) ≡ Some write_no_memory = q in cc
     never true None true q = let z : Some (write_worn (length h)) ≡ Some write_no_memory = q in cc
     never true None false q = let z : None ≡ Some write_no_memory = q in cc
+
+pub resize_stops : (d : DeskState) (h : History) (v c r : ℕ) (refusal : ResizeRefusal) (w : List ℕ) → Stands d h → IsScreenSize c r → resize_refusal h v c r ≡ Some refusal → Ended h (resize v c r) (resize_answer (Err refusal)) d d w w
+resize_stops d h v c r resize_no_viewer w s is e = stays d h (resize v c r) (was_resized (Err resize_no_viewer)) w s (resize_stop h v c r resize_no_viewer is e)
+resize_stops d h v c r (resize_closed k) w s is e = stays d h (resize v c r) (was_resized (Err (resize_closed k))) w s (resize_stop h v c r (resize_closed k) is e)
+resize_stops d h v c r Denied w s is e = stays d h (resize v c r) (was_resized (Err Denied)) w s (resize_stop h v c r Denied is e)
+resize_stops d h v c r Same w s is e = stays d h (resize v c r) (was_resized (Err Same)) w s (resize_stop h v c r Same is e)
+resize_stops d h v c r (resize_worn n) w s is e = stays d h (resize v c r) (was_resized (Err (resize_worn n))) w s (resize_stop h v c r (resize_worn n) is e)
+resize_stops d h v c r resize_no_memory w s is e = absurd (never (is_live h v) (close_cause h) (is_control (role_in h v)) (has_size h c r) (is_full h) e)
+  where
+    never : (a : Bool) (o : Option Cause) (b d f : Bool) → first_of (only_if (not a) resize_no_viewer ∷ option_map resize_closed o ∷ only_if (not b) Denied ∷ only_if d Same ∷ only_if f (resize_worn (length h)) ∷ []) ≡ Some resize_no_memory → ⊥
+    never false o b d f q = let z : Some resize_no_viewer ≡ Some resize_no_memory = q in cc
+    never true (Some k) b d f q = let z : Some (resize_closed k) ≡ Some resize_no_memory = q in cc
+    never true None false d f q = let z : Some Denied ≡ Some resize_no_memory = q in cc
+    never true None true true f q = let z : Some Same ≡ Some resize_no_memory = q in cc
+    never true None true false true q = let z : Some (resize_worn (length h)) ≡ Some resize_no_memory = q in cc
+    never true None true false false q = let z : None ≡ Some resize_no_memory = q in cc
 
 -- what may stop a read
 stop_kinds : (h : History) (v : ℕ) (r : Result ReadAnswer ReadRefusal) (P : Result ReadAnswer ReadRefusal → Type 0) → read_stop h v ≡ Some r

@@ -1,5 +1,5 @@
 -- Which stamps an entry gives, and which wait for a viewer that was given none.
-use Rattle.std.proofs.Common.{◌≡◌, ℤ, ℕ, ◌+◌, List, [], ◌∷◌, ◌++◌, map, Bool, true, false, ◌||◌, refl, ap, sym, ◌∙◌, subst, append-nil}
+use Rattle.std.proofs.Common.{◌≡◌, ℤ, ℕ, List, [], ◌∷◌, ◌++◌, map, Bool, true, false, ◌||◌, refl, ap, sym, ◌∙◌, subst, append-nil}
 use Rattle.std.specs.Prelude.{nat_le, nat_lt, filter, ◌==◌, if◌then◌else◌}
 use Rattle.gate_model.specs.declared.act.Act.{Act}
 use Rattle.gate_model.specs.declared.act.Act.TheVariants.{Key as key_act, Mouse as mouse_act, Sync as sync_act, Size as size_act, Nop as nop_act, Disconnect as disconnect_act}
@@ -8,12 +8,12 @@ use Rattle.gate_model.specs.declared.how.How.TheVariants.{Suffix, Fresh}
 use Rattle.gate_model.specs.declared.instr.Instr.{Instr}
 use Rattle.gate_model.specs.declared.instr.Instr.TheVariants.{Size, Rect, Cfill, Copy, Sync, Disconnect, Error}
 use Rattle.gate_model.specs.declared.entry.Entry.{Entry}
-use Rattle.gate_model.specs.declared.entry.Entry.TheVariants.{Start, Feed, Join, Read, Write, Take, Leave, Close}
+use Rattle.gate_model.specs.declared.entry.Entry.TheVariants.{Start, Feed, Size as Refit, Join, Read, Write, Take, Leave, Close}
 use Rattle.gate_model.specs.picture.Shape.{Draws, Shape, without_layer}
 use Rattle.gate_model.specs.session.Calls.{Updates}
 use Rattle.gate_model.specs.session.Delivered.{handed, last_sync_from, position, shown_by, shown_to}
 use Rattle.gate_model.specs.session.Entries.{framed}
-use Rattle.gate_model.specs.session.History.{History, columns, rows, frames, frames_after, instructions, is_closed, newest, next_stamp}
+use Rattle.gate_model.specs.session.History.{History, size_now, frames, frames_after, instructions, is_closed, newest, next_stamp}
 use Rattle.gate_model.specs.session.Rights.{role_in}
 use Rattle.gate_model.specs.session.Steps.{Legal}
 use Rattle.gate_model.specs.session.Waiting.{awaited, is_keep, left_by_all, stamps_in}
@@ -75,7 +75,8 @@ stamped_after t (f ∷ fs) a = cases (nat_lt t f.0) refl (stamped_after t fs a.1
     cases false e more = rw e more
 
 stamped_next : (g : History) (e : Entry) → IsNext g e → AreStamped (framed e)
-stamped_next g (Feed bytes stamp frame) n = (stamped (columns g) (rows g) frame stamp n.shape, tt)
+stamped_next g (Feed bytes stamp frame) n = (stamped (size_now g).columns (size_now g).rows frame stamp n.shape, tt)
+stamped_next g (Refit v c r stamp frame) n = (stamped c r frame stamp n.shape, tt)
 stamped_next g (Join viewer role first) n = tt
 stamped_next g (Read viewer how) n = tt
 stamped_next g (Write viewer acts) n = tt
@@ -108,7 +109,7 @@ stamps_by h t (Fresh is) = newest h ∷ []
 
 pub stamps_handed : (h : History) (t : ℕ) (how : How) → Legal h → Updates h t how → stamps_in (handed h t how) ≡ stamps_by h t how
 stamps_handed h t Suffix l u = stamps_in-frames (frames_after t (frames h)) (stamped_after t (frames h) (stamped_frames h l))
-stamps_handed h t (Fresh is) l u = shape_stamps (columns h) (rows h) is (newest h) u.1
+stamps_handed h t (Fresh is) l u = shape_stamps (size_now h).columns (size_now h).rows is (newest h) u.1
 
 -- ---- an entry that gives the viewer nothing
 
@@ -147,6 +148,7 @@ next_nothing g v (Write viewer acts) none gives = by_viewer (viewer == v)
     by_viewer false = none
 next_nothing g v (Start cols lines mode term entries stamp frame) none gives = more_nothing (is_closed g || is_keep (role_in g v)) (awaited g v) [] none refl
 next_nothing g v (Feed bytes stamp frame) none gives = more_nothing (is_closed g || is_keep (role_in g v)) (awaited g v) [] none refl
+next_nothing g v (Refit u c r stamp frame) none gives = more_nothing (is_closed g || is_keep (role_in g v)) (awaited g v) [] none refl
 next_nothing g v (Join viewer role first) none gives = more_nothing (is_closed g || is_keep (role_in (Join viewer role first ∷ g) v)) (awaited g v) (shown_by g (position g v) v (Join viewer role first)) none gives
 next_nothing g v (Read viewer how) none gives = more_nothing (is_closed g || is_keep (role_in g v)) (awaited g v) (shown_by g (position g v) v (Read viewer how)) none gives
 next_nothing g v (Take count) none gives = more_nothing (is_closed g || is_keep (role_in g v)) (awaited g v) [] none refl

@@ -16,7 +16,7 @@ use Rattle.gate_model.specs.session.History.{History, at, all_frames}
 use Rattle.gate_model.proofs.Histories.{IsPlain, at-plain}
 use Rattle.gate_model.proofs.Layering.{changes-few_lines}
 use Rattle.gate_model.proofs.Layered.{layers-plain, keys_shown-plain, layers-feed, held-feed, frugal-feed}
-use Rattle.desk_core.specs.Drawing.{DrawingState, Draws, HasDrawn}
+use Rattle.desk_core.specs.Drawing.{DrawingState, Draws, DrawsOver, HasDrawn}
 
 -- an entry without bytes and without a frame
 pub drawn_still : (d : DrawingState) (h : History) (e : Entry) → IsPlain e → HasDrawn d h → HasDrawn d (e ∷ h)
@@ -34,27 +34,40 @@ module _ (d new : DrawingState) (h : History) (bs : List ℕ) (t : ℕ) (frame :
   after = shown (at (Feed bs t frame ∷ h))
 
   renews : Renews (shown (at h)) d.keys frame after new.keys
-  renews = subst (λ (s : KeyGrid). Renews (shown (at h)) d.keys frame s new.keys) now (subst (λ (s : KeyGrid). Renews s d.keys frame (shown screen) new.keys) has.screen draws.renews)
+  renews = subst (λ (s : KeyGrid). Renews (shown (at h)) d.keys frame s new.keys) now (subst (λ (s : KeyGrid). Renews s d.keys frame (shown screen) new.keys) has.screen draws.over.renews)
 
   gains : length (d.keys ++ new_keys d.keys after.keys) ≤ most_buffers → new.keys ≡ d.keys ++ new_keys d.keys after.keys
-  gains = subst (λ (s : KeyGrid). length (d.keys ++ new_keys d.keys s.keys) ≤ most_buffers → new.keys ≡ d.keys ++ new_keys d.keys s.keys) now draws.gains
+  gains = subst (λ (s : KeyGrid). length (d.keys ++ new_keys d.keys s.keys) ≤ most_buffers → new.keys ≡ d.keys ++ new_keys d.keys s.keys) now draws.over.gains
+
+  pub drawn_on : HasDrawn new (Feed bs t frame ∷ h)
+  drawn_on = record {
+    screen = draws.over.screen ∙ now;
+    layers = layers-feed h bs t frame d.keys new.keys has.layers renews;
+    held = held-feed h bs t frame d.keys new.keys has.held gains;
+  }
 
   costs : length (d.keys ++ new_keys d.keys after.keys) ≤ most_buffers → length frame ≤ cost (length (changes (shown (at h)) after screen.shift)) (length (new_keys d.keys after.keys))
   costs =
       subst (λ (s : KeyGrid). length (d.keys ++ new_keys d.keys s.keys) ≤ most_buffers → length frame ≤ cost (length (changes (shown (at h)) s screen.shift)) (length (new_keys d.keys s.keys))) now
       (subst (λ (s : KeyGrid). length (d.keys ++ new_keys d.keys (shown screen).keys) ≤ most_buffers → length frame ≤ cost (length (changes s (shown screen) screen.shift)) (length (new_keys d.keys (shown screen).keys))) has.screen draws.costs)
 
-  pub drawn_on : HasDrawn new (Feed bs t frame ∷ h)
-  drawn_on = record {
-    screen = draws.screen ∙ now;
-    layers = layers-feed h bs t frame d.keys new.keys has.layers renews;
-    held = held-feed h bs t frame d.keys new.keys has.held gains;
-  }
-
   pub frugal_on : AllFrugal h → screen.shift ≡ rise (Feed bs t frame) h → AllFrugal (Feed bs t frame ∷ h)
   frugal_on frugal rises = frugal-feed h bs t frame d.keys screen.shift frugal has.held rises costs
 
--- a frame over the old screen, which counts the lines no further than 2^32 - 1
+-- a frame over the old screen
+pub drawn_shown : (old new : DrawingState) (t : Terminal) (stamp : ℕ) (frame : List Instr) (s : KeyGrid) (keys : Buffers) → s ≡ shown t → new.screen ≡ s → new.keys ≡ keys
+    → Shape s.cols s.rows frame stamp → Renews old.screen old.keys frame s keys → length old.keys ≤ length keys
+    → (length (old.keys ++ new_keys old.keys s.keys) ≤ most_buffers → keys ≡ old.keys ++ new_keys old.keys s.keys)
+    → DrawsOver old t stamp frame new
+drawn_shown old new t stamp frame s keys is screen held shape renews stays gains = record {
+  screen = screen ∙ is;
+  shape = subst (λ (g : KeyGrid). Shape g.cols g.rows frame stamp) is shape;
+  renews = subst (λ (g : KeyGrid). Renews old.screen old.keys frame g new.keys) is (subst (λ (ks : Buffers). Renews old.screen old.keys frame s ks) (sym held) renews);
+  stays = omega (arith, stays, ap length held);
+  gains = subst (λ (g : KeyGrid). length (old.keys ++ new_keys old.keys g.keys) ≤ most_buffers → new.keys ≡ old.keys ++ new_keys old.keys g.keys) is (λ small. held ∙ gains small);
+}
+
+-- .. of a screen of the same size, which counts the lines no further than 2^32 - 1
 pub drawn_over : (old new : DrawingState) (t : Terminal) (stamp shift : ℕ) (frame : List Instr) (s : KeyGrid) (keys : Buffers) → s ≡ shown t → shift ≡ min t.shift (2 ^ 32 - 1) → old.screen.rows ≤ 2 ^ 32 - 1 → new.screen ≡ s → new.keys ≡ keys
     → Shape s.cols s.rows frame stamp → Renews old.screen old.keys frame s keys → length old.keys ≤ length keys
     → (length (old.keys ++ new_keys old.keys s.keys) ≤ most_buffers → keys ≡ old.keys ++ new_keys old.keys s.keys)
@@ -65,11 +78,7 @@ drawn_over old new t stamp shift frame s keys is capped few screen held shape re
     let told : length (old.keys ++ new_keys old.keys s.keys) ≤ most_buffers → length frame ≤ cost (length (changes old.screen s t.shift)) (length (new_keys old.keys s.keys)) =
     subst (λ (places : List ℕ). length (old.keys ++ new_keys old.keys s.keys) ≤ most_buffers → length frame ≤ cost (length places) (length (new_keys old.keys s.keys))) same costs in
     record {
-      screen = screen ∙ is;
-      shape = subst (λ (g : KeyGrid). Shape g.cols g.rows frame stamp) is shape;
-      renews = subst (λ (g : KeyGrid). Renews old.screen old.keys frame g new.keys) is (subst (λ (ks : Buffers). Renews old.screen old.keys frame s ks) (sym held) renews);
-      stays = omega (arith, stays, ap length held);
-      gains = subst (λ (g : KeyGrid). length (old.keys ++ new_keys old.keys g.keys) ≤ most_buffers → new.keys ≡ old.keys ++ new_keys old.keys g.keys) is (λ small. held ∙ gains small);
+      over = drawn_shown old new t stamp frame s keys is screen held shape renews stays gains;
       costs = subst (λ (g : KeyGrid). length (old.keys ++ new_keys old.keys g.keys) ≤ most_buffers → length frame ≤ cost (length (changes old.screen g t.shift)) (length (new_keys old.keys g.keys))) is told;
     }
 

@@ -10,6 +10,7 @@ pub mod Reaching
 pub mod FrameTexts
 pub mod Drawn
 pub mod Standing
+pub mod Resized
 pub mod Telling
 pub mod Following
 pub mod Updating

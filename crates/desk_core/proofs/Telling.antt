@@ -14,13 +14,14 @@ use Rattle.gate_model.specs.declared.read_answer.ReadAnswer.TheVariants.{Ended, 
 use Rattle.gate_model.specs.declared.read_answer.ReadAnswer.{ReadAnswer}
 use Rattle.gate_model.specs.declared.read_refusal.ReadRefusal.{ReadRefusal}
 use Rattle.gate_model.specs.declared.read_refusal.ReadRefusal.TheVariants.{NoViewer as read_no_viewer, Worn as read_worn}
+use Rattle.gate_model.specs.declared.resize_refusal.ResizeRefusal.TheVariants.{NoViewer as resize_no_viewer, Closed as resize_closed, Denied, Same, Worn as resize_worn}
 use Rattle.gate_model.specs.declared.write_refusal.WriteRefusal.TheVariants.{NoViewer as write_no_viewer, Closed as write_closed, Worn as write_worn}
 use Rattle.gate_model.specs.Limits.{most_live, most_joined, most_waiting}
 use Rattle.gate_model.specs.session.History.{History, newest, capacity, joined, is_closed, is_full, share_mode}
 use Rattle.gate_model.specs.session.Delivered.{closing, farewell, position, ended}
 use Rattle.gate_model.specs.session.Rights.{is_live, live_count, role_in, is_control, may, mods}
 use Rattle.gate_model.specs.session.Waiting.{waiting}
-use Rattle.gate_model.specs.session.Refusals.{first_of, only_if, close_cause, is_forbidden, feed_refusal, join_refusal, read_stop, write_refusal}
+use Rattle.gate_model.specs.session.Refusals.{first_of, only_if, close_cause, is_forbidden, feed_refusal, join_refusal, read_stop, write_refusal, has_size, resize_refusal}
 use Rattle.gate_model.specs.session.Laws.{EntriesAreFew}
 use Rattle.gate_model.proofs.Facts.{Facts}
 use Rattle.gate_model.proofs.Truth.{facts_of}
@@ -142,6 +143,18 @@ write_goes h v e = cases (is_live h v) (close_cause h) (is_full h) refl refl ref
     cases true (Some c) b x y z q = absurd (let w : Some (write_closed c) ≡ None = q in cc)
     cases true None true x y z q = absurd (let w : Some (write_worn (length h)) ≡ None = q in cc)
     cases true None false x y z q = record { live = x; goes = record { cause = y; room = z } }
+
+pub resize_goes : (h : History) (v c r : ℕ) → resize_refusal h v c r ≡ None → Goes h
+resize_goes h v c r e = cases (is_live h v) (close_cause h) (is_control (role_in h v)) (has_size h c r) (is_full h) refl refl e
+  where
+    cases : (a : Bool) (o : Option Cause) (b d f : Bool) → close_cause h ≡ o → is_full h ≡ f
+        → first_of (only_if (not a) resize_no_viewer ∷ option_map resize_closed o ∷ only_if (not b) Denied ∷ only_if d Same ∷ only_if f (resize_worn (length h)) ∷ []) ≡ None → Goes h
+    cases false o b d f x y q = absurd (let w : Some resize_no_viewer ≡ None = q in cc)
+    cases true (Some c) b d f x y q = absurd (let w : Some (resize_closed c) ≡ None = q in cc)
+    cases true None false d f x y q = absurd (let w : Some Denied ≡ None = q in cc)
+    cases true None true true f x y q = absurd (let w : Some Same ≡ None = q in cc)
+    cases true None true false true x y q = absurd (let w : Some (resize_worn (length h)) ≡ None = q in cc)
+    cases true None true false false x y q = record { cause = x; room = y }
 
 -- ---- a viewer that is there
 

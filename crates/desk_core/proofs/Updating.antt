@@ -12,13 +12,13 @@ use Rattle.gate_model.specs.terminal.Screens.{AreColoured}
 use Rattle.gate_model.specs.text.Text.{texts}
 use Rattle.gate_model.specs.session.Calls.{Updates, lacked}
 use Rattle.gate_model.specs.session.Delivered.{closing, handed, position}
-use Rattle.gate_model.specs.session.History.{History, bytes, columns, rows, frames, frames_after, instructions, newest, is_closed}
+use Rattle.gate_model.specs.session.History.{History, size_now, frames, frames_after, instructions, newest, is_closed}
 use Rattle.gate_model.specs.session.Kept.{Covers}
 use Rattle.gate_model.specs.session.Refusals.{read_stop}
 use Rattle.gate_model.specs.session.Steps.{IsScreenSize}
 use Rattle.gate_model.specs.session.WholeLaws.{MakingRestores}
 use Rattle.gate_model.proofs.Histories.{legal-size}
-use Rattle.gate_model.proofs.ScreenLaws.{coloured-screen}
+use Rattle.gate_model.proofs.Painted.{coloured-at}
 use Rattle.display_history.specs.Keeping.{HasKept, after_stamp, covers}
 use Rattle.display_history.specs.Laws.{CoversHistory, TextsGoAfter, texts_of}
 use Rattle.viewer_book.specs.declared.viewer.Viewer.{Viewer}
@@ -37,20 +37,20 @@ use Rattle.desk_core.proofs.Telling.{closing_is, is_below, not_above, reading}
 
 -- what was drawn can be drawn again
 pub drawn_size : (d : DeskState) (h : History) → Stands d h → IsScreenSize d.drawing.screen.cols d.drawing.screen.rows
-drawn_size d h s = rw (drawn_cols d.drawing h s.drawing, drawn_rows d.drawing h s.drawing) (legal-size h s.legal)
+drawn_size d h s = rw (drawn_cols d.drawing h s.legal s.drawing, drawn_rows d.drawing h s.legal s.drawing) (legal-size h s.legal)
 
 pub drawn_colours : (d : DeskState) (h : History) → Stands d h → AreColoured d.drawing.screen.keys
-drawn_colours d h s = subst (λ (g : KeyGrid). AreColoured g.keys) (sym s.drawing.screen) (coloured-screen (columns h) (rows h) (bytes h))
+drawn_colours d h s = subst (λ (g : KeyGrid). AreColoured g.keys) (sym s.drawing.screen) (coloured-at h)
 
 pub pictures : (d : DeskState) (h : History) (is : List Instr) (stamp : ℕ) → Stands d h → MakingRestores → stamp ≡ d.frames.stamp → Shape d.drawing.screen.cols d.drawing.screen.rows is stamp → Makes is d.drawing.screen d.drawing.keys
     → length is ≤ 3 + 40 * (d.drawing.screen.cols * d.drawing.screen.rows + 1024) → Pictures h is
 pictures d h is stamp s restoring now shape makes few =
-    let cols = drawn_cols d.drawing h s.drawing in
-    let lines = drawn_rows d.drawing h s.drawing in
+    let cols = drawn_cols d.drawing h s.legal s.drawing in
+    let lines = drawn_rows d.drawing h s.legal s.drawing in
     record {
-      shows = subst (λ (t : ℕ). Shape (columns h) (rows h) is t) (now ∙ s.frames.stamp) (subst (λ (k : ℕ). Shape (columns h) k is stamp) lines (subst (λ (k : ℕ). Shape k d.drawing.screen.rows is stamp) cols shape));
+      shows = subst (λ (t : ℕ). Shape (size_now h).columns (size_now h).rows is t) (now ∙ s.frames.stamp) (subst (λ (k : ℕ). Shape (size_now h).columns k is stamp) lines (subst (λ (k : ℕ). Shape k d.drawing.screen.rows is stamp) cols shape));
       restores = restoring h d.drawing.keys is s.drawing.layers (subst (λ (g : KeyGrid). Makes is g d.drawing.keys) s.drawing.screen makes);
-      few = subst (λ (k : ℕ). length is ≤ 3 + 40 * (columns h * k + 1024)) lines (subst (λ (k : ℕ). length is ≤ 3 + 40 * (k * d.drawing.screen.rows + 1024)) cols few);
+      few = subst (λ (k : ℕ). length is ≤ 3 + 40 * ((size_now h).columns * k + 1024)) lines (subst (λ (k : ℕ). length is ≤ 3 + 40 * (k * d.drawing.screen.rows + 1024)) cols few);
     }
 
 -- ---- what a read gives

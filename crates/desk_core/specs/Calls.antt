@@ -1,7 +1,7 @@
 -- How each call of a desk ends that stood for a history (this project's own).
 use Rattle.std.specs.Prelude.{◌≡◌, ℕ, List, [], ◌∷◌, ◌++◌, take, None, Result, Ok, Err}
 use Rattle.gate_model.specs.declared.answer.Answer.{Answer}
-use Rattle.gate_model.specs.declared.answer.Answer.TheVariants.{Feed as fed, Join as joined_as, Read as was_read, Write as was_written}
+use Rattle.gate_model.specs.declared.answer.Answer.TheVariants.{Feed as fed, Join as joined_as, Read as was_read, Write as was_written, Resize as was_resized}
 use Rattle.gate_model.specs.declared.event.Event.{Event}
 use Rattle.gate_model.specs.declared.instr.Instr.{Instr}
 use Rattle.gate_model.specs.declared.entry.Entry.{Entry}
@@ -19,6 +19,8 @@ use Rattle.gate_model.specs.declared.read_refusal.ReadRefusal.{ReadRefusal}
 use Rattle.gate_model.specs.declared.read_refusal.ReadRefusal.TheVariants.{NoMemory as read_no_memory}
 use Rattle.gate_model.specs.declared.write_refusal.WriteRefusal.{WriteRefusal}
 use Rattle.gate_model.specs.declared.write_refusal.WriteRefusal.TheVariants.{NoMemory as write_no_memory}
+use Rattle.gate_model.specs.declared.resize_refusal.ResizeRefusal.{ResizeRefusal}
+use Rattle.gate_model.specs.declared.resize_refusal.ResizeRefusal.TheVariants.{NoMemory as resize_no_memory}
 use Rattle.gate_model.specs.text.Text.{texts}
 use Rattle.gate_model.specs.session.History.{History}
 use Rattle.gate_model.specs.session.Calls.{Step, stop_of}
@@ -49,6 +51,10 @@ read_answer result = Ok (was_read result)
 abbrev pub write_answer : Result Written WriteRefusal → Result Answer NoMemory
 write_answer (Err write_no_memory) = Err record {}
 write_answer result = Ok (was_written result)
+
+abbrev pub resize_answer : Result ℕ ResizeRefusal → Result Answer NoMemory
+resize_answer (Err resize_no_memory) = Err record {}
+resize_answer result = Ok (was_resized result)
 
 -- ---- how a call ends
 

@@ -3,7 +3,7 @@ use Rattle.std.specs.Prelude.{◌≡◌, ℕ, ◌≤◌, List, length, Option}
 use Rattle.gate_model.specs.declared.cause.Cause.{Cause}
 use Rattle.gate_model.specs.declared.entry.Entry.{Entry}
 use Rattle.gate_model.specs.declared.setup.Setup.{Setup}
-use Rattle.gate_model.specs.session.History.{History, bytes, columns, rows, share_mode, terminal_type, capacity}
+use Rattle.gate_model.specs.session.History.{History, at, bytes, columns, rows, share_mode, terminal_type, capacity}
 use Rattle.gate_model.specs.session.Cost.{AllFrugal}
 use Rattle.gate_model.specs.session.Output.{out, taken, untaken}
 use Rattle.gate_model.specs.session.Refusals.{close_cause}
@@ -49,7 +49,7 @@ pub record IsWaiting (outgoing : List ℕ) (h : History) : Type 0 where
 -- before those that it counts
 pub record IsHost (host : Host) (h : History) : Type 0 where
   pub scrolled : ℕ
-  pub heard : HasHeard host (columns h) (rows h) scrolled (bytes h)
+  pub heard : HasHeard host (at h) scrolled (bytes h)
 
 -- the desk stands for the history
 pub record Stands (d : DeskState) (h : History) : Type 0 where

@@ -6,7 +6,7 @@ use Rattle.gate_model.specs.picture.KeyGrid.{KeyGrid}
 use Rattle.gate_model.specs.picture.Buffers.{AreLayers, Buffers, Renews, new_keys}
 use Rattle.gate_model.specs.session.Cost.{changes, cost, keys_shown}
 use Rattle.gate_model.specs.terminal.Screens.{shown}
-use Rattle.gate_model.specs.picture.Shape.{Shape}
+use Rattle.gate_model.specs.picture.Shape.{OpensScreen, Shape}
 use Rattle.gate_model.specs.terminal.Terminal.{Terminal}
 use Rattle.gate_model.specs.session.History.{History, at}
 use Rattle.gate_model.specs.session.Truth.{all_layers}
@@ -25,15 +25,23 @@ keys_of None keys = keys
 keys_of (Some cache) keys = cache.keys
 
 -- a frame of this stamp makes of what was drawn what shows the screen: the layers are those of the new screen
--- and buffers, of which there are no fewer, and while few keys were shown, the buffers gain just those that are new,
--- and the frame costs no more than what changed
-pub record Draws (old : DrawingState) (t : Terminal) (stamp : ℕ) (frame : List Instr) (new : DrawingState) : Type 0 where
+-- and buffers, of which there are no fewer, and while few keys were shown, the buffers gain just those that are new
+pub record DrawsOver (old : DrawingState) (t : Terminal) (stamp : ℕ) (frame : List Instr) (new : DrawingState) : Type 0 where
   pub screen : new.screen ≡ shown t
   pub shape : Shape (shown t).cols (shown t).rows frame stamp
   pub renews : Renews old.screen old.keys frame (shown t) new.keys
   pub stays : length old.keys ≤ length new.keys
   pub gains : length (old.keys ++ new_keys old.keys (shown t).keys) ≤ most_buffers → new.keys ≡ old.keys ++ new_keys old.keys (shown t).keys
+
+-- .. and where the screen has its size still, the frame costs no more than what changed
+pub record Draws (old : DrawingState) (t : Terminal) (stamp : ℕ) (frame : List Instr) (new : DrawingState) : Type 0 where
+  pub over : DrawsOver old t stamp frame new
   pub costs : length (old.keys ++ new_keys old.keys (shown t).keys) ≤ most_buffers → length frame ≤ cost (length (changes old.screen (shown t) t.shift)) (length (new_keys old.keys (shown t).keys))
+
+-- .. and where it has another, the frame begins with the size of the visible layer
+pub record Redraws (old : DrawingState) (t : Terminal) (stamp : ℕ) (frame : List Instr) (new : DrawingState) : Type 0 where
+  pub over : DrawsOver old t stamp frame new
+  pub opens : OpensScreen frame
 
 -- ---- what it says of the history
 

@@ -1,5 +1,5 @@
 -- What the parts of a call tell of the history (this project's own).
-use Rattle.std.specs.Prelude.{◌≡◌, ◌≤◌, ℕ, ◌++◌, List, ◌∷◌, length, None, Some, Result, Ok, Err}
+use Rattle.std.specs.Prelude.{◌≡◌, ◌≤◌, ℕ, ◌++◌, List, ◌∷◌, length, drop, None, Some, Result, Ok, Err}
 use Rattle.gate_model.specs.declared.act.Act.{Act}
 use Rattle.gate_model.specs.declared.entry.Entry.TheVariants.{Read, Write}
 use Rattle.gate_model.specs.declared.instr.Instr.{Instr}
@@ -9,14 +9,15 @@ use Rattle.gate_model.specs.declared.sharing.Role.{Role}
 use Rattle.gate_model.specs.session.Calls.{ShowsNewest, Updates, updated_as}
 use Rattle.gate_model.specs.session.Cost.{IsFrugal, picture_cost}
 use Rattle.gate_model.specs.session.Delivered.{position}
-use Rattle.gate_model.specs.session.History.{History, at, bytes, columns, rows, share_mode, size_now, terminal_type}
-use Rattle.gate_model.specs.session.Output.{sent}
+use Rattle.gate_model.specs.session.History.{History, at, bytes, share_mode, size_now}
+use Rattle.gate_model.specs.session.Output.{answered, sent}
 use Rattle.gate_model.specs.session.Refusals.{join_refusal}
 use Rattle.gate_model.specs.session.Rights.{mods}
 use Rattle.gate_model.specs.session.Roles.{grant_of}
 use Rattle.gate_model.specs.session.Whole.{IsRestoring, Restores}
 use Rattle.desk_core.specs.Drawing.{DrawingState, keys_of}
-use Rattle.desk_core.specs.Host.{HasHeard, replies_past}
+use Rattle.gate_model.specs.terminal.Screens.{after_controls, completed}
+use Rattle.desk_core.specs.Host.{HasHeard}
 use Rattle.desk_core.specs.declared.drawing.Drawn.{Drawn}
 use Rattle.desk_core.specs.declared.host.Heard.{Heard}
 use Rattle.desk_core.specs.declared.desk.update.Update.{Update}
@@ -30,8 +31,8 @@ Admits h asked (Err refusal) = join_refusal h asked ≡ Some refusal
 -- the host has heard these bytes too, its screen counts the lines that they scrolled, and this is what they are
 -- answered
 pub record Follows (h : History) (piece : List ℕ) (r : Heard) : Type 0 where
-  pub host : HasHeard r.host (columns h) (rows h) (at h).shift (bytes h ++ piece)
-  pub replies : r.replies.items ≡ replies_past (columns h) (rows h) (terminal_type h) (bytes h) piece
+  pub host : HasHeard r.host (after_controls (at h) (completed (bytes h) piece)) (at h).shift (bytes h ++ piece)
+  pub replies : r.replies.items ≡ drop (length (answered h (bytes h))) (answered h (bytes h ++ piece))
 
 -- what is drawn after a frame
 abbrev pub drawn_by : Drawn → DrawingState → DrawingState

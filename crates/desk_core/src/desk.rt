@@ -12,6 +12,7 @@ mod feed;
 mod join;
 mod leave;
 mod read;
+mod resize;
 mod run;
 mod start;
 mod take;

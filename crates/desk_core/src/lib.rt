@@ -26,5 +26,5 @@ mod typing;
 pub use desk::Desk;
 pub use gate_model::{
     Answer, Closed, Event, FeedRefusal, Forbidden, JoinRefusal, Joined, NoMemory, NoViewer,
-    ReadAnswer, ReadRefusal, Setup, Taken, WriteRefusal, Written,
+    ReadAnswer, ReadRefusal, ResizeRefusal, Setup, Taken, WriteRefusal, Written,
 };

@@ -1,5 +1,5 @@
 ghost use Rattle.std.specs.Prelude.{◌≡◌, ◌∷◌, ◌<◌, ◌-◌, ◌^◌, [], List, nat_le};
-ghost use Rattle.gate_model.specs.declared.entry.Entry.TheVariants.{Feed, Start, Write};
+ghost use Rattle.gate_model.specs.declared.entry.Entry.TheVariants.{Feed, Size, Start, Write};
 ghost use Rattle.gate_model.specs.session.Calls.{AreBytes};
 ghost use Rattle.desk_core.specs.Log.{with_entry};
 
@@ -64,6 +64,15 @@ impl Log {
         ensures octets { AreBytes bytes.now }
     {
         self.past = named::<Brand, _>(&(&self.past, bytes, stamp, frame));
+        self.entries += 1;
+    }
+
+    /// A Size more.
+    pub fn size(&mut self, viewer: u32, cols: u16, rows: u16, stamp: u64, frame: &Instrs)
+        requires { self.old.entries < 2 ^ 64 - 1 }
+        ensures { self.new ≡ with_entry self.old (Size viewer cols rows stamp frame.now) }
+    {
+        self.past = named::<Brand, _>(&(&self.past, viewer, cols, rows, stamp, frame));
         self.entries += 1;
     }
 

@@ -1,12 +1,12 @@
 -- The lists of a frame are of its shape, in range and short.
-use Rattle.std.proofs.Common.{◌≡◌, ℕ, ◌-◌, ◌*◌, ◌^◌, ◌<◌, ◌≤◌, ℤ, pos, negsuc, [], ◌∷◌, length, refl, arith, rules}
+use Rattle.std.proofs.Common.{◌≡◌, ℕ, ◌-◌, ◌*◌, ◌/◌, ◌%◌, ◌^◌, ◌<◌, ◌≤◌, ℤ, pos, negsuc, [], ◌∷◌, length, refl, arith, rules}
 use Rattle.std.proofs.lemmas.Int.{ints}
 use Rattle.gate_model.specs.declared.key.Key.{Key}
 use Rattle.gate_model.specs.picture.Shape.{AreReadable, Draws, IsInRange, IsLayer}
 use Rattle.glyph_cache.specs.declared.slot.SlotKind.{SlotKind}
 use Rattle.glyph_cache.specs.declared.slot.SlotKind.TheVariants.{Held, Made, Reused}
-use Rattle.frame_draw.specs.Strokes.{cell_copy, painting, scroll}
-use Rattle.glyph_strokes.proofs.Allowed.{covering_draws, covering_length, covering_readable}
+use Rattle.frame_draw.specs.Strokes.{cell_copy, filling, painting, run_copy, scroll}
+use Rattle.glyph_strokes.proofs.Allowed.{area_draws, covering_draws, covering_length, covering_readable, fill_readable}
 
 -- ---- what is traced is filled
 module _ (cols rows : ℕ) where
@@ -23,6 +23,14 @@ module _ (cols rows : ℕ) where
   pub scroll_draws : (shift : ℕ) → Draws cols rows [] (scroll cols rows shift ∷ [])
   unfolding scroll
   scroll_draws shift = refl
+
+  pub run_draws : (from to count : ℕ) → Draws cols rows [] (run_copy cols from to count ∷ [])
+  unfolding run_copy
+  run_draws from to count = refl
+
+  pub filling_draws : (place width height paper : ℕ) → Draws cols rows [] (filling cols place width height paper)
+  unfolding filling
+  filling_draws place width height paper = area_draws cols rows (pos 0) (8 * (place % cols)) (16 * (place / cols)) (8 * width) (16 * height) paper
 
 -- ---- layers and places
 pub is_visible : IsLayer (pos 0)
@@ -50,7 +58,26 @@ unfolding scroll
 scroll_readable cols rows shift across down some =
     (is_visible, below 0 (omega arith), below (16 * shift) (omega arith), below (8 * cols) (omega arith), below (16 * (rows - shift)) (omega arith), is_visible, below 0 (omega arith), below 0 (omega arith))
 
+pub run_readable : (cols from to count : ℕ) → from % cols ≤ 512 → from / cols ≤ 256 → to % cols ≤ 512 → to / cols ≤ 256 → count ≤ 512 → IsInRange (run_copy cols from to count)
+unfolding run_copy
+run_readable cols from to count a b c d e =
+    (is_visible, below (8 * (from % cols)) (omega (arith, a)), below (16 * (from / cols)) (omega (arith, b)), below (8 * count) (omega (arith, e)), below 16 (omega arith), is_visible, below (8 * (to % cols)) (omega (arith, c)), below (16 * (to / cols)) (omega (arith, d)))
+
+pub filling_readable : (cols place width height paper : ℕ) → place % cols ≤ 512 → place / cols ≤ 256 → width ≤ 512 → height ≤ 131072 → AreReadable (filling cols place width height paper)
+unfolding filling
+filling_readable cols place width height paper across down wide high = (
+  (is_visible, small (8 * (place % cols)) (omega (arith, across)), small (16 * (place / cols)) (omega (arith, down)), small (8 * width) (omega (arith, wide)), small (16 * height) (omega (arith, high))),
+  (fill_readable (pos 0) paper is_visible, tt),
+)
+  where
+    small : (n : ℕ) → n ≤ 2097152 → n < 2 ^ 32
+    small n le = omega arith
+
 -- ---- lengths
+pub filling_length : (cols place width height paper : ℕ) → length (filling cols place width height paper) ≡ 2
+unfolding filling
+filling_length cols place width height paper = refl
+
 pub painting_length : (kind : SlotKind) (k : ℤ) (key : Key) → length (painting kind k key) ≤ 25
 unfolding painting
 painting_length Held k key = omega arith

@@ -16,7 +16,7 @@ use Rattle.frame_draw.specs.Strokes.{cell_copy, scroll}
 use Rattle.frame_draw.specs.Cells.{Places, AreDrawn}
 
 -- ---- a change of the visible layer's pixels alone
-other_layer : (j : ℕ) → int_eq (pos (suc j)) (pos 0) ≡ false
+pub other_layer : (j : ℕ) → int_eq (pos (suc j)) (pos 0) ≡ false
 other_layer j = cases (int_eq (pos (suc j)) (pos 0)) refl
   where
     cases : (b : Bool) → int_eq (pos (suc j)) (pos 0) ≡ b → int_eq (pos (suc j)) (pos 0) ≡ false
@@ -26,7 +26,7 @@ other_layer j = cases (int_eq (pos (suc j)) (pos 0)) refl
 pub other_stays : (m : Layers) (l : Layer) (j : ℕ) → m (pos (suc j)) ≡ with_layer m (pos 0) l (pos (suc j))
 other_stays m l j = sym (ap (λ (b : Bool). if b then l else m (pos (suc j))) (other_layer j))
 
-repainted : (m : Layers) (cols rows : ℕ) (at next : Places) (keys : Buffers) (from : ℤ) (x y : ℕ) (target : Area) → AreDrawn m cols rows at keys
+pub repainted : (m : Layers) (cols rows : ℕ) (at next : Places) (keys : Buffers) (from : ℤ) (x y : ℕ) (target : Area) → AreDrawn m cols rows at keys
     → ((px py : ℕ) (key : Key) → px < 8 * cols → py < 16 * rows → next ((py / 16) * cols + px / 8) ≡ Some key
     → (copied (m from) x y (m (pos 0)) target).pixel px py ≡ Some (glyph key (px % 8) (py % 16)))
     → AreDrawn (with_layer m (pos 0) (copied (m from) x y (m (pos 0)) target)) cols rows next keys
@@ -44,7 +44,7 @@ repainted m cols rows at next keys from x y target a new = record {
     closed (pos (suc j)) = subst (λ (l : Layer). open_path l ≡ []) (other_stays m (copied (m from) x y (m (pos 0)) target) j) (a.no_paths (pos (suc j)))
     closed (negsuc j) = a.no_paths (negsuc j)
 
-within : (l : Layer) (w h x y : ℕ) → l.width ≡ w → l.height ≡ h → x < w → y < h → is_in x y l ≡ true
+pub within : (l : Layer) (w h x y : ℕ) → l.width ≡ w → l.height ≡ h → x < w → y < h → is_in x y l ≡ true
 within l w h x y is_w is_h in_x in_y = grind (arith, nat_tests)
 
 -- ---- one cell
@@ -83,17 +83,17 @@ both false b e = absurd (cc)
 some_is : (k key : Key) → Some k ≡ Some key → k ≡ key
 some_is k key e = cc
 
-below_row : (px cols : ℕ) → px < 8 * cols → px / 8 < cols
+pub below_row : (px cols : ℕ) → px < 8 * cols → px / 8 < cols
 below_row px cols lt = omega arith
 
 -- the pixel of a layer over which a source was copied
-covered_pixel : (s l : Layer) (x y : ℕ) (target : Area) (px py : ℕ) (c : Colour) → (is_in px py l && is_covered target px py) ≡ true
+pub covered_pixel : (s l : Layer) (x y : ℕ) (target : Area) (px py : ℕ) (c : Colour) → (is_in px py l && is_covered target px py) ≡ true
     → source_pixel s (x + (px - target.x)) (y + (py - target.y)) ≡ Some c → (copied s x y l target).pixel px py ≡ Some c
 covered_pixel s l x y target px py c e f =
     ap (λ (b : Bool). if b then over (source_pixel s (x + (px - target.x)) (y + (py - target.y))) (l.pixel px py) else l.pixel px py) e
     ∙ ap (λ (o : Option Colour). over o (l.pixel px py)) f
 
-other_pixel : (s l : Layer) (x y : ℕ) (target : Area) (px py : ℕ) → is_covered target px py ≡ false → (copied s x y l target).pixel px py ≡ l.pixel px py
+pub other_pixel : (s l : Layer) (x y : ℕ) (target : Area) (px py : ℕ) → is_covered target px py ≡ false → (copied s x y l target).pixel px py ≡ l.pixel px py
 other_pixel s l x y target px py e = cases (is_in px py l) (is_covered target px py) e
   where
     cases : (b c : Bool) → c ≡ false → (if b && c then over (source_pixel s (x + (px - target.x)) (y + (py - target.y))) (l.pixel px py) else l.pixel px py) ≡ l.pixel px py
@@ -101,7 +101,7 @@ other_pixel s l x y target px py e = cases (is_in px py l) (is_covered target px
     cases false c f = refl
     cases true true f = absurd (cc)
 
-both_true : (a b : Bool) → a ≡ true → b ≡ true → (a && b) ≡ true
+pub both_true : (a b : Bool) → a ≡ true → b ≡ true → (a && b) ≡ true
 both_true true true e f = refl
 both_true true false e f = absurd (cc)
 both_true false b e f = absurd (cc)

@@ -1,15 +1,16 @@
 -- What the whole list of a frame, and of an opening, does.
-use Rattle.std.proofs.Common.{◌≡◌, ℕ, zero, suc, ◌+◌, ◌-◌, ◌*◌, ◌/◌, ◌^◌, ◌<◌, ◌≤◌, pos, negsuc, List, [], ◌∷◌, ◌++◌, length, take, drop, map, Bool, true, false, not, ◌&&◌, nat_lt, if◌then◌else◌, refl, sym, ap, subst, ◌∙◌, arith, inl, inr}
-use Rattle.std.specs.Prelude.{Some, None, IsTrue, filter}
+use Rattle.std.proofs.Common.{◌≡◌, ℕ, zero, suc, ◌+◌, ◌-◌, ◌*◌, ◌/◌, ◌%◌, ◌^◌, ◌<◌, ◌≤◌, pos, negsuc, List, [], ◌∷◌, ◌++◌, length, take, drop, map, Bool, true, false, not, ◌&&◌, nat_lt, if◌then◌else◌, refl, sym, ap, subst, ◌∙◌, arith, inl, inr}
+use Rattle.std.specs.Prelude.{Option, Some, None, IsTrue, filter, slice_get}
 use Rattle.std.specs.List.{range_with_len}
 use Rattle.std.proofs.lemmas.Bool.Decides.{nat_tests}
 use Rattle.std.proofs.lemmas.List.{length-append}
+use Rattle.std.proofs.lemmas.Nat.{div-mul-add, mod-mul-add}
 use Rattle.gate_model.specs.declared.instr.Instr.{Instr}
 use Rattle.gate_model.specs.declared.instr.Instr.TheVariants.{Size, Sync}
 use Rattle.gate_model.specs.declared.key.Key.{Key}
 use Rattle.gate_model.specs.picture.KeyGrid.{KeyGrid}
 use Rattle.gate_model.specs.picture.Pictures.{key_at}
-use Rattle.gate_model.specs.picture.Layers.{Layer, Layers, HasNoPaths, IsAlike, draw, empty_layer, nothing, open_path, play, sized}
+use Rattle.gate_model.specs.picture.Layers.{Layer, Layers, HasNoPaths, IsAlike, draw, empty_layer, is_in, nothing, open_path, play, sized}
 use Rattle.gate_model.specs.picture.Shape.{AreReadable, Draws, OpensScreen, Shape, is_size}
 use Rattle.gate_model.specs.session.Steps.{IsScreenSize}
 use Rattle.gate_model.specs.picture.Buffers.{AreLayers, Buffers, Renews, new_keys}
@@ -20,6 +21,7 @@ use Rattle.frame_draw.specs.Strokes.{scroll, scrolling}
 use Rattle.frame_draw.specs.Cells.{Places, AreDrawn, mixed}
 use Rattle.dirty_region.specs.Places.{place_of}
 use Rattle.frame_draw.specs.Along.{Along, Fits, count_below}
+use Rattle.frame_draw.specs.Fresh.{are_same, fresh, is_fresh, kept_key}
 use Rattle.frame_draw.proofs.Copied.{from_layers, other_stays, scrolled, still, to_layers}
 use Rattle.frame_draw.proofs.NewKeys.{same_is}
 use Rattle.glyph_strokes.proofs.Allowed.{draws_both}
@@ -160,7 +162,7 @@ frame_of old now shift before t first list is keys size c r full small begun end
     }
 
 -- ---- an opening
-no_places : Places
+pub no_places : Places
 no_places place = None
 
 blank_screen : (now : KeyGrid) → AreDrawn (play nothing (Size (pos 0) (8 * now.cols) (16 * now.rows))) now.cols now.rows no_places []
@@ -182,21 +184,93 @@ blank_screen now = record {
     closed (pos (suc n)) = subst (λ (l : Layer). open_path l ≡ []) (other_stays nothing (sized empty_layer (8 * now.cols) (16 * now.rows)) n) refl
     closed (negsuc n) = refl
 
+-- over the layers of another screen what both have stays
+kept_at : (old : KeyGrid) (cols x y : ℕ) → x < cols → kept_key cols old (y * cols + x) ≡ (if nat_lt x old.cols && nat_lt y old.rows then Some (key_at old.keys (y * old.cols + x)) else None)
+kept_at old cols x y lt =
+    ap (λ (i : ℕ). if nat_lt ((y * cols + x) % cols) old.cols && nat_lt i old.rows then Some (key_at old.keys (i * old.cols + (y * cols + x) % cols)) else None) (div-mul-add y cols x lt)
+    ∙ ap (λ (i : ℕ). if nat_lt i old.cols && nat_lt y old.rows then Some (key_at old.keys (y * old.cols + i)) else None) (mod-mul-add y cols x lt)
+
+record IsKept (old : KeyGrid) (x y : ℕ) (key : Key) : Type 0 where
+  column : x < old.cols
+  row : y < old.rows
+  key_is : key_at old.keys (y * old.cols + x) ≡ key
+
+kept_is : (old : KeyGrid) (cols x y : ℕ) (key : Key) → x < cols → kept_key cols old (y * cols + x) ≡ Some key → IsKept old x y key
+kept_is old cols x y key lt e = cases (nat_lt x old.cols) (nat_lt y old.rows) refl refl (sym (kept_at old cols x y lt) ∙ e)
+  where
+    cases : (b c : Bool) → nat_lt x old.cols ≡ b → nat_lt y old.rows ≡ c → (if b && c then Some (key_at old.keys (y * old.cols + x)) else None) ≡ Some key → IsKept old x y key
+    cases true true f g h = record { column = grind (arith, nat_tests); row = grind (arith, nat_tests); key_is = cc }
+    cases true false f g h = absurd (cc)
+    cases false c f g h = absurd (cc)
+
+both_sizes : (a b c : Bool) → a ≡ true → b ≡ true → c ≡ true → (a && b && c) ≡ true
+both_sizes true true true e f g = refl
+both_sizes false b c e f g = absurd (cc)
+both_sizes true false c e f g = absurd (cc)
+both_sizes true true false e f g = absurd (cc)
+
+below_it : (a b : ℕ) → a < b → nat_lt a b ≡ true
+below_it a b lt = grind (arith, nat_tests)
+
+inside_it : (l : Layer) (w h x y : ℕ) → l.width ≡ w → l.height ≡ h → x < w → y < h → is_in x y l ≡ true
+inside_it l w h x y is_w is_h in_x in_y = grind (arith, nat_tests)
+
+sized_screen : (m : Layers) (old now : KeyGrid) (before : Buffers) → AreLayers m old before → AreDrawn (play m (Size (pos 0) (8 * now.cols) (16 * now.rows))) now.cols now.rows (kept_key now.cols old) before
+sized_screen m old now before layers = record {
+  width = refl;
+  height = refl;
+  pixels = λ x y k low high e.
+      let t = kept_is old now.cols (x / 8) (y / 16) k (omega (arith, low)) e in
+      let in_x : x < 8 * old.cols = omega (arith, t.column) in
+      let in_y : y < 16 * old.rows = omega (arith, t.row) in
+      ap (λ (b : Bool). if b then (m (pos 0)).pixel x y else None)
+      (both_sizes (is_in x y (m (pos 0))) (nat_lt x (8 * now.cols)) (nat_lt y (16 * now.rows)) (inside_it (m (pos 0)) (8 * old.cols) (16 * old.rows) x y a.width a.height in_x in_y) (below_it x (8 * now.cols) low) (below_it y (16 * now.rows) high))
+      ∙ a.pixels x y k in_x in_y (ap (λ (q : Key). Some q) t.key_is);
+  buffers = λ n. a.buffers n;
+  others = λ n. subst (λ (l : Layer). IsAlike l empty_layer) (other_stays m (sized (m (pos 0)) (8 * now.cols) (16 * now.rows)) n) (a.others n);
+  no_paths = closed;
+}
+  where
+    a : AreDrawn m old.cols old.rows (λ p. Some (key_at old.keys p)) before
+    a = from_layers m old before layers
+
+    closed : HasNoPaths (play m (Size (pos 0) (8 * now.cols) (16 * now.rows)))
+    closed (pos zero) = a.no_paths (pos zero)
+    closed (pos (suc n)) = subst (λ (l : Layer). open_path l ≡ []) (other_stays m (sized (m (pos 0)) (8 * now.cols) (16 * now.rows)) n) (a.no_paths (pos (suc n)))
+    closed (negsuc n) = a.no_paths (negsuc n)
+
 whole_size : (cols rows : ℕ) → IsTrue (is_size cols rows (pos 0) (8 * cols) (16 * rows))
 whole_size cols rows = grind (arith, nat_tests)
 
-every : ℕ → Bool
+pub every : ℕ → Bool
 every place = true
 
 every_fits : (now : KeyGrid) → Fits now no_places every
 unfolding every
 every_fits now place e = absurd (let wrong : true ≡ false = e in cc)
 
-pub record IsOpening (now : KeyGrid) (before : Buffers) (t : ℕ) (is : List Instr) (keys : Buffers) : Type 0 where
+read_at : (keys : List Key) (n : ℕ) (k : Key) → slice_get keys n ≡ Some k → key_at keys n ≡ k
+read_at [] n k got = absurd (cc)
+read_at (q ∷ keys) zero k got = cc
+read_at (q ∷ keys) (suc n) k got = read_at keys n k got
+
+-- what isn't fresh has its key already
+fresh_fits : (old now : KeyGrid) → Fits now (kept_key now.cols old) (is_fresh now.cols old now.keys)
+fresh_fits old now place e = cases (slice_get now.keys place) (kept_key now.cols old place) refl (not_false (are_same (slice_get now.keys place) (kept_key now.cols old place)) e)
+  where
+    cases : (o was : Option Key) → slice_get now.keys place ≡ o → are_same o was ≡ true → was ≡ Some (key_at now.keys place)
+    cases (Some a) (Some b) got f = ap (λ (k : Key). Some k) (sym (same_is a b f)) ∙ ap (λ (k : Key). Some k) (sym (read_at now.keys place a got))
+    cases None was got f = absurd (let wrong : false ≡ true = f in cc)
+    cases (Some a) None got f = absurd (let wrong : false ≡ true = f in cc)
+
+-- a list that sizes the visible layer, over which some places have a key, and draws the others
+pub record IsSized (now : KeyGrid) (rest : Places) (copies : ℕ → Bool) (before : Buffers) (t : ℕ) (is : List Instr) (keys : Buffers) : Type 0 where
   pub shape : Shape now.cols now.rows is t
   pub opens : OpensScreen is
-  pub drawn : before ≡ [] → AreLayers (draw nothing is) now keys
+  pub leaves : (m : Layers) → AreDrawn (play m (Size (pos 0) (8 * now.cols) (16 * now.rows))) now.cols now.rows rest before → AreLayers (draw m is) now keys
+  pub stays : length before ≤ length keys
   pub keys_are : length (before ++ new_keys before now.keys) ≤ 1024 → keys ≡ before ++ new_keys before now.keys
+  pub short : length (before ++ new_keys before now.keys) ≤ 1024 → length is ≤ 2 + count_below copies (length now.keys) + 25 * length (new_keys before now.keys)
 
 sized_list : (now : KeyGrid) (cols rows : ℕ) (none first : List Instr) → cols ≡ now.cols → rows ≡ now.rows → none ≡ [] → first ≡ none ++ Size (pos 0) (8 * cols) (16 * rows) ∷ []
     → first ≡ Size (pos 0) (8 * now.cols) (16 * now.rows) ∷ []
@@ -204,31 +278,50 @@ sized_list now cols rows none first c r e f =
     f ∙ (ap (λ (xs : List Instr). xs ++ Size (pos 0) (8 * cols) (16 * rows) ∷ []) e
     ∙ (ap (λ (n : ℕ). Size (pos 0) (8 * n) (16 * rows) ∷ []) c ∙ ap (λ (n : ℕ). Size (pos 0) (8 * now.cols) (16 * n) ∷ []) r))
 
-opening_sized : (now : KeyGrid) (before : Buffers) (t : ℕ) (first list is : List Instr) (keys : Buffers)
+sized_first : (now : KeyGrid) (rest : Places) (copies : ℕ → Bool) (before : Buffers) (t : ℕ) (first list is : List Instr) (keys : Buffers)
     → IsScreenSize now.cols now.rows → length now.keys ≡ now.rows * now.cols → t < 2 ^ 64
     → first ≡ Size (pos 0) (8 * now.cols) (16 * now.rows) ∷ [] → is ≡ list ++ Sync t ∷ []
-    → Along now first before no_places every (length now.keys) (length now.keys) list keys → IsOpening now before t is keys
-opening_sized now before t first list is keys size full small sized ends a =
+    → Along now first before rest copies (length now.keys) (length now.keys) list keys → IsSized now rest copies before t is keys
+sized_first now rest copies before t first list is keys size full small sized ends a =
     let begun : Draws now.cols now.rows [] first = subst (λ (xs : List Instr). Draws now.cols now.rows [] xs) (sym sized) (whole_size now.cols now.rows, refl) in
     let allowed : AreReadable first = subst AreReadable (sym sized) ((is_visible, omega (arith, size.few_columns), omega (arith, size.few_rows)), tt) in
     let one : length first ≤ 1 = omega (arith, ap length sized) in
     record {
-      shape = ended_shape now no_places before every t first list is keys size full small ends begun allowed one a;
+      shape = ended_shape now rest before copies t first list is keys size full small ends begun allowed one a;
       opens = subst OpensScreen (sym (ends ∙ ap (λ (xs : List Instr). xs ++ Sync t ∷ []) (a.added ∙ ap (λ (xs : List Instr). xs ++ a.more) sized))) refl;
-      drawn = λ none. ended_layers now no_places before every t first list is keys size full small ends begun allowed one a nothing
-          (subst (λ (xs : List Instr). AreDrawn (draw nothing xs) now.cols now.rows no_places before) (sym sized)
-          (subst (λ (ks : Buffers). AreDrawn (play nothing (Size (pos 0) (8 * now.cols) (16 * now.rows))) now.cols now.rows no_places ks) (sym none) (blank_screen now)));
-      keys_are = ended_keys now no_places before every t first list is keys size full small ends begun allowed one a;
+      leaves = λ m drawn. ended_layers now rest before copies t first list is keys size full small ends begun allowed one a m
+          (subst (λ (xs : List Instr). AreDrawn (draw m xs) now.cols now.rows rest before) (sym sized) drawn);
+      stays = a.stays;
+      keys_are = ended_keys now rest before copies t first list is keys size full small ends begun allowed one a;
+      short = ended_short now rest before copies t first list is keys size full small ends begun allowed one a;
     }
 
-pub opening_of : (now : KeyGrid) (before : Buffers) (t cols rows : ℕ) (none first list is : List Instr) (keys : Buffers)
-    → IsScreenSize now.cols now.rows → length now.keys ≡ now.rows * now.cols → t < 2 ^ 64
-    → cols ≡ now.cols → rows ≡ now.rows → none ≡ [] → first ≡ none ++ Size (pos 0) (8 * cols) (16 * rows) ∷ [] → is ≡ list ++ Sync t ∷ []
-    → ((rest : Places) (copies : ℕ → Bool) → Fits now rest copies → ((p : ℕ) → copies p ≡ true) → Along now first before rest copies (length now.keys) (length now.keys) list keys)
-    → IsOpening now before t is keys
-unfolding every
-opening_of now before t cols rows none first list is keys size full small c r e f ends along =
-    opening_sized now before t first list is keys size full small (sized_list now cols rows none first c r e f) ends (along no_places every (every_fits now) (λ p. refl))
+module _ (now : KeyGrid) (before : Buffers) (t cols rows : ℕ) (none first list is : List Instr) (keys : Buffers)
+    (size : IsScreenSize now.cols now.rows) (full : length now.keys ≡ now.rows * now.cols) (small : t < 2 ^ 64)
+    (c : cols ≡ now.cols) (r : rows ≡ now.rows) (e : none ≡ []) (f : first ≡ none ++ Size (pos 0) (8 * cols) (16 * rows) ∷ []) (ends : is ≡ list ++ Sync t ∷ []) where
+  -- the first frame of all
+  pub opening_of : ((rest : Places) (copies : ℕ → Bool) → Fits now rest copies → ((p : ℕ) → copies p ≡ true) → Along now first before rest copies (length now.keys) (length now.keys) list keys)
+      → IsSized now no_places every before t is keys
+  unfolding every
+  opening_of along = sized_first now no_places every before t first list is keys size full small (sized_list now cols rows none first c r e f) ends (along no_places every (every_fits now) (λ p. refl))
+
+  -- one from a screen of another size
+  pub resized_of : (old : KeyGrid) → ((rest : Places) (copies : ℕ → Bool) → Fits now rest copies → ((p : ℕ) → copies p ≡ is_fresh now.cols old now.keys p) → Along now first before rest copies (length now.keys) (length now.keys) list keys)
+      → IsSized now (kept_key now.cols old) (is_fresh now.cols old now.keys) before t is keys
+  resized_of old along =
+      sized_first now (kept_key now.cols old) (is_fresh now.cols old now.keys) before t first list is keys size full small (sized_list now cols rows none first c r e f) ends
+      (along (kept_key now.cols old) (is_fresh now.cols old now.keys) (fresh_fits old now) (λ p. refl))
+
+pub opening_drawn : (now : KeyGrid) (before : Buffers) (t : ℕ) (is : List Instr) (keys : Buffers) → IsSized now no_places every before t is keys → before ≡ [] → AreLayers (draw nothing is) now keys
+opening_drawn now before t is keys s none =
+    s.leaves nothing (subst (λ (ks : Buffers). AreDrawn (play nothing (Size (pos 0) (8 * now.cols) (16 * now.rows))) now.cols now.rows no_places ks) (sym none) (blank_screen now))
+
+pub resized_renews : (old now : KeyGrid) (before : Buffers) (t : ℕ) (is : List Instr) (keys : Buffers) → IsSized now (kept_key now.cols old) (is_fresh now.cols old now.keys) before t is keys → Renews old before is now keys
+resized_renews old now before t is keys s m layers = s.leaves m (sized_screen m old now before layers)
+
+pub resized_few : (old now : KeyGrid) (before : Buffers) (t : ℕ) (is : List Instr) (keys : Buffers) → IsSized now (kept_key now.cols old) (is_fresh now.cols old now.keys) before t is keys
+    → length (before ++ new_keys before now.keys) ≤ 1024 → length is ≤ 2 + length (fresh old now) + 25 * length (new_keys before now.keys)
+resized_few old now before t is keys s few = omega (arith, s.short few, count_all (is_fresh now.cols old now.keys) (length now.keys))
 
 -- ---- as the calls leave it
 pub scroll_list : (cols rows shift across down : ℕ) (none first : List Instr) → none ≡ [] → first ≡ none ++ scrolling across down shift → across ≡ cols → down ≡ rows → first ≡ scrolling cols rows shift

@@ -6,6 +6,11 @@ mod NewKeys
 pub mod Allowed
 mod Left
 mod Going
+mod Counts
+mod Strips
+mod Moving
+mod Leading
 mod Holding
 mod Walking
+pub mod Alike
 mod Ends

@@ -1,5 +1,5 @@
 -- How far a frame has come, place by place (this project's own).
-use Rattle.std.specs.Prelude.{◌≡◌, ℕ, zero, suc, ◌+◌, ◌-◌, ◌*◌, ◌<◌, ◌≤◌, ◌==◌, ℤ, negsuc, List, [], ◌++◌, length, take, drop, map, filter, Bool, true, false, if◌then◌else◌, Option, Some, None, slice_get}
+use Rattle.std.specs.Prelude.{◌≡◌, ℕ, zero, suc, ◌+◌, ◌-◌, ◌*◌, ◌<◌, ◌≤◌, ◌==◌, ℤ, negsuc, List, [], ◌++◌, length, take, drop, map, filter, Bool, true, false, if◌then◌else◌, Option, Some, None, slice_get, slice_index_or}
 use Rattle.std.specs.List.{range_with_len}
 use Rattle.gate_model.specs.declared.instr.Instr.{Instr}
 use Rattle.gate_model.specs.declared.key.Key.{Key}
@@ -12,9 +12,10 @@ use Rattle.glyph_cache.specs.declared.slot.SlotKind.{SlotKind}
 use Rattle.glyph_cache.specs.Cache.{Gets}
 use Rattle.dirty_region.specs.Places.{place_of}
 use Rattle.frame_draw.specs.declared.wanted.Wanted.{Wanted}
-use Rattle.frame_draw.specs.declared.wanted.Wanted.TheVariants.{All, Listed}
+use Rattle.frame_draw.specs.declared.wanted.Wanted.TheVariants.{All, Listed, Unlike, Flagged}
 use Rattle.frame_draw.specs.Strokes.{painting}
 use Rattle.frame_draw.specs.Cells.{Places, AreDrawn, mixed}
+use Rattle.frame_draw.specs.Fresh.{is_fresh}
 
 -- the layer is the buffer of the key
 pub record IsBufferOf (keys : Buffers) (key : Key) (layer : ℤ) : Type 0 where
@@ -57,6 +58,10 @@ pub record Along (now : KeyGrid) (first : List Instr) (before : Buffers) (rest :
   pub short : length (held_after now before seen) ≤ 1024 → length more ≤ count_below copies drawn + 25 * length (new_keys before (take seen now.keys))
 
 -- ---- which places are copied, where a list names them row by row
+-- the place is wanted; what stands past the end of the flags is
+abbrev pub is_on : List Bool → ℕ → Bool
+is_on flags place = slice_index_or flags place true
+
 -- the entry is that place
 abbrev pub is_at : Option (ℕ × ℕ) → ℕ → ℕ → Bool
 is_at None place cols = false
@@ -66,8 +71,12 @@ is_at (Some p) place cols = p.1 * cols + p.0 == place
 abbrev pub is_next : Wanted → ℕ → ℕ → ℕ → Bool
 is_next All at place cols = true
 is_next (Listed list) at place cols = is_at (slice_get list.now at) place cols
+is_next (Unlike old new) at place cols = is_fresh cols old.now new.now.keys place
+is_next (Flagged flags) at place cols = is_on flags.now place
 
 -- from its entry `at` on, the list has the places from `place` on that `copies` names
 abbrev pub IsLeft : ℕ → ℕ → (ℕ → Bool) → Wanted → ℕ → ℕ → Type 0
 IsLeft cols total copies All at place = (p : ℕ) → copies p ≡ true
 IsLeft cols total copies (Listed list) at place = drop at list.now ≡ map (place_of cols) (filter copies (range_with_len place (total - place)))
+IsLeft cols total copies (Unlike old new) at place = (p : ℕ) → copies p ≡ is_fresh cols old.now new.now.keys p
+IsLeft cols total copies (Flagged flags) at place = (p : ℕ) → copies p ≡ is_on flags.now p

@@ -1,9 +1,9 @@
 -- The instructions of a frame: a glyph is painted into its buffer, and a cell is copied from there (this project's own).
-use Rattle.std.specs.Prelude.{ℕ, ◌*◌, ◌-◌, ℤ, pos, List, [], ◌∷◌, ◌&&◌, nat_lt, if◌then◌else◌}
+use Rattle.std.specs.Prelude.{ℕ, ◌*◌, ◌/◌, ◌%◌, ◌-◌, ℤ, pos, List, [], ◌∷◌, ◌&&◌, nat_lt, if◌then◌else◌}
 use Rattle.gate_model.specs.declared.instr.Instr.{Instr}
-use Rattle.gate_model.specs.declared.instr.Instr.TheVariants.{Size, Copy}
+use Rattle.gate_model.specs.declared.instr.Instr.TheVariants.{Size, Rect, Copy}
 use Rattle.gate_model.specs.declared.key.Key.{Key}
-use Rattle.glyph_strokes.specs.Strokes.{covering}
+use Rattle.glyph_strokes.specs.Strokes.{covering, fill}
 use Rattle.glyph_cache.specs.declared.slot.SlotKind.{SlotKind}
 use Rattle.glyph_cache.specs.declared.slot.SlotKind.TheVariants.{Held, Made, Reused}
 
@@ -24,3 +24,11 @@ scroll cols rows shift = Copy (pos 0) 0 (16 * shift) (8 * cols) (16 * (rows - sh
 -- where the whole screen moved up and something of it is left, it moves
 unfoldable pub scrolling : ℕ → ℕ → ℕ → List Instr
 scrolling cols rows shift = if nat_lt 0 shift && nat_lt shift rows then scroll cols rows shift ∷ [] else []
+
+-- so many columns and rows of cells from a place on have a colour of the palette
+unfoldable pub filling : ℕ → ℕ → ℕ → ℕ → ℕ → List Instr
+filling cols place width height paper = Rect (pos 0) (8 * (place % cols)) (16 * (place / cols)) (8 * width) (16 * height) ∷ fill (pos 0) paper ∷ []
+
+-- so many cells of the visible layer come from others of it
+unfoldable pub run_copy : ℕ → ℕ → ℕ → ℕ → Instr
+run_copy cols from to count = Copy (pos 0) (8 * (from % cols)) (16 * (from / cols)) (8 * count) 16 (pos 0) (8 * (to % cols)) (16 * (to / cols))

@@ -9,11 +9,15 @@ ghost use Rattle.gate_model.specs.terminal.Screens.{AreColoured, IsColoured};
 ghost use Rattle.gate_model.specs.picture.Shape.{OpensScreen, Shape};
 ghost use Rattle.gate_model.specs.session.Steps.{IsScreenSize};
 ghost use Rattle.frame_draw.specs.Along.{Along, Fits, Holds, IsLeft};
+ghost use Rattle.frame_draw.specs.Fresh.{fresh};
+ghost use Rattle.frame_draw.specs.Leads.{AreFlags};
 ghost use Rattle.frame_draw.specs.Recent.{AreBuffers, remembered};
 ghost use Rattle.frame_draw.specs.Cells.{Places};
 
+use crate::blanks::fill_blanks;
+use crate::runs::copy_runs;
 use crate::strokes::{copy_to, paint, scroll};
-use crate::wanted::{Wanted, is_next};
+use crate::wanted::{Wanted, flags_of, is_few, is_next};
 use dirty_region::changes;
 use gate_model::{Instr, Instrs, Key, NoMemory, Shown};
 use glyph_cache::{Cache, SlotKind};
@@ -41,7 +45,38 @@ pub fn opening(
         width: 8 * now.cols() as u32,
         height: 16 * now.rows() as u32,
     })?;
-    draw_places(&mut list, cache, now, Wanted::All)?;
+    draw(alloc, &mut list, cache, now, Wanted::All)?;
+    list.push(Instr::Sync { stamp })?;
+    Ok(Instrs::of(list))
+}
+
+/// A frame from the old screen to a new one of another size: it sizes the visible layer, which keeps its common part and is
+/// clear elsewhere, gives every key of the new screen a buffer, and copies each place that the old screen hasn't or that
+/// shows another key. `stamp` is that of its sync, which stands last. Refused, it leaves the cache with buffers that nothing
+/// drew.
+pub fn resized(
+    alloc: Global,
+    old: &Shown,
+    new: &Shown,
+    cache: &mut Cache,
+    stamp: u64,
+) -> Result<Instrs, NoMemory>
+    requires size { IsScreenSize new.now.cols new.now.rows }
+    requires coloured { AreColoured new.now.keys }
+    ensures shape { IfOk result (λ is. Shape new.now.cols new.now.rows is stamp) }
+    ensures opens { IfOk result (λ is. OpensScreen is) }
+    ensures renews { IfOk result (λ is. Renews old.now cache.old.keys is new.now cache.new.keys) }
+    ensures stays { OnOk result (length cache.old.keys ≤ length cache.new.keys) }
+    ensures keys { OnOk result (length (cache.old.keys ++ new_keys cache.old.keys new.now.keys) ≤ 1024 → cache.new.keys ≡ cache.old.keys ++ new_keys cache.old.keys new.now.keys) }
+    ensures few { IfOk result (λ is. length (cache.old.keys ++ new_keys cache.old.keys new.now.keys) ≤ 1024 → length is ≤ 2 + length (fresh old.now new.now) + 25 * length (new_keys cache.old.keys new.now.keys)) }
+{
+    let mut list = Vec::new(alloc);
+    list.push(Instr::Size {
+        layer: 0,
+        width: 8 * new.cols() as u32,
+        height: 16 * new.rows() as u32,
+    })?;
+    draw(alloc, &mut list, cache, new, Wanted::Unlike(old, new))?;
     list.push(Instr::Sync { stamp })?;
     Ok(Instrs::of(list))
 }
@@ -74,7 +109,7 @@ pub fn frame(
     let places = changed.as_slice();
     let mut drawn = Vec::with_capacity(alloc, places.len() + 2)?;
     scroll(&mut drawn, new.cols(), new.rows(), shift)?;
-    draw_places(&mut drawn, cache, new, Wanted::Listed(places))?;
+    draw(alloc, &mut drawn, cache, new, Wanted::Listed(places))?;
     drawn.push(Instr::Sync { stamp })?;
     Ok(Instrs::of(drawn))
 }
@@ -87,6 +122,47 @@ const RECENT: usize = 128;
 struct Held {
     key: Key,
     layer: i32,
+}
+
+// Runs of blank places are filled, and the other places that are wanted are copied. Of a few places none is worth a fill.
+fn draw(
+    alloc: Global,
+    list: &mut Vec<Instr>,
+    cache: &mut Cache,
+    now: &Shown,
+    wanted: Wanted,
+) -> Result<(), NoMemory>
+    requires size { IsScreenSize now.now.cols now.now.rows }
+    requires coloured { AreColoured now.now.keys }
+    ensures along { (rest : Places) (copies : ℕ → Bool) → Fits now.now rest copies → IsLeft now.now.cols (length now.now.keys) copies wanted.entry 0 0
+        → OnOk result (Along now.now list.old.items cache.old.keys rest copies (length now.now.keys) (length now.now.keys) list.new.items cache.new.keys) }
+    ensures kept { new_keys cache.old.keys now.now.keys ≡ [] → cache.new.keys ≡ cache.old.keys }
+    ensures full { length now.now.keys ≡ now.now.rows * now.now.cols }
+{
+    if is_few(wanted) {
+        return draw_places(list, cache, now, wanted);
+    }
+    let mut flags = flags_of(alloc, wanted, now.as_slice().len(), now.cols() as usize)?;
+    draw_flagged(list, cache, now, &mut flags)
+}
+
+// The same of places of which flags tell.
+fn draw_flagged(
+    list: &mut Vec<Instr>,
+    cache: &mut Cache,
+    now: &Shown,
+    flags: &mut [bool],
+) -> Result<(), NoMemory>
+    requires size { IsScreenSize now.now.cols now.now.rows }
+    requires coloured { AreColoured now.now.keys }
+    requires all { length flags.now ≡ length now.now.keys }
+    ensures along { (rest : Places) (copies : ℕ → Bool) → Fits now.now rest copies → AreFlags flags.old (length now.now.keys) copies
+        → OnOk result (Along now.now list.old.items cache.old.keys rest copies (length now.now.keys) (length now.now.keys) list.new.items cache.new.keys) }
+    ensures kept { new_keys cache.old.keys now.now.keys ≡ [] → cache.new.keys ≡ cache.old.keys }
+{
+    fill_blanks(list, flags, now)?;
+    copy_runs(list, flags, now)?;
+    draw_places(list, cache, now, Wanted::Flagged(flags))
 }
 
 // Place by place, row by row: the buffer of its key, and a copy from there where the place is wanted. Each

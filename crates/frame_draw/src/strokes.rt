@@ -1,10 +1,10 @@
 ghost use Rattle.std.specs.Prelude.{◌≡◌, ◌+◌, ◌-◌, ◌*◌, ◌/◌, ◌%◌, ◌<◌, ◌≤◌, pos, [], ◌∷◌, ◌++◌, OnOk};
 ghost use Rattle.gate_model.specs.terminal.Screens.{IsColoured};
-ghost use Rattle.frame_draw.specs.Strokes.{cell_copy, painting, scrolling};
+ghost use Rattle.frame_draw.specs.Strokes.{cell_copy, filling, painting, run_copy, scrolling};
 
 use gate_model::{Instr, Key, NoMemory};
 use glyph_cache::{Slot, SlotKind};
-use glyph_strokes::cover;
+use glyph_strokes::{cover, fill_with};
 
 // What a buffer takes to show its key: nothing where it shows it already.
 #[tactic(auto, using(std::proofs::lemmas::Grind::common_steps), unfolding(crate::specs::Strokes::painting))]
@@ -71,4 +71,55 @@ pub(crate) fn scroll(
         })?;
     }
     Ok(())
+}
+
+// So many columns and rows of cells from a place on get a paper.
+#[tactic(auto, using(std::proofs::lemmas::Grind::common_steps), unfolding(crate::specs::Strokes::filling))]
+pub(crate) fn fill_cells(
+    list: &mut Vec<Instr>,
+    cols: usize,
+    place: usize,
+    width: usize,
+    height: usize,
+    paper: u8,
+) -> Result<(), NoMemory>
+    requires columns { 1 ≤ cols }
+    requires few_columns { cols ≤ 512 }
+    requires few_rows { place < 256 * cols }
+    requires width { width ≤ 512 }
+    requires height { height ≤ 131072 }
+    requires paper { paper < 16 }
+    ensures { OnOk result (list.new.items ≡ list.old.items ++ filling cols place width height paper) }
+{
+    list.push(Instr::Rect {
+        layer: 0,
+        x: 8 * (place % cols) as u32,
+        y: 16 * (place / cols) as u32,
+        width: 8 * width as u32,
+        height: 16 * height as u32,
+    })?;
+    list.push(fill_with(0, paper))?;
+    Ok(())
+}
+
+// The copy of so many cells of the visible layer, in one row each.
+#[tactic(auto, unfolding(crate::specs::Strokes::run_copy))]
+pub(crate) fn copy_cells(cols: usize, from: usize, to: usize, length: usize) -> Instr
+    requires columns { 1 ≤ cols }
+    requires few_columns { cols ≤ 512 }
+    requires from { from < 256 * cols }
+    requires to { to < 256 * cols }
+    requires length { length ≤ 512 }
+    ensures { result ≡ run_copy cols from to length }
+{
+    Instr::Copy {
+        from: 0,
+        x: 8 * (from % cols) as u32,
+        y: 16 * (from / cols) as u32,
+        width: 8 * length as u32,
+        height: 16,
+        to: 0,
+        to_x: 8 * (to % cols) as u32,
+        to_y: 16 * (to / cols) as u32,
+    }
 }

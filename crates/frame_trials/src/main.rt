@@ -1,9 +1,10 @@
-//! Tries frames on random bytes of a host: what a viewer has after each frame is compared, pixel by pixel,
+//! Tries frames on random bytes of a host and random sizes: what a viewer has after each frame is compared, pixel by pixel,
 //! with a drawing of the whole screen (`src/redraw.rt`), and the frame's length with what it may cost.
 //!
-//! Its words are a seed and how many feeds are made. It prints how many of them left the right picture, how
-//! many came while at most 1,024 keys had been seen, for which a frame's length is bounded, and how many of
-//! those had such a length; and before it, in hexadecimal, the first feeds that did not.
+//! Its words are a seed and how many feeds are made; one in eight of them is followed by another size. It prints how
+//! many feeds there were, and how many sizes, how many of them left the right picture, how many came while at most
+//! 1,024 keys had been seen, for which a frame's length is bounded, and how many of those had such a length; and
+//! before it the first ones that did not, the bytes of a feed in hexadecimal.
 #![tactic(auto)]
 
 mod feeds;
@@ -33,10 +34,10 @@ fn main(rt: HostRuntime) -> Result<()> {
     run(&rt)
 }
 
-// How many feeds were made, and how many of them went right.
+// How many were made, and how many of them went right.
 #[derive(Clone, Copy, Default)]
 struct Tally {
-    feeds: u64,
+    made: u64,
     alike: u64,
     bounded: u64,
     within: u64,
@@ -45,7 +46,7 @@ struct Tally {
 
 impl Tally {
     fn add(&mut self, outcome: Outcome) {
-        self.feeds = self.feeds.saturating_add(1);
+        self.made = self.made.saturating_add(1);
         self.alike = self.alike.saturating_add(u64::from(outcome.is_alike));
         self.bounded = self.bounded.saturating_add(u64::from(outcome.is_bounded));
         self.within = self
@@ -54,26 +55,38 @@ impl Tally {
     }
 }
 
+// The feeds and the sizes.
+#[derive(Clone, Copy, Default)]
+struct Tallies {
+    feeds: Tally,
+    sizes: Tally,
+}
+
 fn run(rt: &(impl AllocGlobal + Env + Print)) -> Result<()> {
     let mut words = env::args(rt)?.skip(1);
     let seed = words.next().context("no seed")?.parse::<u64>()?;
     let feeds = words.next().context("no number")?.parse::<u64>()?;
-    let tally = run_screens(rt, seed, feeds)?;
+    let tallies = run_screens(rt, seed, feeds)?;
+    print_tally(rt, "feeds", tallies.feeds)?;
+    print_tally(rt, "sizes", tallies.sizes)
+}
+
+fn print_tally(rt: &impl Print, name: &str, tally: Tally) -> Result<()> {
     println!(rt;
-        "{} feeds: {} alike; {} with at most 1,024 keys, {} of them within the bound",
-        tally.feeds, tally.alike, tally.bounded, tally.within
+        "{} {name}: {} alike; {} with at most 1,024 keys, {} of them within the bound",
+        tally.made, tally.alike, tally.bounded, tally.within
     )?;
     Ok(())
 }
 
-fn run_screens(rt: &(impl AllocGlobal + Print), seed: u64, feeds: u64) -> Result<Tally> {
+fn run_screens(rt: &(impl AllocGlobal + Print), seed: u64, feeds: u64) -> Result<Tallies> {
     let mut random = Random::new(seed);
-    let mut tally = Tally::default();
+    let mut tallies = Tallies::default();
     for screen in 0..feeds.div_ceil(FEEDS) {
         let left = feeds.saturating_sub(screen.saturating_mul(FEEDS));
-        run_screen(rt, &mut random, left.min(FEEDS), &mut tally)?;
+        run_screen(rt, &mut random, left.min(FEEDS), &mut tallies)?;
     }
-    Ok(tally)
+    Ok(tallies)
 }
 
 // A new screen of a new size and its feeds.
@@ -81,16 +94,25 @@ fn run_screen(
     rt: &(impl AllocGlobal + Print),
     random: &mut Random,
     feeds: u64,
-    tally: &mut Tally,
+    tallies: &mut Tallies,
 ) -> Result<()> {
-    let cols = 1 + random.below(12) as u16;
-    let rows = 1 + random.below(5) as u16;
+    let (cols, rows) = size(random);
     let look = Look::new(random);
     let mut trial = Trial::new(rt.alloc(), cols, rows)?;
     for _ in 0..feeds {
-        run_feed(rt, random, look, &mut trial, tally)?;
+        run_feed(rt, random, look, &mut trial, &mut tallies.feeds)?;
+        if random.below(8) == 0 {
+            run_size(rt, random, &mut trial, &mut tallies.sizes)?;
+        }
     }
     Ok(())
+}
+
+// 1 to 12 columns and 1 to 5 rows.
+fn size(random: &mut Random) -> (u16, u16) {
+    let cols = 1 + random.below(12) as u16;
+    let rows = 1 + random.below(5) as u16;
+    (cols, rows)
 }
 
 fn run_feed(
@@ -109,6 +131,23 @@ fn run_feed(
     tally.told += 1;
     let mut text = String::new(rt.alloc());
     push_hexadecimal(&mut text, &bytes)?;
-    println!(rt; "feed {}: {text}", tally.feeds)?;
+    println!(rt; "feed {}: {text}", tally.made)?;
+    Ok(())
+}
+
+fn run_size(
+    rt: &(impl AllocGlobal + Print),
+    random: &mut Random,
+    trial: &mut Trial,
+    tally: &mut Tally,
+) -> Result<()> {
+    let (cols, rows) = size(random);
+    let outcome = trial.resize(rt.alloc(), cols, rows)?;
+    tally.add(outcome);
+    if outcome.is_right() || TOLD <= tally.told {
+        return Ok(());
+    }
+    tally.told += 1;
+    println!(rt; "size {}: {cols} by {rows}", tally.made)?;
     Ok(())
 }

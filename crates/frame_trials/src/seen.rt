@@ -1,5 +1,7 @@
 //! The keys that were seen, and the places that changed, each counted plainly.
 
+ghost use Rattle.std.specs.Prelude.{◌<◌};
+
 use anyhow::Result;
 use gate_model::{Key, Shown};
 use std::alloc::Global;
@@ -74,6 +76,26 @@ pub fn changed(old: &Shown, new: &Shown, shift: u32) -> usize {
         if old_key != Some(key) {
             count = count.saturating_add(1);
         }
+    }
+    count
+}
+
+/// How many places of the new screen the old one, of another size, hasn't or shows otherwise.
+pub fn differing(old: &Shown, new: &Shown) -> usize {
+    let mut count: usize = 0;
+    for y in 0..new.rows() {
+        count = count.saturating_add(differing_in_row(old, new, y));
+    }
+    count
+}
+
+fn differing_in_row(old: &Shown, new: &Shown, y: u16) -> usize
+    requires { y < new.now.rows }
+{
+    let mut count: usize = 0;
+    for x in 0..new.cols() {
+        let stays = x < old.cols() && y < old.rows() && old.key(x, y) == new.key(x, y);
+        count = count.saturating_add(usize::from(!stays));
     }
     count
 }

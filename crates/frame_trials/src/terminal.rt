@@ -29,6 +29,17 @@ impl Terminal {
         })
     }
 
+    /// Gives the screen another size.
+    pub fn resize(&mut self, alloc: Global, cols: u16, rows: u16) -> Result<()> {
+        if cols < 1 || 512 < cols || rows < 1 || 256 < rows {
+            bail!("no size");
+        }
+        self.screen
+            .resize(alloc, cols, rows)
+            .ok()
+            .context("no memory")
+    }
+
     /// Hears bytes, and answers by how many lines they scrolled the whole screen up.
     pub fn hear(&mut self, bytes: &[u8]) -> u32 {
         self.screen.clear_shift();

@@ -1,8 +1,8 @@
-//! A screen that is fed, and what came of each feed.
+//! A screen that is fed and gets other sizes, and what came of each.
 
 use crate::playing::{is_alike, play};
 use crate::redraw::redraw;
-use crate::seen::{Seen, changed};
+use crate::seen::{Seen, changed, differing};
 use crate::terminal::Terminal;
 use crate::viewer::Viewer;
 use anyhow::Result;
@@ -13,7 +13,7 @@ use std::alloc::Global;
 /// The most buffers, up to which a frame's length has a bound (this project's own rule).
 const MOST_BUFFERS: usize = 1_024;
 
-/// What came of a feed.
+/// What came of a feed, or of another size.
 #[derive(Clone, Copy)]
 pub struct Outcome {
     /// The viewer sees what a drawing of the whole screen shows.
@@ -64,6 +64,29 @@ impl Trial {
             is_bounded: self.seen.count() <= MOST_BUFFERS,
             is_within: count <= most,
         })
+    }
+
+    /// Gives the screen another size.
+    pub fn resize(&mut self, alloc: Global, cols: u16, rows: u16) -> Result<Outcome> {
+        self.terminal.resize(alloc, cols, rows)?;
+        let shown = self.terminal.shown(alloc)?;
+        let most = self.most_of_size(&shown);
+        let count = self.viewer.refit(alloc, shown)?;
+        Ok(Outcome {
+            is_alike: is_redrawn(alloc, &self.viewer)?,
+            is_bounded: self.seen.count() <= MOST_BUFFERS,
+            is_within: count <= most,
+        })
+    }
+
+    // The most instructions of a frame of another size: the size and the sync, one for each place that is new or shows
+    // another key, and forty for each new key.
+    fn most_of_size(&mut self, shown: &Shown) -> usize {
+        let places = differing(self.viewer.shown(), shown);
+        let fresh = self.seen.add(shown);
+        fresh
+            .saturating_mul(40)
+            .saturating_add(places.saturating_add(2))
     }
 
     // The most instructions that a frame may have: the scroll and the sync, two for each place that changed,

@@ -7,7 +7,7 @@ ghost use Rattle.gate_model.specs.terminal.Screens.{AreColoured};
 use crate::playing::play;
 use anyhow::{Context, Result, bail};
 use canvas::Canvas;
-use frame_draw::{frame, opening};
+use frame_draw::{frame, opening, resized};
 use gate_model::{Key, Shown};
 use glyph_cache::Cache;
 use std::alloc::Global;
@@ -57,6 +57,31 @@ impl Viewer {
         self.shown = new;
         Ok(count)
     }
+
+    /// Gives the frame to the new screen of another size, and answers how many instructions it has.
+    pub fn refit(&mut self, alloc: Global, new: Shown) -> Result<usize> {
+        let count = refit(alloc, &self.shown, &new, &mut self.cache, &mut self.canvas)?;
+        self.shown = new;
+        Ok(count)
+    }
+}
+
+fn refit(
+    alloc: Global,
+    old: &Shown,
+    new: &Shown,
+    cache: &mut Cache,
+    canvas: &mut Canvas,
+) -> Result<usize> {
+    if !is_sized(new) || !are_coloured(new.as_slice()) {
+        bail!("no screen");
+    }
+    let drawn = resized(alloc, old, new, cache, 1)
+        .ok()
+        .context("no memory")?;
+    let instrs = drawn.as_slice();
+    play(canvas, instrs)?;
+    Ok(instrs.len())
 }
 
 fn open(alloc: Global, shown: &Shown, cache: &mut Cache, canvas: &mut Canvas) -> Result<()> {

@@ -12,11 +12,11 @@ use Rattle.gate_model.specs.declared.instr.Instr.{Instr}
 use Rattle.gate_model.specs.declared.sharing.Role.{Role}
 use Rattle.gate_model.specs.declared.sharing.Asked.{Asked}
 use Rattle.gate_model.specs.declared.entry.Entry.{Entry}
-use Rattle.gate_model.specs.declared.entry.Entry.TheVariants.{Start, Feed, Join, Read, Write, Take, Leave, Close}
+use Rattle.gate_model.specs.declared.entry.Entry.TheVariants.{Start, Feed, Size, Join, Read, Write, Take, Leave, Close}
 use Rattle.gate_model.specs.declared.event.Event.{Event}
-use Rattle.gate_model.specs.declared.event.Event.TheVariants.{Feed as feed, Join as join, Read as read, Write as write, Take as take_most, Leave as leave, Close as close}
+use Rattle.gate_model.specs.declared.event.Event.TheVariants.{Feed as feed, Join as join, Read as read, Write as write, Resize as resize, Take as take_most, Leave as leave, Close as close}
 use Rattle.gate_model.specs.declared.answer.Answer.{Answer}
-use Rattle.gate_model.specs.declared.answer.Answer.TheVariants.{Feed as fed, Join as joined_as, Read as was_read, Write as was_written, Take as was_taken, Leave as was_left, Close as was_closed}
+use Rattle.gate_model.specs.declared.answer.Answer.TheVariants.{Feed as fed, Join as joined_as, Read as was_read, Write as was_written, Resize as was_resized, Take as was_taken, Leave as was_left, Close as was_closed}
 use Rattle.gate_model.specs.declared.feed_refusal.FeedRefusal.{FeedRefusal}
 use Rattle.gate_model.specs.declared.feed_refusal.FeedRefusal.TheVariants.{Closed as feed_closed, Worn as feed_worn}
 use Rattle.gate_model.specs.declared.join_refusal.JoinRefusal.{JoinRefusal}
@@ -28,14 +28,17 @@ use Rattle.gate_model.specs.declared.read_answer.ReadAnswer.TheVariants.{Ended, 
 use Rattle.gate_model.specs.declared.read_refusal.ReadRefusal.{ReadRefusal}
 use Rattle.gate_model.specs.declared.read_refusal.ReadRefusal.TheVariants.{NoViewer as read_no_viewer, Worn as read_worn}
 use Rattle.gate_model.specs.Limits.{most_piece, most_acts, most_live, most_joined, most_waiting}
-use Rattle.gate_model.specs.picture.Shape.{Shape}
+use Rattle.gate_model.specs.declared.resize_refusal.ResizeRefusal.{ResizeRefusal}
+use Rattle.gate_model.specs.declared.resize_refusal.ResizeRefusal.TheVariants.{NoViewer as resize_no_viewer, Closed as resize_closed, Denied, Same, Worn as resize_worn}
+use Rattle.gate_model.specs.picture.Shape.{Shape, OpensScreen}
+use Rattle.gate_model.specs.terminal.Sizes.{IsScreenSize}
 use Rattle.gate_model.specs.session.History.{History, next_stamp, size_now, newest, columns, rows, terminal_type, joined, share_mode, is_closed, is_full}
 use Rattle.gate_model.specs.session.Delivered.{position, ended}
 use Rattle.gate_model.specs.session.Output.{out, taken, untaken}
-use Rattle.gate_model.specs.session.Rights.{is_live, live_count}
+use Rattle.gate_model.specs.session.Rights.{is_live, live_count, role_in, is_control}
 use Rattle.gate_model.specs.session.Waiting.{waiting}
 use Rattle.gate_model.specs.session.Roles.{grant_of}
-use Rattle.gate_model.specs.session.Refusals.{first_of, only_if, close_cause, is_crowded, is_forbidden, feed_refusal, join_refusal, read_stop, write_refusal, leave_refusal, close_refusal}
+use Rattle.gate_model.specs.session.Refusals.{first_of, only_if, close_cause, is_crowded, is_forbidden, feed_refusal, join_refusal, read_stop, write_refusal, has_size, resize_refusal, leave_refusal, close_refusal}
 use Rattle.gate_model.specs.session.Calls.{AreBytes, ShowsNewest, Updates, Step}
 use Rattle.gate_model.specs.session.Steps.{Legal}
 use Rattle.gate_model.proofs.Causes.{open_without_cause}
@@ -53,6 +56,16 @@ pub record Feeds (g : History) (bytes : List ℕ) (stamp : ℕ) (frame : List In
   pub octets : AreBytes bytes
   pub is_next : stamp ≡ next_stamp (newest g) now
   pub shape : Shape (size_now g).columns (size_now g).rows frame stamp
+
+pub record Resizes (g : History) (viewer cols lines stamp : ℕ) (frame : List Instr) : Type 0 where
+  pub live : is_live g viewer ≡ true
+  pub is_open : IsOpen g
+  pub controls : is_control (role_in g viewer) ≡ true
+  pub differs : has_size g cols lines ≡ false
+  pub size : IsScreenSize cols lines
+  pub is_next : stamp ≡ newest g + 1
+  pub shape : Shape cols lines frame stamp
+  pub opens : OpensScreen frame
 
 pub record Joins (g : History) (viewer : ℕ) (role : Role) (first : List Instr) : Type 0 where
   pub is_open : IsOpen g
@@ -83,6 +96,7 @@ pub record Takes (g : History) (count : ℕ) : Type 0 where
 
 abbrev pub IsNext : History → Entry → Type 0
 IsNext g (Feed bytes stamp frame) = Feeds g bytes stamp frame
+IsNext g (Size viewer cols lines stamp frame) = Resizes g viewer cols lines stamp frame
 IsNext g (Join viewer role first) = Joins g viewer role first
 IsNext g (Read viewer how) = Reads g viewer how
 IsNext g (Write viewer acts) = Writes g viewer acts
@@ -175,6 +189,30 @@ write_free h viewer e =
       record { not_closed = open_without_cause h (unmapped write_closed (close_cause h) q.0); not_full = not_there (is_full h) (write_worn (length h)) r.0 },
     )
 
+record ResizeFree (h : History) (viewer cols rows : ℕ) : Type 0 where
+  live : is_live h viewer ≡ true
+  is_open : IsOpen h
+  controls : is_control (role_in h viewer) ≡ true
+  differs : has_size h cols rows ≡ false
+
+resize_free : (h : History) (viewer cols rows : ℕ) → resize_refusal h viewer cols rows ≡ None → ResizeFree h viewer cols rows
+resize_free h viewer cols rows e =
+    let away : Option ResizeRefusal = only_if (not (is_live h viewer)) resize_no_viewer in
+    let denied : Option ResizeRefusal = only_if (not (is_control (role_in h viewer))) Denied in
+    let same : Option ResizeRefusal = only_if (has_size h cols rows) Same in
+    let worn : Option ResizeRefusal = only_if (is_full h) (resize_worn (length h)) in
+    let p = none_first away (option_map resize_closed (close_cause h) ∷ denied ∷ same ∷ worn ∷ []) e in
+    let q = none_first (option_map resize_closed (close_cause h)) (denied ∷ same ∷ worn ∷ []) p.1 in
+    let r = none_first denied (same ∷ worn ∷ []) q.1 in
+    let t = none_first same (worn ∷ []) r.1 in
+    let u = none_first worn [] t.1 in
+    record {
+      live = holds (is_live h viewer) (not_there (not (is_live h viewer)) resize_no_viewer p.0);
+      is_open = record { not_closed = open_without_cause h (unmapped resize_closed (close_cause h) q.0); not_full = not_there (is_full h) (resize_worn (length h)) u.0 };
+      controls = holds (is_control (role_in h viewer)) (not_there (not (is_control (role_in h viewer))) Denied r.0);
+      differs = not_there (has_size h cols rows) Same t.0;
+    }
+
 -- ---- the entry
 
 pub added : (h : History) (event : Event) (answer : Answer) (e : Entry) → Step h event answer (e ∷ []) → IsNext h e
@@ -192,6 +230,10 @@ added h (read viewer) answer e s =
 added h (write viewer acts) answer e s =
     let free = write_free h viewer (unmapped (λ (r : WriteRefusal). was_written (Err r)) (write_refusal h viewer) s.1.0) in
     subst (IsNext h) (sym s.1.1.1) record { live = free.0; is_open = free.1; few = s.0.few }
+added h (resize viewer cols rows) answer e s =
+    let a = s.1.1 in
+    let free = resize_free h viewer cols rows (unmapped (λ (r : ResizeRefusal). was_resized (Err r)) (resize_refusal h viewer cols rows) s.1.0) in
+    subst (IsNext h) (sym a.4) record { live = free.live; is_open = free.is_open; controls = free.controls; differs = free.differs; size = s.0; is_next = refl; shape = a.1; opens = a.2 }
 added h (take_most most) answer e s =
     let some : (length (take most (untaken h)) == 0) ≡ false = not_there (length (take most (untaken h)) == 0) (was_taken [] (is_closed h)) s.1.0 in
     subst (IsNext h) (sym s.1.1.1) (takes some (eqb_tells (length (take most (untaken h))) 0))
@@ -221,6 +263,7 @@ pub record StaysStarted (h : History) (e : Entry) : Type 0 where
 
 pub stays_started : (h : History) (e : Entry) → IsNext h e → StaysStarted h e
 stays_started h (Feed bytes stamp frame) n = record { cols = refl; rows = refl; term = refl }
+stays_started h (Size viewer cols lines stamp frame) n = record { cols = refl; rows = refl; term = refl }
 stays_started h (Join viewer role first) n = record { cols = refl; rows = refl; term = refl }
 stays_started h (Read viewer how) n = record { cols = refl; rows = refl; term = refl }
 stays_started h (Write viewer acts) n = record { cols = refl; rows = refl; term = refl }

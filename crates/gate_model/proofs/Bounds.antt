@@ -4,7 +4,7 @@ use Rattle.std.specs.Prelude.{Option, None, unwrap_or}
 use Rattle.std.proofs.lemmas.Bool.{leb-false}
 use Rattle.gate_model.specs.declared.instr.Instr.{Instr}
 use Rattle.gate_model.specs.declared.entry.Entry.{Entry}
-use Rattle.gate_model.specs.declared.entry.Entry.TheVariants.{Start, Feed, Join, Read, Write, Take, Leave, Close}
+use Rattle.gate_model.specs.declared.entry.Entry.TheVariants.{Start, Feed, Size, Join, Read, Write, Take, Leave, Close}
 use Rattle.gate_model.specs.Limits.{most_entries, most_clock, most_joined}
 use Rattle.gate_model.specs.session.Entries.{framed, stamp_of}
 use Rattle.gate_model.specs.session.History.{History, capacity, newest, frames, joined}
@@ -37,6 +37,13 @@ plain_bounds g e b none no_stamp same few =
 
 next_bounds : (g : History) (e : Entry) → Bounds g → IsNext g e → Bounds (e ∷ g)
 next_bounds g (Feed bytes stamp frame) b s = record {
+  room = b.room;
+  stamps = omega (arith, s.is_next, b.stamps, length-append (frames g) ((stamp, frame) ∷ []));
+  framed = omega (arith, b.framed, length-append (frames g) ((stamp, frame) ∷ []));
+  few_frames = omega (arith, b.framed, length-append (frames g) ((stamp, frame) ∷ []), leb-false (capacity g) (length g) s.is_open.not_full);
+  few_joined = b.few_joined;
+}
+next_bounds g (Size viewer cols rows stamp frame) b s = record {
   room = b.room;
   stamps = omega (arith, s.is_next, b.stamps, length-append (frames g) ((stamp, frame) ∷ []));
   framed = omega (arith, b.framed, length-append (frames g) ((stamp, frame) ∷ []));

@@ -2,7 +2,7 @@
 use Rattle.std.proofs.Common.{◌≡◌, [], ◌∷◌, true, false, refl, ap}
 use Rattle.std.specs.Prelude.{Some, None}
 use Rattle.gate_model.specs.declared.cause.Cause.{Cause}
-use Rattle.gate_model.specs.declared.entry.Entry.TheVariants.{Start, Feed, Join, Read, Write, Take, Leave, Close}
+use Rattle.gate_model.specs.declared.entry.Entry.TheVariants.{Start, Feed, Size, Join, Read, Write, Take, Leave, Close}
 use Rattle.gate_model.specs.session.History.{History, is_closed}
 use Rattle.gate_model.specs.session.Delivered.{closing, farewell}
 use Rattle.gate_model.specs.session.Refusals.{close_cause}
@@ -11,6 +11,7 @@ pub open_without_cause : (h : History) → close_cause h ≡ None → is_closed 
 open_without_cause [] e = refl
 open_without_cause (Start cols rows mode term entries stamp frame ∷ g) e = open_without_cause g e
 open_without_cause (Feed bytes stamp frame ∷ g) e = open_without_cause g e
+open_without_cause (Size viewer cols rows stamp frame ∷ g) e = open_without_cause g e
 open_without_cause (Join viewer role first ∷ g) e = open_without_cause g e
 open_without_cause (Read viewer how ∷ g) e = open_without_cause g e
 open_without_cause (Write viewer acts ∷ g) e = open_without_cause g e
@@ -22,6 +23,7 @@ pub closed_with_cause : (h : History) (cause : Cause) → close_cause h ≡ Some
 closed_with_cause [] cause e = absurd (let w : None ≡ Some cause = e in cc)
 closed_with_cause (Start cols rows mode term entries stamp frame ∷ g) cause e = closed_with_cause g cause e
 closed_with_cause (Feed bytes stamp frame ∷ g) cause e = closed_with_cause g cause e
+closed_with_cause (Size viewer cols rows stamp frame ∷ g) cause e = closed_with_cause g cause e
 closed_with_cause (Join viewer role first ∷ g) cause e = closed_with_cause g cause e
 closed_with_cause (Read viewer how ∷ g) cause e = closed_with_cause g cause e
 closed_with_cause (Write viewer acts ∷ g) cause e = closed_with_cause g cause e

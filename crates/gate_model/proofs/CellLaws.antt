@@ -1,15 +1,17 @@
 -- What each edit of a grid leaves at each place.
 use Rattle.std.proofs.Common.{◌≡◌, ℕ, suc, ◌+◌, ◌-◌, ◌*◌, ◌<◌, ◌≤◌, List, length, Bool, true, false, ◌&&◌, ◌==◌, if◌then◌else◌, nat_le, nat_lt, get_or, replicate, refl, ap, ◌∙◌, arith}
-use Rattle.std.specs.Prelude.{slice_range}
+use Rattle.std.specs.Prelude.{slice_range, ◌/◌, ◌%◌}
 use Rattle.std.proofs.lemmas.Bool.Decides.{nat_tests}
 use Rattle.std.proofs.lemmas.Grind.{get_or-set_at}
 use Rattle.std.proofs.lemmas.List.{get_or-replicate, length-replicate, get_or-set_other}
 use Rattle.std.proofs.Math.Nat.{mul-le-mul_right}
 use Rattle.std.proofs.Math.ListN.{length-set}
 use Rattle.gate_model.specs.declared.cell.Cell.{Cell}
-use Rattle.gate_model.specs.terminal.Cells.{blank, CellGrid, cell_at, moved_left, moved_right, put, erased, inserted, deleted, scrolled_up, scrolled_down}
+use Rattle.std.proofs.lemmas.List.FromFn.{get_or-map-range_with_len, length-map-range_with_len}
+use Rattle.std.proofs.lemmas.Nat.{div-mul-add, mod-mul-add, mul-add-lt}
+use Rattle.gate_model.specs.terminal.Cells.{blank, CellGrid, cell_at, kept_at, moved_left, moved_right, put, erased, inserted, deleted, scrolled_up, scrolled_down}
 use Rattle.gate_model.proofs.CellRuns.{at_inside, at_outside, length-with_part, left_length, right_length, left_cell, left_free, right_cell, right_free, left_stays, right_stays}
-use Rattle.gate_model.specs.terminal.CellLaws.{IsFull, PutByCell, ErasedByCell, InsertedByCell, DeletedByCell, ScrolledUpByCell, ScrolledDownByCell, NothingAtZero}
+use Rattle.gate_model.specs.terminal.CellLaws.{IsFull, PutByCell, ErasedByCell, InsertedByCell, DeletedByCell, ScrolledUpByCell, ScrolledDownByCell, NothingAtZero, ResizedByCell}
 
 -- ---- rows
 rows_apart : (c row y : ℕ) → row < y → row * c + c ≤ y * c
@@ -247,4 +249,17 @@ nothing_at_zero g = record {
   delete = λ x y le. with_cells g _ (left_stays (y * g.cols + x) (y * g.cols + g.cols) 0 g.cells (omega (arith, le)) refl);
   up = λ top bottom le. with_cells g _ (left_stays (top * g.cols + 0) ((bottom + 1) * g.cols + 0) (0 * g.cols) g.cells (omega (arith, ordered g.cols top (bottom + 1) (omega (arith, le)))) (omega arith));
   down = λ top bottom le. with_cells g _ (right_stays (top * g.cols + 0) ((bottom + 1) * g.cols + 0) (0 * g.cols) g.cells (omega (arith, ordered g.cols top (bottom + 1) (omega (arith, le)))) (omega arith));
+}
+
+-- ---- another size
+
+pub resized-by_cell : ResizedByCell
+resized-by_cell g cols rows = record {
+  cols = refl;
+  rows = refl;
+  full = length-map-range_with_len (λ at. kept_at (at % cols) (at / cols) g) 0 (rows * cols);
+  cells = λ column row in_cols in_rows.
+      get_or-map-range_with_len (λ at. kept_at (at % cols) (at / cols) g) 0 (rows * cols) (row * cols + column) (row * cols + column) blank (omega (arith, mul-add-lt row cols column rows in_rows in_cols)) (omega arith)
+      ∙ ap (λ x. kept_at x ((row * cols + column) / cols) g) (mod-mul-add row cols column in_cols)
+      ∙ ap (λ y. kept_at column y g) (div-mul-add row cols column in_cols);
 }

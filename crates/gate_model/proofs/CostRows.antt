@@ -13,6 +13,7 @@ use Rattle.gate_model.specs.picture.KeyGrid.{KeyGrid}
 use Rattle.gate_model.specs.picture.Glyphs.{lit}
 use Rattle.gate_model.specs.picture.Pictures.{picture}
 use Rattle.gate_model.specs.picture.Buffers.{buffer_key, layers, is_held, new_keys}
+use Rattle.gate_model.specs.terminal.Sizes.{sized}
 use Rattle.gate_model.specs.terminal.Screens.{screen, shown}
 use Rattle.gate_model.specs.session.History.{History, at}
 use Rattle.gate_model.specs.session.Cost.{changes, cost, keys_shown, old_row, rise}
@@ -86,7 +87,7 @@ black : Colour
 black = record { red = 0; green = 0; blue = 0 }
 
 -- a screen of one place, which shows the cursor, and one buffer with an A
-one_buffer : let m = layers (shown (screen 1 1 [])) (letter 65 ∷ []) in
+one_buffer : let m = layers (shown (screen (sized 1 1) [] [])) (letter 65 ∷ []) in
     ((m (pos 0)).width ≡ 8) × ((m (pos 0)).height ≡ 16) × ((m (pos 0)).pixel 7 15 ≡ Some grey)
     × ((m (negsuc 0)).width ≡ 8) × ((m (negsuc 0)).height ≡ 16) × ((m (negsuc 0)).pixel 1 4 ≡ Some grey) × ((m (negsuc 0)).pixel 1 2 ≡ Some black)
     × ((m (negsuc 1)).width ≡ 0) × ((m (pos 1)).height ≡ 0) × (buffer_key (letter 65 ∷ []) (negsuc 0) ≡ Some (letter 65))

@@ -9,18 +9,18 @@ use Rattle.gate_model.specs.picture.KeyGrid.{KeyGrid}
 use Rattle.gate_model.specs.picture.Layers.{Layers}
 use Rattle.gate_model.specs.picture.Buffers.{Buffers, layer_of, layers, IsWithin, AreLayers, Makes}
 use Rattle.gate_model.specs.terminal.Screens.{shown}
-use Rattle.gate_model.specs.session.History.{History, at, bytes, columns, rows}
+use Rattle.gate_model.specs.session.History.{History, at}
 use Rattle.gate_model.specs.session.Steps.{Legal}
 use Rattle.gate_model.specs.session.Truth.{all_layers}
 use Rattle.gate_model.specs.session.Whole.{Restores, AllGrowing}
-use Rattle.gate_model.proofs.Added.{next, stays_started}
-use Rattle.gate_model.proofs.ScreenLaws.{columns-screen, rows-screen}
+use Rattle.gate_model.proofs.Histories.{legal-size}
+use Rattle.gate_model.proofs.Sized.{sized_of}
 
--- a screen of the same size with at least as many buffers has each layer that has a size
-grown_layer : (s u : KeyGrid) (keys more : Buffers) → s.cols ≡ u.cols → s.rows ≡ u.rows → length keys ≤ length more → IsWithin (layers s keys) (layers u more)
-grown_layer s u keys more cols rows le (pos zero) w y = ((let there : 8 * u.cols ≡ 0 = w in let here : 8 * s.cols ≡ 0 = omega (arith, there, cols) in here), (let there : 16 * u.rows ≡ 0 = y in let here : 16 * s.rows ≡ 0 = omega (arith, there, rows) in here))
-grown_layer s u keys more cols rows le (pos (suc n)) w y = (refl, refl)
-grown_layer s u keys more cols rows le (negsuc n) w y = cases (slice_get keys n) (slice_get more n) refl refl w
+-- a screen with at least as many buffers has each layer that has a size
+grown_layer : (s u : KeyGrid) (keys more : Buffers) → 1 ≤ u.cols → length keys ≤ length more → IsWithin (layers s keys) (layers u more)
+grown_layer s u keys more some le (pos zero) w y = absurd (let there : 8 * u.cols ≡ 0 = w in omega (arith, there, some))
+grown_layer s u keys more some le (pos (suc n)) w y = (refl, refl)
+grown_layer s u keys more some le (negsuc n) w y = cases (slice_get keys n) (slice_get more n) refl refl w
   where
     cases : (o p : Option Key) → slice_get keys n ≡ o → slice_get more n ≡ p → (layer_of p).width ≡ 0 → ((layer_of (slice_get keys n)).width ≡ 0) × ((layer_of (slice_get keys n)).height ≡ 0)
     cases None p e f z = rw e (refl, refl)
@@ -32,11 +32,11 @@ grown_layer s u keys more cols rows le (negsuc n) w y = cases (slice_get keys n)
         there k e f (inr p) = omega (arith, slice_get_within keys n k e, p.0, le)
 
 -- layers that keep the screen's size and the buffers keep their sizes
-grown : (m n : Layers) (s u : KeyGrid) (keys more : Buffers) → s.cols ≡ u.cols → s.rows ≡ u.rows → length keys ≤ length more → AreLayers m s keys → AreLayers n u more → IsWithin m n
-grown m n s u keys more cols rows le a b k w y =
+grown : (m n : Layers) (s u : KeyGrid) (keys more : Buffers) → 1 ≤ u.cols → length keys ≤ length more → AreLayers m s keys → AreLayers n u more → IsWithin m n
+grown m n s u keys more some le a b k w y =
     let old = a.same k in
     let new = b.same k in
-    let none = grown_layer s u keys more cols rows le k (sym new.width ∙ w) (sym new.height ∙ y) in
+    let none = grown_layer s u keys more some le k (sym new.width ∙ w) (sym new.height ∙ y) in
     (old.width ∙ none.0, old.height ∙ none.1)
 
 -- .. from each entry of a legal history to the next
@@ -44,12 +44,9 @@ pub growing-next : (h : History) (e : Entry) (before after : Buffers) → Legal 
     → AreLayers (all_layers h) (shown (at h)) before → AreLayers (all_layers (e ∷ h)) (shown (at (e ∷ h))) after → AllGrowing h → AllGrowing (e ∷ h)
 growing-next [] e before after l le a b d = (d, λ k w y. (refl, refl))
 growing-next (f ∷ g) e before after l le a b d =
-    let same = stays_started (f ∷ g) e (next e f g l) in
-    let cols : (shown (at (f ∷ g))).cols ≡ (shown (at (e ∷ f ∷ g))).cols =
-    columns-screen (columns (f ∷ g)) (rows (f ∷ g)) (bytes (f ∷ g)) ∙ (sym same.cols ∙ sym (columns-screen (columns (e ∷ f ∷ g)) (rows (e ∷ f ∷ g)) (bytes (e ∷ f ∷ g)))) in
-    let lines : (shown (at (f ∷ g))).rows ≡ (shown (at (e ∷ f ∷ g))).rows =
-    rows-screen (columns (f ∷ g)) (rows (f ∷ g)) (bytes (f ∷ g)) ∙ (sym same.rows ∙ sym (rows-screen (columns (e ∷ f ∷ g)) (rows (e ∷ f ∷ g)) (bytes (e ∷ f ∷ g)))) in
-    (d, grown (all_layers (f ∷ g)) (all_layers (e ∷ f ∷ g)) (shown (at (f ∷ g))) (shown (at (e ∷ f ∷ g))) before after cols lines le a b)
+    let size = legal-size (e ∷ f ∷ g) l in
+    let some : 1 ≤ (shown (at (e ∷ f ∷ g))).cols = omega (arith, (sized_of (e ∷ f ∷ g) l).cols, size.some_columns) in
+    (d, grown (all_layers (f ∷ g)) (all_layers (e ∷ f ∷ g)) (shown (at (f ∷ g))) (shown (at (e ∷ f ∷ g))) before after some le a b)
 
 -- a list that makes the layers of the screen and the buffers of any others restores
 pub restores_of : (h : History) (keys : Buffers) (is : List Instr) → AreLayers (all_layers h) (shown (at h)) keys → Makes is (shown (at h)) keys → Restores h is

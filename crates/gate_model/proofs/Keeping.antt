@@ -5,7 +5,7 @@ use Rattle.std.proofs.lemmas.List.Elements.{filter-append}
 use Rattle.std.proofs.lemmas.Bool.Decides.{nat_tests}
 use Rattle.gate_model.specs.declared.instr.Instr.{Instr}
 use Rattle.gate_model.specs.declared.entry.Entry.{Entry}
-use Rattle.gate_model.specs.declared.entry.Entry.TheVariants.{Start, Feed, Join, Read, Write, Take, Leave, Close}
+use Rattle.gate_model.specs.declared.entry.Entry.TheVariants.{Start, Feed, Size, Join, Read, Write, Take, Leave, Close}
 use Rattle.gate_model.specs.Limits.{most_kept_frames, most_kept_text}
 use Rattle.gate_model.specs.session.Entries.{framed, stamp_of}
 use Rattle.gate_model.specs.session.History.{History, frames, frames_after, newest}
@@ -41,6 +41,9 @@ plain_rises g e none no_stamp r =
 
 next_rises : (g : History) (e : Entry) → Rises g → IsNext g e → Rises (e ∷ g)
 next_rises g (Feed bytes stamp frame) r s =
+    let above : newest g < stamp = omega (arith, s.is_next) in
+    record { rising = rising-more 0 (frames g) stamp frame r.rising (omega (arith, r.last, above)); last = last_stamp-more 0 (frames g) stamp frame }
+next_rises g (Size viewer cols rows stamp frame) r s =
     let above : newest g < stamp = omega (arith, s.is_next) in
     record { rising = rising-more 0 (frames g) stamp frame r.rising (omega (arith, r.last, above)); last = last_stamp-more 0 (frames g) stamp frame }
 next_rises g (Join viewer role first) r s = plain_rises g (Join viewer role first) refl refl r

@@ -5,7 +5,7 @@ use Rattle.std.specs.List.{range_with_len}
 use Rattle.std.proofs.lemmas.Bool.{eq-eqb}
 use Rattle.std.proofs.lemmas.Bool.Decides.{eqb_tells}
 use Rattle.gate_model.specs.declared.entry.Entry.{Entry}
-use Rattle.gate_model.specs.declared.entry.Entry.TheVariants.{Start, Feed, Join, Read, Write, Take, Leave, Close}
+use Rattle.gate_model.specs.declared.entry.Entry.TheVariants.{Start, Feed, Size, Join, Read, Write, Take, Leave, Close}
 use Rattle.gate_model.specs.declared.instr.Instr.{Instr}
 use Rattle.gate_model.specs.declared.sharing.Role.{Role}
 use Rattle.gate_model.specs.session.History.{History, joined}
@@ -133,6 +133,7 @@ leave_live g viewer l live = record {
 
 next_live : (g : History) (e : Entry) → Live g → IsNext g e → Live (e ∷ g)
 next_live g (Feed bytes stamp frame) l n = plain_live g (Feed bytes stamp frame) l (λ v. stays (is_live g v)) refl refl
+next_live g (Size viewer cols rows stamp frame) l n = plain_live g (Size viewer cols rows stamp frame) l (λ v. stays (is_live g v)) refl refl
 next_live g (Join viewer role first) l n = join_live g viewer role first l n.is_next
 next_live g (Read viewer how) l n = plain_live g (Read viewer how) l (λ v. stays (is_live g v)) refl refl
 next_live g (Write viewer acts) l n = plain_live g (Write viewer acts) l (λ v. stays (is_live g v)) refl refl

@@ -6,12 +6,12 @@ use Rattle.gate_model.specs.declared.answer.Answer.{Answer}
 use Rattle.gate_model.specs.declared.cause.Cause.{Cause}
 use Rattle.gate_model.specs.declared.cause.Cause.TheVariants.{ServerEnd, LinkFault, Stopped, Worn}
 use Rattle.gate_model.specs.declared.event.Event.{Event}
-use Rattle.gate_model.specs.declared.event.Event.TheVariants.{Feed as feed, Join as join, Read as read, Write as write, Take as take_most, Leave as leave, Close as close}
+use Rattle.gate_model.specs.declared.event.Event.TheVariants.{Feed as feed, Join as join, Read as read, Write as write, Resize as resize, Take as take_most, Leave as leave, Close as close}
 use Rattle.gate_model.specs.declared.how.How.{How}
 use Rattle.gate_model.specs.declared.how.How.TheVariants.{Suffix, Fresh}
 use Rattle.gate_model.specs.declared.instr.Instr.{Instr}
 use Rattle.gate_model.specs.declared.entry.Entry.{Entry}
-use Rattle.gate_model.specs.declared.entry.Entry.TheVariants.{Start, Feed, Join, Read, Write, Take, Leave, Close}
+use Rattle.gate_model.specs.declared.entry.Entry.TheVariants.{Start, Feed, Size, Join, Read, Write, Take, Leave, Close}
 use Rattle.gate_model.specs.picture.Shape.{AreReadable}
 use Rattle.gate_model.specs.session.Entries.{framed}
 use Rattle.gate_model.specs.session.History.{History, frames, frames_after, instructions, joined}
@@ -57,6 +57,7 @@ fine_list (f ∷ fs) a = readable_both f.1 (instructions fs) a.0 (fine_list fs a
 
 fine_next : (g : History) (e : Entry) → IsNext g e → AreFine (framed e)
 fine_next g (Feed bytes stamp frame) n = (n.shape.in_range, tt)
+fine_next g (Size viewer cols rows stamp frame) n = (n.shape.in_range, tt)
 fine_next g (Join viewer role first) n = tt
 fine_next g (Read viewer how) n = tt
 fine_next g (Write viewer acts) n = tt
@@ -80,6 +81,7 @@ readable_closing : (h : History) → AreReadable (closing h)
 readable_closing [] = tt
 readable_closing (Start cols rows mode term entries stamp frame ∷ g) = readable_closing g
 readable_closing (Feed bytes stamp frame ∷ g) = readable_closing g
+readable_closing (Size viewer cols rows stamp frame ∷ g) = readable_closing g
 readable_closing (Join viewer role first ∷ g) = readable_closing g
 readable_closing (Read viewer how ∷ g) = readable_closing g
 readable_closing (Write viewer acts ∷ g) = readable_closing g
@@ -99,6 +101,7 @@ by_how g viewer (Fresh is) l u = u.1.in_range
 pub given_readable : (g : History) (e : Entry) (v : ℕ) → Legal g → IsNext g e → AreReadable (given g (delivered g v) v e)
 given_readable g (Start cols rows mode term entries stamp frame) v l n = absurd n
 given_readable g (Feed bytes stamp frame) v l n = tt
+given_readable g (Size viewer cols rows stamp frame) v l n = tt
 given_readable g (Join viewer role first) v l n = readable_both (if viewer == v then first else []) [] (chosen (viewer == v) first n.shape.in_range) tt
 given_readable g (Read viewer how) v l n = elim (eqb_tells viewer v) as (λ _. AreReadable (given g (delivered g v) v (Read viewer how))) [
   | inl p ↦ rw p.0 (readable_both (handed g (position g v) how) (closing g) (subst (λ (u : ℕ). AreReadable (handed g (position g u) how)) p.1 (by_how g viewer how l n.updates)) (readable_closing g))
@@ -122,6 +125,7 @@ handed-readable h (feed bs now) answer (e ∷ []) l s = subst (λ (a : Answer). 
 handed-readable h (join asked) answer (e ∷ []) l s = subst (λ (a : Answer). AreReadable (handed_out h (join asked) a (e ∷ []))) (sym s.1.1.4) (given_readable h e (joined h + 1) l (added h (join asked) answer e s))
 handed-readable h (read viewer) answer (e ∷ []) l s = given_readable h e viewer l (added h (read viewer) answer e s)
 handed-readable h (write viewer acts) answer (e ∷ []) l s = subst (λ (a : Answer). AreReadable (handed_out h (write viewer acts) a (e ∷ []))) (sym s.1.1.0) tt
+handed-readable h (resize viewer cols rows) answer (e ∷ []) l s = subst (λ (a : Answer). AreReadable (handed_out h (resize viewer cols rows) a (e ∷ []))) (sym s.1.1.3) tt
 handed-readable h (take_most most) answer (e ∷ []) l s = subst (λ (a : Answer). AreReadable (handed_out h (take_most most) a (e ∷ []))) (sym s.1.1.0) tt
 handed-readable h (leave viewer) answer (e ∷ []) l s = subst (λ (a : Answer). AreReadable (handed_out h (leave viewer) a (e ∷ []))) (sym s.1.1.0) tt
 handed-readable h (close cause) answer (e ∷ []) l s = subst (λ (a : Answer). AreReadable (handed_out h (close cause) a (e ∷ []))) (sym s.1.1.0) tt

@@ -3,18 +3,19 @@ use Rattle.std.proofs.Common.{◌≡◌, [], ◌∷◌, refl}
 use Rattle.std.specs.Prelude.{map, Some, None, Ok, Err}
 use Rattle.gate_model.specs.declared.cause.Cause.TheVariants.{Stopped}
 use Rattle.gate_model.specs.declared.how.How.TheVariants.{Suffix}
-use Rattle.gate_model.specs.declared.sharing.Role.TheVariants.{Control}
+use Rattle.gate_model.specs.declared.sharing.Role.TheVariants.{Control, View}
 use Rattle.gate_model.specs.declared.sharing.Asked.TheVariants.{Owner, View as ask_view}
 use Rattle.gate_model.specs.declared.sharing.Share.TheVariants.{Nobody}
 use Rattle.gate_model.specs.declared.instr.Instr.TheVariants.{Sync}
-use Rattle.gate_model.specs.declared.entry.Entry.TheVariants.{Start, Feed, Join, Read, Leave, Close}
+use Rattle.gate_model.specs.declared.entry.Entry.TheVariants.{Start, Feed, Size, Join, Read, Leave, Close}
 use Rattle.gate_model.specs.declared.feed_refusal.FeedRefusal.TheVariants.{Closed as feed_closed, Worn as feed_worn}
 use Rattle.gate_model.specs.declared.join_refusal.JoinRefusal.TheVariants.{Closed as join_closed, Forbidden as join_forbidden, Worn as join_worn}
 use Rattle.gate_model.specs.declared.read_answer.ReadAnswer.TheVariants.{Ended, Empty}
 use Rattle.gate_model.specs.declared.read_refusal.ReadRefusal.TheVariants.{NoViewer as read_no_viewer, Worn as read_worn}
 use Rattle.gate_model.specs.declared.write_refusal.WriteRefusal.TheVariants.{NoViewer as write_no_viewer, Closed as write_closed, Worn as write_worn}
+use Rattle.gate_model.specs.declared.resize_refusal.ResizeRefusal.TheVariants.{NoViewer as resize_no_viewer, Closed as resize_closed, Denied, Same, Worn as resize_worn}
 use Rattle.gate_model.specs.session.History.{History}
-use Rattle.gate_model.specs.session.Refusals.{feed_refusal, join_refusal, read_stop, write_refusal, leave_refusal, close_refusal}
+use Rattle.gate_model.specs.session.Refusals.{feed_refusal, join_refusal, read_stop, write_refusal, resize_refusal, leave_refusal, close_refusal}
 use Rattle.gate_model.specs.session.Calls.{lacked}
 
 abbrev opened : History
@@ -28,6 +29,12 @@ full = Feed (65 ∷ []) 2 (Sync 2 ∷ []) ∷ with_owner
 
 abbrev shut : History
 shut = Close Stopped ∷ full
+
+abbrev turned : History
+turned = Size 1 1 1 2 (Sync 2 ∷ []) ∷ with_owner
+
+abbrev watched : History
+watched = Join 2 View (Sync 1 ∷ []) ∷ with_owner
 
 -- feed: a full session tells its entries, and a closed one its cause first
 feeds : map feed_refusal (with_owner ∷ full ∷ shut ∷ []) ≡ None ∷ Some (feed_worn 3) ∷ Some (feed_closed Stopped) ∷ []
@@ -62,6 +69,17 @@ owner_writes = refl
 
 nobody_writes : write_refusal shut 2 ≡ Some write_no_viewer
 nobody_writes = refl
+
+-- resize: to another size and to the one in force, which is the last Size's
+owner_resizes : map (λ h. resize_refusal h 1 1 1) (with_owner ∷ full ∷ shut ∷ turned ∷ []) ≡ None ∷ Some (resize_worn 3) ∷ Some (resize_closed Stopped) ∷ Some Same ∷ []
+owner_resizes = refl
+
+owner_keeps : map (λ h. resize_refusal h 1 2 1) (with_owner ∷ full ∷ shut ∷ turned ∷ []) ≡ Some Same ∷ Some Same ∷ Some (resize_closed Stopped) ∷ Some (resize_worn 3) ∷ []
+owner_keeps = refl
+
+-- a viewer who looks on is denied first, and whoever isn't there is told so
+others_resize : map (λ h. resize_refusal h 2 2 1) (watched ∷ (Close Stopped ∷ watched) ∷ shut ∷ []) ≡ Some Denied ∷ Some (resize_closed Stopped) ∷ Some resize_no_viewer ∷ []
+others_resize = refl
 
 -- leave and close
 leaves : map (λ h. leave_refusal h 1) (shut ∷ (Leave 1 ∷ shut) ∷ []) ≡ None ∷ Some record {} ∷ []

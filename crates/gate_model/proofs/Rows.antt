@@ -13,6 +13,7 @@ use Rattle.gate_model.specs.declared.entry.Entry.TheVariants.{Start, Feed, Join,
 use Rattle.gate_model.specs.picture.Glyphs.{lit}
 use Rattle.gate_model.specs.picture.Pictures.{picture}
 use Rattle.gate_model.specs.picture.Layers.{draw, nothing, visible}
+use Rattle.gate_model.specs.terminal.Sizes.{sized}
 use Rattle.gate_model.specs.terminal.Screens.{screen, shown}
 use Rattle.gate_model.specs.session.History.{History, next_stamp, newest, newest_frame, all_frames, upto}
 use Rattle.gate_model.specs.session.Delivered.{delivered, position}
@@ -33,23 +34,23 @@ unfolding lit
 letter = (refl, refl, refl, refl, refl)
 
 -- the cursor on one blank cell
-smallest : (picture (shown (screen 1 1 [])) 0 0 ≡ grey) × (picture (shown (screen 1 1 [])) 7 15 ≡ grey)
+smallest : (picture (shown (screen (sized 1 1) [] [])) 0 0 ≡ grey) × (picture (shown (screen (sized 1 1) [] [])) 7 15 ≡ grey)
 unfolding computing read colour_of picture lit grey
 smallest = (refl, refl)
 
 -- an A, and the cursor behind it
-one_glyph : let s = shown (screen 2 1 (65 ∷ [])) in (picture s 1 4 ≡ grey) × (picture s 1 2 ≡ black) × (picture s 2 2 ≡ grey) × (picture s 8 0 ≡ grey)
+one_glyph : let s = shown (screen (sized 2 1) (65 ∷ []) []) in (picture s 1 4 ≡ grey) × (picture s 1 2 ≡ black) × (picture s 2 2 ≡ grey) × (picture s 8 0 ≡ grey)
 unfolding computing read colour_of picture lit grey black
 one_glyph = (refl, refl, refl, refl)
 
 -- the last column holds back the wrap until the next character
-pending_wrap : let before = shown (screen 2 2 (65 ∷ 66 ∷ [])) in let after = shown (screen 2 2 (65 ∷ 66 ∷ 67 ∷ [])) in
+pending_wrap : let before = shown (screen (sized 2 2) (65 ∷ 66 ∷ []) []) in let after = shown (screen (sized 2 2) (65 ∷ 66 ∷ 67 ∷ []) []) in
     (picture before 8 0 ≡ grey) × (picture after 8 0 ≡ black) × (picture after 1 18 ≡ black) × (picture after 1 20 ≡ grey) × (picture after 8 16 ≡ grey)
 unfolding computing read colour_of picture lit grey black
 pending_wrap = (refl, refl, refl, refl, refl)
 
 -- three lines on two rows
-scrolled : let s = shown (screen 2 2 (65 ∷ 13 ∷ 10 ∷ 66 ∷ 13 ∷ 10 ∷ 67 ∷ [])) in (picture s 1 2 ≡ grey) × (picture s 8 0 ≡ black) × (picture s 1 18 ≡ black)
+scrolled : let s = shown (screen (sized 2 2) (65 ∷ 13 ∷ 10 ∷ 66 ∷ 13 ∷ 10 ∷ 67 ∷ []) []) in (picture s 1 2 ≡ grey) × (picture s 8 0 ≡ black) × (picture s 1 18 ≡ black)
 unfolding computing read colour_of picture lit grey black
 scrolled = (refl, refl, refl)
 

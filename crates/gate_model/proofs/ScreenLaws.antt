@@ -13,7 +13,7 @@ use Rattle.gate_model.specs.terminal.Arguments.{choice, first_amount, first_choi
 use Rattle.gate_model.specs.picture.Pictures.{key_at, blank_key}
 use Rattle.gate_model.specs.terminal.Cells.{CellGrid, blank, with_part, place, rows_of, rest_of_row, moved_left, moved_right, erased, inserted, deleted}
 use Rattle.gate_model.specs.terminal.Cells as cells
-use Rattle.gate_model.specs.terminal.Terminal.{Pen, Saved, Terminal, opening_screen, plain}
+use Rattle.gate_model.specs.terminal.Terminal.{Pen, Saved, Terminal, plain}
 use Rattle.gate_model.specs.terminal.Pens.{styled_after, styled_by, is_colour, colour_size, drawn_with, pen_ink, pen_paper}
 use Rattle.gate_model.specs.terminal.TabStops.{with_stop, stops_cleared}
 use Rattle.gate_model.specs.terminal.Cursor.{returned, moved_back, moved_on, moved_up, moved_down, to_column, to_row, to_place, tabbed_on, tabbed_back, saved_cursor, restored_cursor}
@@ -22,8 +22,7 @@ use Rattle.gate_model.specs.terminal.Modes.{modes_set}
 use Rattle.gate_model.specs.terminal.Printing.{wrapped, opened_for, placed, printed, printed_often, repeated_as}
 use Rattle.gate_model.specs.terminal.Scrolling.{line_feed, scrolled_up, scrolled_down, is_within, are_margins, named_bottom}
 use Rattle.gate_model.specs.terminal.Effects.{act, code_effect, cursor_effect, editing_effect, effect, escape_effect, private_effect, reset, sequence_effect}
-use Rattle.gate_model.specs.telnet.TelnetTokens.{tokens}
-use Rattle.gate_model.specs.terminal.Screens.{functions, after_controls, screen, key_of, exchanged, exchanged_at, shown, IsColoured, AreColoured}
+use Rattle.gate_model.specs.terminal.Screens.{after_controls, key_of, exchanged, exchanged_at, shown, IsColoured, AreColoured}
 
 -- a cell's ink and paper are indexes of the palette
 abbrev pub Coloured : Cell → Type 0
@@ -114,7 +113,7 @@ down-keeps top bottom n g = record { columns = refl; rows = refl; painted = λ c
 
 -- ---- pens
 
-plain_pen : IsPen plain
+pub plain_pen : IsPen plain
 plain_pen = record { ink = tt; paper = tt }
 
 below_8 : (low n : ℕ) → (nat_le low n && nat_le n (low + 7)) ≡ true → n - low < 8
@@ -302,15 +301,6 @@ pub after_controls-append : (t : Terminal) (xs ys : List Control) → after_cont
 after_controls-append t [] ys = refl
 after_controls-append t (c ∷ xs) ys = after_controls-append (effect c t) xs ys
 
-pub columns-screen : (c r : ℕ) (bs : List ℕ) → (screen c r bs).grid.cols ≡ c
-columns-screen c r bs = (after_controls-keeps (opening_screen c r) (functions (tokens bs))).columns
-
-pub rows-screen : (c r : ℕ) (bs : List ℕ) → (screen c r bs).grid.rows ≡ r
-rows-screen c r bs = (after_controls-keeps (opening_screen c r) (functions (tokens bs))).rows
-
-painted-screen : (c r : ℕ) (bs : List ℕ) → IsPainted (screen c r bs)
-painted-screen c r bs = (after_controls-keeps (opening_screen c r) (functions (tokens bs))).painted record { cells = blanks (r * c); pen = plain_pen; saved = tt }
-
 coloured-key_at : (keys : List Key) (place : ℕ) → AreColoured keys → IsColoured (key_at keys place)
 coloured-key_at [] place c = is_plain
 coloured-key_at (k ∷ ks) zero c = c zero blank_key (omega arith)
@@ -328,6 +318,3 @@ coloured-shown t c = pick t.modes.visible
     pick : (b : Bool) → AreColoured (if b then exchanged_at (place t.x t.y t.grid) (map key_of t.grid.cells) else map key_of t.grid.cells)
     pick false = are
     pick true = let k = coloured-key_at (map key_of t.grid.cells) at are in All-set IsColoured (map key_of t.grid.cells) at (exchanged (key_at (map key_of t.grid.cells) at)) (k.1, k.0) are
-
-pub coloured-screen : (c r : ℕ) (bs : List ℕ) → AreColoured (shown (screen c r bs)).keys
-coloured-screen c r bs = coloured-shown (screen c r bs) (painted-screen c r bs).cells

@@ -12,23 +12,25 @@ use Rattle.gate_model.specs.declared.instr.Instr.{Instr}
 use Rattle.gate_model.specs.declared.joined.Joined.{Joined}
 use Rattle.gate_model.specs.declared.written.Written.{Written}
 use Rattle.gate_model.specs.declared.sharing.Asked.{Asked}
-use Rattle.gate_model.specs.declared.entry.Entry.TheVariants.{Feed, Join, Read, Write, Take, Leave, Close}
-use Rattle.gate_model.specs.declared.event.Event.TheVariants.{Feed as feed, Join as join, Read as read, Write as write, Take as take_most, Leave as leave, Close as close}
-use Rattle.gate_model.specs.declared.answer.Answer.TheVariants.{Feed as fed, Join as joined_as, Read as was_read, Write as was_written, Take as was_taken, Leave as was_left, Close as was_closed}
+use Rattle.gate_model.specs.declared.entry.Entry.TheVariants.{Feed, Size, Join, Read, Write, Take, Leave, Close}
+use Rattle.gate_model.specs.declared.event.Event.TheVariants.{Feed as feed, Join as join, Read as read, Write as write, Resize as resize, Take as take_most, Leave as leave, Close as close}
+use Rattle.gate_model.specs.declared.answer.Answer.TheVariants.{Feed as fed, Join as joined_as, Read as was_read, Write as was_written, Resize as was_resized, Take as was_taken, Leave as was_left, Close as was_closed}
 use Rattle.gate_model.specs.declared.feed_refusal.FeedRefusal.{FeedRefusal}
 use Rattle.gate_model.specs.declared.join_refusal.JoinRefusal.{JoinRefusal}
 use Rattle.gate_model.specs.declared.write_refusal.WriteRefusal.{WriteRefusal}
+use Rattle.gate_model.specs.declared.resize_refusal.ResizeRefusal.{ResizeRefusal}
 use Rattle.gate_model.specs.declared.read_answer.ReadAnswer.{ReadAnswer}
 use Rattle.gate_model.specs.declared.read_answer.ReadAnswer.TheVariants.{Frames, Fresh}
 use Rattle.gate_model.specs.declared.read_refusal.ReadRefusal.{ReadRefusal}
-use Rattle.gate_model.specs.picture.Shape.{Shape}
+use Rattle.gate_model.specs.picture.Shape.{Shape, OpensScreen}
+use Rattle.gate_model.specs.terminal.Sizes.{IsScreenSize}
 use Rattle.gate_model.specs.session.History.{History, next_stamp, size_now, newest, joined, share_mode, is_closed}
 use Rattle.gate_model.specs.session.Delivered.{position}
 use Rattle.gate_model.specs.session.Kept.{Covers}
 use Rattle.gate_model.specs.session.Output.{untaken}
 use Rattle.gate_model.specs.session.Rights.{may}
 use Rattle.gate_model.specs.session.Roles.{grant_of}
-use Rattle.gate_model.specs.session.Refusals.{only_if, feed_refusal, join_refusal, read_stop, write_refusal, leave_refusal, close_refusal}
+use Rattle.gate_model.specs.session.Refusals.{only_if, feed_refusal, join_refusal, read_stop, write_refusal, resize_refusal, leave_refusal, close_refusal}
 use Rattle.gate_model.specs.session.Calls.{AreBytes, IsPiece, IsWrite, ShowsNewest, lacked, is_key_act, take_entry, Step}
 
 -- ---- a call that nothing stops
@@ -71,6 +73,16 @@ write_step h viewer acts counts few free keys denied =
     ap (λ (n : ℕ). record { keys = n; denied = counts.denied }) keys ∙ ap (λ (n : ℕ). record { keys = if may h viewer then count_by is_key_act acts else 0; denied = n }) denied in
     (few, (ap (option_map (λ (r : WriteRefusal). was_written (Err r))) free, (ap (λ (w : Written). was_written (Ok w)) is, refl)))
 
+pub resize_step : (h : History) (viewer cols rows stamp : ℕ) (frame : List Instr) → IsScreenSize cols rows → resize_refusal h viewer cols rows ≡ None → stamp ≡ newest h + 1 → Shape cols rows frame stamp → OpensScreen frame
+    → Step h (resize viewer cols rows) (was_resized (Ok stamp)) (Size viewer cols rows stamp frame ∷ [])
+resize_step h viewer cols rows stamp frame size free is_next shape opens = (
+  size,
+  (
+    ap (option_map (λ (r : ResizeRefusal). was_resized (Err r))) free,
+    (frame, subst (λ (t : ℕ). Shape cols rows frame t) is_next shape, opens, ap (λ (t : ℕ). was_resized (Ok t)) is_next, ap (λ (t : ℕ). Size viewer cols rows t frame) is_next),
+  ),
+)
+
 -- a take adds nothing where it hands out nothing
 pub take_step : (h : History) (most : ℕ) (bytes : List ℕ) (closed : Bool) → bytes ≡ take most (untaken h) → closed ≡ is_closed h → Step h (take_most most) (was_taken bytes closed) (take_entry (length bytes))
 take_step h most bytes closed hands closes = from bytes hands
@@ -103,6 +115,9 @@ read_stopped h viewer r e = (tt, ap (option_map was_read) e)
 
 pub write_stop : (h : History) (viewer : ℕ) (acts : List Act) (r : WriteRefusal) → IsWrite acts → write_refusal h viewer ≡ Some r → Step h (write viewer acts) (was_written (Err r)) []
 write_stop h viewer acts r few e = (few, ap (option_map (λ (r : WriteRefusal). was_written (Err r))) e)
+
+pub resize_stop : (h : History) (viewer cols rows : ℕ) (r : ResizeRefusal) → IsScreenSize cols rows → resize_refusal h viewer cols rows ≡ Some r → Step h (resize viewer cols rows) (was_resized (Err r)) []
+resize_stop h viewer cols rows r size e = (size, ap (option_map (λ (r : ResizeRefusal). was_resized (Err r))) e)
 
 pub leave_stop : (h : History) (viewer : ℕ) (r : NoViewer) → leave_refusal h viewer ≡ Some r → Step h (leave viewer) (was_left (Err r)) []
 leave_stop h viewer r e = (tt, ap (option_map (λ (r : NoViewer). was_left (Err r))) e)

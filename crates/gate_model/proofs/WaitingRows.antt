@@ -12,7 +12,7 @@ use Rattle.gate_model.specs.declared.instr.Instr.TheVariants.{Sync}
 use Rattle.gate_model.specs.declared.entry.Entry.TheVariants.{Start, Feed, Join, Read, Write, Close}
 use Rattle.gate_model.specs.session.History.{History}
 use Rattle.gate_model.specs.session.Refusals.{read_stop}
-use Rattle.gate_model.specs.session.Waiting.{awaited, waiting, left_by_all}
+use Rattle.gate_model.specs.session.Waiting.{awaited, waiting}
 
 abbrev opened : History
 opened = Join 2 Keep (Sync 1 ∷ []) ∷ Join 1 Control (Sync 1 ∷ []) ∷ Start 2 1 Nobody [] 99 1 (Sync 1 ∷ []) ∷ []

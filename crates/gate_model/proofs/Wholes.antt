@@ -11,7 +11,7 @@ use Rattle.gate_model.specs.declared.how.How.TheVariants.{Suffix, Fresh}
 use Rattle.gate_model.specs.declared.instr.Instr.{Instr}
 use Rattle.gate_model.specs.declared.instr.Instr.TheVariants.{Sync}
 use Rattle.gate_model.specs.declared.entry.Entry.{Entry}
-use Rattle.gate_model.specs.declared.entry.Entry.TheVariants.{Start, Feed, Join, Read, Write, Take, Leave, Close}
+use Rattle.gate_model.specs.declared.entry.Entry.TheVariants.{Start, Feed, Size, Join, Read, Write, Take, Leave, Close}
 use Rattle.gate_model.specs.Sequences.{BeginsWith}
 use Rattle.gate_model.specs.picture.KeyGrid.{KeyGrid}
 use Rattle.gate_model.specs.picture.Layers.{Layer, Layers, HasNoPaths, IsAlike, Same, ShowsPicture, draw, nothing, visible}
@@ -78,6 +78,7 @@ closing_is_quiet : (h : History) → IsQuiet (closing h)
 closing_is_quiet [] = inl refl
 closing_is_quiet (Start cols rows mode term entries stamp frame ∷ g) = closing_is_quiet g
 closing_is_quiet (Feed bytes stamp frame ∷ g) = closing_is_quiet g
+closing_is_quiet (Size viewer cols rows stamp frame ∷ g) = closing_is_quiet g
 closing_is_quiet (Join viewer role first ∷ g) = closing_is_quiet g
 closing_is_quiet (Read viewer how ∷ g) = closing_is_quiet g
 closing_is_quiet (Write viewer acts ∷ g) = closing_is_quiet g
@@ -298,6 +299,7 @@ module _ (g : History) (e : Entry) (c : Course g) (a : AddsNoFrame e) (f : Facts
 -- a legal history has an entry with its newest stamp
 newest_next : (g : History) (e : Entry) → IsNext g e → has_entry_at g (newest g) ≡ true → has_entry_at (e ∷ g) (newest (e ∷ g)) ≡ true
 newest_next g (Feed bytes stamp frame) n there = rw (eq-eqb stamp stamp refl) refl
+newest_next g (Size viewer cols rows stamp frame) n there = rw (eq-eqb stamp stamp refl) refl
 newest_next g (Join viewer role first) n there = there
 newest_next g (Read viewer how) n there = there
 newest_next g (Write viewer acts) n there = there
@@ -333,6 +335,7 @@ no_frame e f s = record { framed_is = f; stamp_is = s }
 next_course : (g : History) (e : Entry) → Course g → Legal g → Facts (e ∷ g) → AllGrowing g → IsNext g e → IsRestoring g e → Course (e ∷ g)
 next_course g (Start cols rows mode term entries stamp frame) c l f d s r = absurd s
 next_course g (Feed bytes stamp frame) c l f d s r = frame_course g (Feed bytes stamp frame) _ _ stamp frame c record { framed_is = refl; stamp_is = refl; rises = omega (arith, s.is_next); shape = s.shape } f (λ v. refl)
+next_course g (Size viewer cols rows stamp frame) c l f d s r = frame_course g (Size viewer cols rows stamp frame) _ _ stamp frame c record { framed_is = refl; stamp_is = refl; rises = omega (arith, s.is_next); shape = s.shape } f (λ v. refl)
 next_course g (Join viewer role first) c l f d s r = plain_course g (Join viewer role first) c (no_frame (Join viewer role first) refl refl) f d (newest_there g l) (join_gives g viewer role first s r)
 next_course g (Read viewer how) c l f d s r = plain_course g (Read viewer how) c (no_frame (Read viewer how) refl refl) f d (newest_there g l) (read_gives g viewer how s r)
 next_course g (Write viewer acts) c l f d s r = plain_course g (Write viewer acts) c (no_frame (Write viewer acts) refl refl) f d (newest_there g l) (λ v. inl refl)

@@ -2,6 +2,7 @@
 pub mod Characters
 pub mod Parameters
 pub mod Controls
+pub mod Sizes
 pub mod Cells
 pub mod Terminal
 pub mod Arguments
@@ -12,6 +13,7 @@ pub mod Scrolling
 pub mod Editing
 pub mod Printing
 pub mod Modes
+pub mod Resizing
 pub mod Effects
 pub mod Reports
 pub mod Screens

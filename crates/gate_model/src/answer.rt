@@ -1,6 +1,6 @@
 use crate::{
     Bytes, Closed, FeedRefusal, JoinRefusal, Joined, NoViewer, ReadAnswer, ReadRefusal,
-    WriteRefusal, Written,
+    ResizeRefusal, WriteRefusal, Written,
 };
 
 /// The answer to an [`Event`](crate::Event).
@@ -14,6 +14,8 @@ pub enum Answer {
     Read(Result<ReadAnswer, ReadRefusal>),
     /// How many keys count, and how many were denied.
     Write(Result<Written, WriteRefusal>),
+    /// The stamp of the frame that was made.
+    Resize(Result<u64, ResizeRefusal>),
     /// The bytes that were taken, and whether the session is closed.
     Take { bytes: Bytes, closed: bool },
     /// The viewer left.

@@ -20,6 +20,14 @@ pub enum Entry {
         stamp: u64,
         frame: Instrs,
     },
+    /// A viewer gave the screen another size, and a frame was made.
+    Size {
+        viewer: u32,
+        cols: u16,
+        rows: u16,
+        stamp: u64,
+        frame: Instrs,
+    },
     /// A viewer joined and was given its first instructions.
     Join {
         viewer: u32,

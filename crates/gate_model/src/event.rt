@@ -11,6 +11,8 @@ pub enum Event {
     Read { viewer: u32 },
     /// A viewer's instructions.
     Write { viewer: u32, acts: Acts },
+    /// A viewer gives the screen another size.
+    Resize { viewer: u32, cols: u16, rows: u16 },
     /// At most so many bytes are taken for the Telnet host.
     Take { most: u64 },
     /// A viewer leaves.

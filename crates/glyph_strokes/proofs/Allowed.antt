@@ -53,6 +53,11 @@ module _ (cols rows : ℕ) where
   covering_draws k left top key =
       (rw (equal_self k) refl, subst (λ (u : List ℤ). Draws cols rows u (inked k left top (rects key.face key.under) key.ink)) (sym (none_left 1 k)) (inked_draws k left top (rects key.face key.under) key.ink))
 
+  -- one rectangle and its fill
+  pub area_draws : (k : ℤ) (left top width height paper : ℕ) → Draws cols rows [] (Rect k left top width height ∷ fill k paper ∷ [])
+  unfolding fill times
+  area_draws k left top width height paper = (rw (equal_self k) refl, none_left 1 k)
+
 -- ---- colours
 is_colour : List ℕ → Bool
 is_colour rgb = nat_lt (slice_index rgb 0) 256 && (nat_lt (slice_index rgb 1) 256 && nat_lt (slice_index rgb 2) 256)
@@ -73,7 +78,7 @@ palette_is : (index : ℕ) → is_colour (slice_index_or palette index (0 ∷ 0 
 unfolding is_colour
 palette_is index = at_place is_colour palette index (0 ∷ 0 ∷ 0 ∷ []) refl refl
 
-fill_readable : (k : ℤ) (index : ℕ) → IsLayer k → IsInRange (fill k index)
+pub fill_readable : (k : ℤ) (index : ℕ) → IsLayer k → IsInRange (fill k index)
 unfolding fill colour_of is_colour
 fill_readable k index layer =
     let rgb = slice_index_or palette index (0 ∷ 0 ∷ 0 ∷ []) in

@@ -1,5 +1,5 @@
 -- What a key's paper and glyph leave of a layer, painted over the cell that begins at some pixel: the key's glyph there, and elsewhere what was there.
-use Rattle.std.proofs.Common.{◌≡◌, ℕ, ◌+◌, ◌-◌, ◌<◌, ◌≤◌, ℤ, List, [], ◌∷◌, ◌++◌, map, Bool, true, false, ◌&&◌, ◌||◌, nat_le, nat_lt, if◌then◌else◌, Option, Some, refl, sym, ap, subst, ◌∙◌, arith}
+use Rattle.std.proofs.Common.{◌≡◌, ℕ, ◌+◌, ◌-◌, ◌<◌, ◌≤◌, ℤ, List, [], ◌∷◌, ◌++◌, map, Bool, true, false, not, ◌&&◌, ◌||◌, ◌==◌, nat_le, nat_lt, if◌then◌else◌, Option, Some, refl, sym, ap, subst, ◌∙◌, arith}
 use Rattle.std.specs.List.{list_any, All}
 use Rattle.std.specs.Ordering.{int_eq}
 use Rattle.std.proofs.lemmas.Bool.Decides.{nat_tests, Decides-int_eq}
@@ -11,7 +11,7 @@ use Rattle.gate_model.specs.declared.key.Key.{Key}
 use Rattle.glyph_table.specs.declared.patch.Patch.{Patch}
 use Rattle.gate_model.specs.picture.Palette.{colour_of}
 use Rattle.gate_model.specs.picture.Glyphs.{glyph, lit}
-use Rattle.glyph_table.specs.GlyphRects.{IsInside, covers, rects}
+use Rattle.glyph_table.specs.GlyphRects.{IsInside, column_rects, columns_rects, covers, rects, runs_within}
 use Rattle.gate_model.specs.picture.Layers.{Area, Layer, Layers, IsAlike, draw, play, with_layer, is_covered, is_in, open_path, painted, sized, traced}
 use Rattle.gate_model.specs.picture.Buffers.{glyph_layer}
 use Rattle.glyph_table.proofs.GlyphRects.{rects_cover, rects_inside}
@@ -186,23 +186,35 @@ painted_showing l first list c w h pixel s = record {
 abbrev pub cell_at : ℕ → ℕ → Area
 cell_at left top = record { x = left; y = top; width = 8; height = 16 }
 
-papered : (l : Layer) (k : ℤ) (left top paper : ℕ) → after l (Rect k left top 8 16 ∷ fill k paper ∷ []) ≡ painted (trace_all l (cell_at left top ∷ [])) (colour_of paper)
+papered : (l : Layer) (k : ℤ) (area : Area) (paper : ℕ) → after l (Rect k area.x area.y area.width area.height ∷ fill k paper ∷ []) ≡ painted (trace_all l (area ∷ [])) (colour_of paper)
 unfolding fill trace_all
-papered l k left top paper = refl
+papered l k area paper = refl
+
+abbrev pub area_pixel : Area → Colour → (ℕ → ℕ → Option Colour) → ℕ → ℕ → Option Colour
+area_pixel area c pixel x y = if is_covered area x y then Some c else pixel x y
+
+one_filled : (area : Area) (c : Colour) (pixel : ℕ → ℕ → Option Colour) (x y : ℕ) → filled_pixel (area ∷ []) c pixel x y ≡ area_pixel area c pixel x y
+unfolding filled_pixel
+one_filled area c pixel x y = ap (λ (t : Bool). if t then Some c else pixel x y) (or_false (is_covered area x y))
+
+-- an area of the layer has the colour, and the rest stays
+pub area_shows : (l : Layer) (k : ℤ) (area : Area) (paper w h : ℕ) (pixel : ℕ → ℕ → Option Colour) → IsShowing l w h pixel
+    → IsShowing (after l (Rect k area.x area.y area.width area.height ∷ fill k paper ∷ [])) w h (area_pixel area (colour_of paper) pixel)
+area_shows l k area paper w h pixel s =
+    subst (λ (n : Layer). IsShowing n w h (area_pixel area (colour_of paper) pixel)) (sym (papered l k area paper))
+    (same_pixels _ w h _ (area_pixel area (colour_of paper) pixel) (λ x y in_x in_y. one_filled area (colour_of paper) pixel x y)
+    (painted_showing l area [] (colour_of paper) w h pixel s))
+
+pub area_for : (k : ℤ) (area : Area) (paper : ℕ) → AreFor k (Rect k area.x area.y area.width area.height ∷ fill k paper ∷ [])
+unfolding fill
+area_for k area paper = (refl, (refl, tt))
 
 abbrev paper_pixel : ℕ → ℕ → Colour → (ℕ → ℕ → Option Colour) → ℕ → ℕ → Option Colour
-paper_pixel left top c pixel x y = if is_covered (cell_at left top) x y then Some c else pixel x y
-
-one_filled : (left top : ℕ) (c : Colour) (pixel : ℕ → ℕ → Option Colour) (x y : ℕ) → filled_pixel (cell_at left top ∷ []) c pixel x y ≡ paper_pixel left top c pixel x y
-unfolding filled_pixel
-one_filled left top c pixel x y = ap (λ (t : Bool). if t then Some c else pixel x y) (or_false (is_covered (cell_at left top) x y))
+paper_pixel left top c pixel x y = area_pixel (cell_at left top) c pixel x y
 
 paper_shows : (l : Layer) (k : ℤ) (left top paper w h : ℕ) (pixel : ℕ → ℕ → Option Colour) → IsShowing l w h pixel
     → IsShowing (after l (Rect k left top 8 16 ∷ fill k paper ∷ [])) w h (paper_pixel left top (colour_of paper) pixel)
-paper_shows l k left top paper w h pixel s =
-    subst (λ (n : Layer). IsShowing n w h (paper_pixel left top (colour_of paper) pixel)) (sym (papered l k left top paper))
-    (same_pixels _ w h _ (paper_pixel left top (colour_of paper) pixel) (λ x y in_x in_y. one_filled left top (colour_of paper) pixel x y)
-    (painted_showing l (cell_at left top) [] (colour_of paper) w h pixel s))
+paper_shows l k left top paper w h pixel s = area_shows l k (cell_at left top) paper w h pixel s
 
 -- ---- the ink of a glyph
 area_at : ℕ → ℕ → Patch → Area
@@ -415,3 +427,23 @@ covering_for k left top key = (refl, (refl, cases (rects key.face key.under)))
     cases : (ps : List Patch) → AreFor k (inked k left top ps key.ink)
     cases [] = tt
     cases (p ∷ ps) = inked_for k left top (p ∷ ps) key.ink
+
+-- ---- a blank cell has its paper's colour
+no_light : (x y : ℕ) → x < 8 → y < 16 → lit 32 false x y ≡ false
+unfolding rects columns_rects column_rects runs_within
+no_light x y in_x in_y = sym (rects_cover 32 false x y in_x in_y)
+
+from_eq : (a b : ℕ) → (a == b) ≡ true → a ≡ b
+from_eq a b e = grind (arith, nat_tests)
+
+not_under : (a b : Bool) → (a && not b) ≡ true → (a ≡ true) × (b ≡ false)
+not_under true false e = (refl, refl)
+not_under false b e = absurd (cc)
+not_under true true e = absurd (cc)
+
+pub blank_glyph : (key : Key) (x y : ℕ) → (key.face == 32 && not key.under) ≡ true → x < 8 → y < 16 → glyph key x y ≡ colour_of key.paper
+blank_glyph key x y e in_x in_y =
+    let t = not_under (key.face == 32) key.under e in
+    let dark : lit key.face key.under x y ≡ false =
+    ap (λ (n : ℕ). lit n key.under x y) (from_eq key.face 32 t.0) ∙ (ap (λ (b : Bool). lit 32 b x y) t.1 ∙ no_light x y in_x in_y) in
+    ap (λ (b : Bool). colour_of (if b then key.ink else key.paper)) dark

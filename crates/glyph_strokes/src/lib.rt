@@ -7,4 +7,4 @@
 
 mod strokes;
 
-pub use strokes::cover;
+pub use strokes::{cover, fill_with};

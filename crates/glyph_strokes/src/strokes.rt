@@ -53,9 +53,9 @@ fn draw_glyph(list: &mut Vec<Instr>, layer: i32, x: u32, y: u32, key: Key) -> Re
     Ok(())
 }
 
-// The fill of the layer's path with a colour of the palette.
+/// The fill of the layer's path with a colour of the palette.
 #[tactic(auto, unfolding(crate::specs::Strokes::fill))]
-fn fill_with(layer: i32, index: u8) -> Instr
+pub fn fill_with(layer: i32, index: u8) -> Instr
     requires { index < 16 }
     ensures { result ≡ fill layer index }
 {

@@ -1,11 +1,13 @@
 -- What a snapshot consists of (this project's own).
-use Rattle.std.specs.Prelude.{◌≡◌, ℕ, zero, suc, ◌*◌, ◌/◌, ◌%◌, ◌<◌, pos, negsuc, List, [], ◌∷◌, ◌++◌, Option, Some, None, slice_get, ◌⊎◌}
+use Rattle.std.specs.Prelude.{◌≡◌, ℕ, zero, suc, ◌*◌, ◌/◌, ◌%◌, ◌<◌, pos, negsuc, List, [], ◌∷◌, ◌++◌, length, Bool, true, false, Option, Some, None, slice_get, ◌⊎◌}
 use Rattle.gate_model.specs.declared.instr.Instr.{Instr}
 use Rattle.gate_model.specs.declared.key.Key.{Key}
 use Rattle.gate_model.specs.picture.KeyGrid.{KeyGrid}
 use Rattle.gate_model.specs.picture.Pictures.{key_at}
 use Rattle.gate_model.specs.picture.Buffers.{Buffers}
 use Rattle.frame_draw.specs.Strokes.{cell_copy}
+use Rattle.frame_draw.specs.Along.{is_on}
+use Rattle.frame_draw.specs.Leads.{Leads}
 use Rattle.glyph_strokes.specs.Strokes.{covering}
 use Rattle.join_snapshot.specs.Strokes.{buffer_of}
 
@@ -37,7 +39,19 @@ pub record AddsCell (keys : Buffers) (key : Key) (x y : ℕ) (list longer : List
   pub cell : IsCell keys key x y strokes
   pub added : longer ≡ list ++ strokes
 
--- the list grew by the cells of the first places, row by row
-abbrev pub AddsCells : Buffers → KeyGrid → List Instr → ℕ → List Instr → Type 0
-AddsCells keys now list zero longer = longer ≡ list
-AddsCells keys now list (suc n) longer = (before : List Instr) × AddsCells keys now list n before × AddsCell keys (key_at now.keys n) (n % now.cols) (n / now.cols) before longer
+-- .. where the place is wanted
+abbrev pub AddsPlace : Buffers → Key → ℕ → ℕ → Bool → List Instr → List Instr → Type 0
+AddsPlace keys key x y true list longer = AddsCell keys key x y list longer
+AddsPlace keys key x y false list longer = longer ≡ list
+
+-- the list grew by the cells of the first places, row by row, that are wanted
+abbrev pub AddsCells : Buffers → KeyGrid → List Bool → List Instr → ℕ → List Instr → Type 0
+AddsCells keys now wanted list zero longer = longer ≡ list
+AddsCells keys now wanted list (suc n) longer = (before : List Instr) × AddsCells keys now wanted list n before × AddsPlace keys (key_at now.keys n) (n % now.cols) (n / now.cols) (is_on wanted n) before longer
+
+-- blank strips were filled, and then the cells of the other places added
+pub record AddsPicture (keys : Buffers) (now : KeyGrid) (wanted : List Bool) (list longer : List Instr) : Type 0 where
+  pub between : List Instr
+  pub later : List Bool
+  pub led : Leads now list wanted between later
+  pub added : AddsCells keys now later between (length now.keys) longer

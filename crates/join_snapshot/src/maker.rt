@@ -4,9 +4,10 @@ ghost use Rattle.gate_model.specs.picture.Shape.{Shape};
 ghost use Rattle.gate_model.specs.session.Steps.{IsScreenSize};
 ghost use Rattle.gate_model.specs.terminal.Screens.{AreColoured, IsColoured};
 ghost use Rattle.glyph_cache.specs.Cache.{IsCache};
-ghost use Rattle.join_snapshot.specs.Snapshot.{AddsCell, AddsCells, all_buffers};
+ghost use Rattle.join_snapshot.specs.Snapshot.{AddsCell, AddsCells, AddsPicture, AddsPlace, all_buffers};
 
 use crate::strokes::{copy_to, make_buffer};
+use frame_draw::fill_blanks;
 use gate_model::{Instr, Instrs, Key, NoMemory, Shown};
 use glyph_cache::Cache;
 use glyph_strokes::cover;
@@ -25,14 +26,15 @@ pub fn snapshot(alloc: Global, now: &Shown, cache: &Cache, stamp: u64) -> Result
     ensures makes { IfOk result (λ is. Makes is now.now cache.now.keys) }
     ensures few { IfOk result (λ is. length is ≤ 3 + 40 * (now.now.cols * now.now.rows + 1024)) }
 {
-    let mut list = Vec::with_capacity(alloc, now.as_slice().len())?;
+    let mut wanted = vec![in alloc; true; now.as_slice().len()]?;
+    let mut list = Vec::new(alloc);
     list.push(Instr::Size {
         layer: 0,
         width: 8 * now.cols() as u32,
         height: 16 * now.rows() as u32,
     })?;
     make_buffers(&mut list, cache)?;
-    draw_places(&mut list, cache, now)?;
+    draw_picture(&mut list, cache, now, &mut wanted)?;
     list.push(Instr::Sync { stamp })?;
     Ok(Instrs::of(list))
 }
@@ -58,19 +60,59 @@ fn layer_of(number: u16) -> i32
     -1 - number as i32
 }
 
-// Every place of the screen, row by row.
-fn draw_places(list: &mut Vec<Instr>, cache: &Cache, now: &Shown) -> Result<(), NoMemory>
+// Every place of the screen: strips of blank places are filled, and the others follow, row by row.
+fn draw_picture(
+    list: &mut Vec<Instr>,
+    cache: &Cache,
+    now: &Shown,
+    wanted: &mut [bool],
+) -> Result<(), NoMemory>
     requires size { IsScreenSize now.now.cols now.now.rows }
     requires coloured { AreColoured now.now.keys }
-    ensures drawn { OnOk result (AddsCells cache.now.keys now.now list.old.items (length now.now.keys) list.new.items) }
-    ensures full { length now.now.keys ≡ now.now.rows * now.now.cols }
+    requires all { length wanted.now ≡ length now.now.keys }
+    ensures { OnOk result (AddsPicture cache.now.keys now.now wanted.old list.old.items list.new.items) }
+{
+    fill_blanks(list, wanted, now)?;
+    draw_places(list, cache, now, wanted)
+}
+
+// The places that are wanted, row by row.
+fn draw_places(
+    list: &mut Vec<Instr>,
+    cache: &Cache,
+    now: &Shown,
+    wanted: &[bool],
+) -> Result<(), NoMemory>
+    requires size { IsScreenSize now.now.cols now.now.rows }
+    requires coloured { AreColoured now.now.keys }
+    requires all { length wanted.now ≡ length now.now.keys }
+    ensures { OnOk result (AddsCells cache.now.keys now.now wanted.now list.old.items (length now.now.keys) list.new.items) }
 {
     let keys = now.as_slice();
     let cols = now.cols() as usize;
     for place in 0..keys.len() {
-        let x = (place % cols) as u32;
-        let y = (place / cols) as u32;
-        draw_cell(list, cache, keys[place], x, y)?;
+        let (x, y) = ((place % cols) as u32, (place / cols) as u32);
+        draw_place(list, cache, keys[place], x, y, wanted[place])?;
+    }
+    Ok(())
+}
+
+// The key at column `x` of row `y`, where the place is wanted.
+fn draw_place(
+    list: &mut Vec<Instr>,
+    cache: &Cache,
+    key: Key,
+    x: u32,
+    y: u32,
+    is_wanted: bool,
+) -> Result<(), NoMemory>
+    requires coloured { IsColoured key }
+    requires column { x < 512 }
+    requires row { y < 256 }
+    ensures { OnOk result (AddsPlace cache.now.keys key x y is_wanted list.old.items list.new.items) }
+{
+    if is_wanted {
+        draw_cell(list, cache, key, x, y)?;
     }
     Ok(())
 }

@@ -8,7 +8,7 @@ const UNICODE: u32 = 0x0100_0000;
 
 /// The character that a keysym stands for: one of Latin-1 is its own keysym, and any from U+0020 on
 /// has its code point and 0x01000000. No keysym stands for a control character.
-pub(crate) fn character(keysym: u32) -> Option<char>
+pub fn character(keysym: u32) -> Option<char>
     ensures { result ≡ code_point keysym }
 {
     let code = match keysym {

@@ -11,4 +11,5 @@ mod named;
 
 pub use encoding::encode;
 pub use key_bytes::KeyBytes;
-pub use modifiers::mods_after;
+pub use keysym::character;
+pub use modifiers::{alt_held, control_held, mods_after};

@@ -23,15 +23,15 @@ pub fn mods_after(mods: Mods, keysym: u32, pressed: bool) -> Mods
     after
 }
 
-// Whether either Control is held.
-pub(crate) fn control_held(mods: Mods) -> bool
+/// Whether either Control is held.
+pub fn control_held(mods: Mods) -> bool
     ensures { result ≡ control_held mods }
 {
     mods.control_left || mods.control_right
 }
 
-// Whether either Alt is held.
-pub(crate) fn alt_held(mods: Mods) -> bool
+/// Whether either Alt is held.
+pub fn alt_held(mods: Mods) -> bool
     ensures { result ≡ alt_held mods }
 {
     mods.alt_left || mods.alt_right

@@ -1,7 +1,8 @@
-ghost use Rattle.std.specs.Prelude.{◌≡◌, ◌+◌, ◌*◌, ◌<◌, ◌≤◌, ◌↔◌, IfOk, IsTrue, length};
-ghost use Rattle.gate_model.specs.terminal.Cells.{blank_grid, cell_at, place, put, erased, inserted, deleted, scrolled_up, scrolled_down};
+ghost use Rattle.std.specs.Prelude.{◌≡◌, ◌+◌, ◌*◌, ◌<◌, ◌≤◌, ◌↔◌, IfOk, IsTrue, length, OnErr, OnOk};
+ghost use Rattle.gate_model.specs.terminal.Cells.{blank_grid, cell_at, kept_at, place, put, erased, inserted, deleted, resized, scrolled_up, scrolled_down};
 ghost use Rattle.screen_grid.specs.Runs.{put_run};
 
+use crate::runs::BLANK;
 use crate::window::Window;
 use gate_model::{Cell, NoMemory};
 use std::alloc::Global;
@@ -162,6 +163,44 @@ impl Grid {
         let start = self.place(0, top);
         let end = self.place(0, bottom + 1);
         self.held.move_right(start, end, count);
+    }
+
+    /// Gives the grid another size: the cells of the places that both sizes have stay, and all others are blank. Refused
+    /// for want of memory alone, and then nothing changed (this project's own rule).
+    pub fn resize(&mut self, alloc: Global, cols: u16, rows: u16) -> Result<(), NoMemory>
+        ensures cells { OnOk result (self.new ≡ resized cols rows self.old) }
+        ensures unchanged { OnErr result (self.new ≡ self.old) }
+    {
+        let held = self.refitted(alloc, cols, rows)?;
+        self.columns = cols;
+        self.lines = rows;
+        self.held = held;
+        Ok(())
+    }
+
+    // The cells of another size.
+    fn refitted(&self, alloc: Global, cols: u16, rows: u16) -> Result<Window, NoMemory>
+        ensures { IfOk result (λ w. w ≡ (resized cols rows self.now).cells) }
+    {
+        let count = rows as usize * cols as usize;
+        let mut held = Window::new(alloc, count)?;
+        for at in 0..count {
+            let x = (at % cols as usize) as u16;
+            let y = (at / cols as usize) as u16;
+            held.put(at, self.kept(x, y));
+        }
+        Ok(held)
+    }
+
+    // The cell at a place; blank where the grid doesn't have it.
+    fn kept(&self, x: u16, y: u16) -> Cell
+        ensures { result ≡ kept_at x y self.now }
+    {
+        if self.fits(x, y) {
+            self.cell(x, y)
+        } else {
+            BLANK
+        }
     }
 
     // The place of column `x` of row `y`, counted row by row.

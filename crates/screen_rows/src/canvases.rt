@@ -160,7 +160,8 @@ fn put(canvas: &mut Canvas, layer: i32, (x, y): (u32, u32), letter: u8) -> Resul
     play(canvas, &fill(layer, letter))
 }
 
-fn play(canvas: &mut Canvas, instr: &Instr) -> Result<()> {
+/// Plays an instruction.
+pub fn play(canvas: &mut Canvas, instr: &Instr) -> Result<()> {
     if !is_playable(instr) {
         bail!("not playable");
     }

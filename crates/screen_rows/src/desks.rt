@@ -7,7 +7,7 @@ ghost use Rattle.gate_model.specs.session.Calls.{MeetsCondition};
 use anyhow::{Context, Result, bail};
 use desk_core::{Answer, Desk, Event, JoinRefusal, NoMemory, Setup};
 use gate_model::{Act, Acts, Asked, Bytes, Cause, Role, Share, Text};
-use row_words::{asked_of, bytes_of, first_word, push_escaped, push_hexadecimal, share_of};
+use row_words::{asked_of, bytes_of, first_word, push_escaped, push_hexadecimal, share_of, size};
 use std::alloc::Global;
 
 /// The answers to calls, which stand apart by `; ` behind the share mode and the entries that the session
@@ -38,6 +38,17 @@ fn answers_of(desk: &mut Desk, alloc: Global, events: &[Event]) -> Result<String
     told(alloc, desk, answers.as_slice(), &given)
 }
 
+/// What is given by calls.
+pub fn given(desk: &mut Desk, alloc: Global, calls: &str) -> Result<Vec<u8>> {
+    let events = events_of(alloc, calls)?;
+    let mut given = Vec::new(alloc);
+    let _answers = desk
+        .run(alloc, &events, &mut given)
+        .ok()
+        .context("no memory")?;
+    Ok(given)
+}
+
 // The answers, what the desk tells then, and the end of what was given.
 fn told(alloc: Global, desk: &Desk, answers: &[Answer], given: &[u8]) -> Result<String> {
     let mut text = String::new(alloc);
@@ -50,7 +61,8 @@ fn told(alloc: Global, desk: &Desk, answers: &[Answer], given: &[u8]) -> Result<
     Ok(text)
 }
 
-fn opened(alloc: Global, mode: Share, entries: u64) -> Result<Desk> {
+/// A desk that was opened so.
+pub fn opened(alloc: Global, mode: Share, entries: u64) -> Result<Desk> {
     if entries < 1 || 1 << 40 < entries {
         bail!("no number of entries");
     }
@@ -100,6 +112,7 @@ fn event_of(alloc: Global, call: &str) -> Result<Event>
         "feed" => feed_of(bytes_of(alloc, rest)?),
         "read" => read_of(rest),
         "write" => write_of(alloc, rest),
+        "size" => size_of(rest),
         "take" => take_of(rest),
         "leave" => leave_of(rest),
         "close" => close_of(rest),
@@ -119,6 +132,19 @@ fn read_of(word: &str) -> Result<Event>
 {
     let viewer = word.parse::<u32>()?;
     Ok(Event::Read { viewer })
+}
+
+// Another size: the viewer, the columns and the rows.
+fn size_of(words: &str) -> Result<Event>
+    ensures { IfOk result MeetsCondition }
+{
+    let (viewer, words) = first_word(words);
+    let viewer = viewer.parse::<u32>()?;
+    let (cols, rows, _end) = size(words)?;
+    if cols < 1 || 512 < cols || rows < 1 || 256 < rows {
+        bail!("no size");
+    }
+    Ok(Event::Resize { viewer, cols, rows })
 }
 
 fn take_of(word: &str) -> Result<Event>
@@ -201,6 +227,7 @@ fn push_answer(text: &mut String, answer: &Answer) -> Result<()> {
         Answer::Join(joined) => write!(text, "{joined:?}")?,
         Answer::Read(given) => write!(text, "{given:?}")?,
         Answer::Write(written) => write!(text, "{written:?}")?,
+        Answer::Resize(sized) => write!(text, "{sized:?}")?,
         Answer::Leave(left) => write!(text, "{left:?}")?,
         Answer::Close(closed) => write!(text, "{closed:?}")?,
         Answer::Take { bytes, closed } => push_taken(text, bytes.as_slice(), *closed)?,

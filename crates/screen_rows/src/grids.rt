@@ -13,6 +13,9 @@ const BLANK: Cell = Cell {
     under: false,
 };
 
+// The most columns and rows of a grid whose letters are told.
+const MOST: u16 = 8;
+
 /// The grid after an edit of a copy of it, or what a new grid of a size is.
 pub fn edited(alloc: Global, input: &str) -> Result<String> {
     let (name, rest) = first_word(input);
@@ -39,7 +42,7 @@ fn edited_copy(alloc: Global, grid: &Grid, name: &str, numbers: &[u32]) -> Resul
 }
 
 fn text_after(alloc: Global, grid: &mut Grid, name: &str, numbers: &[u32]) -> Result<String> {
-    edit(grid, name, numbers)?;
+    edit(alloc, grid, name, numbers)?;
     text_of(alloc, grid)
 }
 
@@ -64,7 +67,12 @@ fn letters(alloc: Global) -> Result<Grid> {
     Ok(grid)
 }
 
-fn edit(grid: &mut Grid, name: &str, numbers: &[u32]) -> Result<()> {
+fn edit(alloc: Global, grid: &mut Grid, name: &str, numbers: &[u32]) -> Result<()> {
+    if let [cols, rows] = numbers {
+        let cols = u16::try_from(*cols)?;
+        let rows = u16::try_from(*rows)?;
+        return grid.resize(alloc, cols, rows).ok().context("no memory");
+    }
     let [a, b, c] = numbers else {
         bail!("not three numbers");
     };
@@ -86,16 +94,22 @@ fn edit(grid: &mut Grid, name: &str, numbers: &[u32]) -> Result<()> {
 // The letters, row by row, with `.` for a blank; `!` stands for a cell that is neither blank nor as it was put.
 fn text_of(alloc: Global, grid: &Grid) -> Result<String> {
     let mut text = String::new(alloc);
-    for place in 0..12u16 {
-        let (x, y) = (place % 4, place / 4);
-        if grid.fits(x, y) {
-            text.push(letter_of(grid.cell(x, y)))?;
-        }
-        if x == 3 {
-            text.push('|')?;
+    for y in 0..MOST {
+        if grid.fits(0, y) {
+            push_row(&mut text, grid, y)?;
         }
     }
     Ok(text)
+}
+
+fn push_row(text: &mut String, grid: &Grid, y: u16) -> Result<()> {
+    for x in 0..MOST {
+        if grid.fits(x, y) {
+            text.push(letter_of(grid.cell(x, y)))?;
+        }
+    }
+    text.push('|')?;
+    Ok(())
 }
 
 fn letter_of(cell: Cell) -> char {

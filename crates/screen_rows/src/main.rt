@@ -12,6 +12,7 @@ mod desks;
 mod grids;
 mod screens;
 mod topics;
+mod views;
 
 use crate::topics::value;
 use anyhow::{Context, Result};

@@ -1,6 +1,7 @@
 //! What a screen shows after bytes of the host, and what it reports.
 
-ghost use Rattle.std.specs.Prelude.{IfSome};
+ghost use Rattle.std.specs.Prelude.{IfSome, IsTrue};
+ghost use Rattle.gate_model.specs.terminal.Sizes.{IsScreenSize};
 ghost use Rattle.gate_model.specs.terminal.Controls.{HasFewParameters};
 
 use anyhow::{Context, Result, bail};
@@ -12,15 +13,30 @@ use vt_screen::Screen;
 
 // A screen of the start.
 fn open(alloc: Global, cols: u16, rows: u16) -> Result<Screen> {
-    if cols < 1 || 512 < cols || rows < 1 || 256 < rows {
+    if !is_size(cols, rows) {
         bail!("no size");
     }
     Screen::new(alloc, cols, rows).ok().context("no memory")
 }
 
+fn is_size(cols: u16, rows: u16) -> bool
+    ensures { IsTrue result → IsScreenSize cols rows }
+{
+    1 <= cols && cols <= 512 && 1 <= rows && rows <= 256
+}
+
 // Applies the control functions of the bytes, and appends the reports.
 fn apply(screen: &mut Screen, bytes: &[u8], reports: &mut Vec<u8>) -> Result<()> {
-    let mut parser = Parser::new();
+    apply_on(screen, &mut Parser::new(), bytes, reports)
+}
+
+// The same where the bytes go on.
+fn apply_on(
+    screen: &mut Screen,
+    parser: &mut Parser,
+    bytes: &[u8],
+    reports: &mut Vec<u8>,
+) -> Result<()> {
     for byte in bytes {
         let pair = parser.feed(*byte);
         apply_one(screen, pair.first, reports)?;
@@ -57,10 +73,14 @@ pub fn seen(alloc: Global, input: &str) -> Result<String> {
 fn seen_after(screen: &mut Screen, alloc: Global, bytes: &[u8]) -> Result<String> {
     let mut reports = Vec::new(alloc);
     apply(screen, bytes, &mut reports)?;
+    seen_with(screen, alloc, &reports)
+}
+
+fn seen_with(screen: &mut Screen, alloc: Global, reports: &[u8]) -> Result<String> {
     let mut text = String::new(alloc);
     push_faces(&mut text, screen, alloc)?;
     push_position(&mut text, screen, alloc)?;
-    push_reports(&mut text, screen.shift(), &reports)?;
+    push_reports(&mut text, screen.shift(), reports)?;
     Ok(text)
 }
 
@@ -163,6 +183,38 @@ fn moved(before: &Shown, after: &Shown, but: u16) -> bool {
             && 0 < after.cols()
             && before.key(0, y).face != after.key(0, y).face
     })
+}
+
+/// The same after parts of the bytes, each on the size that stands before it.
+pub fn resized(alloc: Global, input: &str) -> Result<String> {
+    let (cols, rows, _bytes) = size(input)?;
+    let mut screen = open(alloc, cols, rows)?;
+    resized_after(&mut screen, alloc, input)
+}
+
+fn resized_after(screen: &mut Screen, alloc: Global, parts: &str) -> Result<String> {
+    let reports = reports_of_parts(screen, alloc, parts)?;
+    seen_with(screen, alloc, &reports)
+}
+
+// Gives the screen the parts, and answers the reports.
+fn reports_of_parts(screen: &mut Screen, alloc: Global, parts: &str) -> Result<Vec<u8>> {
+    let mut parser = Parser::new();
+    let mut reports = Vec::new(alloc);
+    for part in parts.split(" | ") {
+        let (cols, rows, bytes) = size(part)?;
+        turn(screen, alloc, cols, rows)?;
+        apply_on(screen, &mut parser, &bytes_of(alloc, bytes)?, &mut reports)?;
+    }
+    Ok(reports)
+}
+
+// Gives the screen another size.
+fn turn(screen: &mut Screen, alloc: Global, cols: u16, rows: u16) -> Result<()> {
+    if !is_size(cols, rows) {
+        bail!("no size");
+    }
+    screen.resize(alloc, cols, rows).ok().context("no memory")
 }
 
 /// The ink, the paper and the underline of the first cell.

@@ -1,6 +1,6 @@
 //! Which calls are made for the rows of a file.
 
-use crate::{canvases, desks, grids, screens};
+use crate::{canvases, desks, grids, screens, views};
 use anyhow::{Result, bail};
 use std::alloc::Global;
 
@@ -9,6 +9,7 @@ pub fn value(alloc: Global, topic: &str, input: &str) -> Result<String> {
     match topic {
         "grids" => grids::edited(alloc, input),
         "screens" => screens::seen(alloc, input),
+        "resizes" => screens::resized(alloc, input),
         "looks" => screens::look(alloc, input),
         "reports" => screens::reports(alloc, input),
         "shifts" => screens::shifts(alloc, input),
@@ -18,6 +19,7 @@ pub fn value(alloc: Global, topic: &str, input: &str) -> Result<String> {
         "dots" => canvases::dot(alloc, input),
         "sames" => canvases::same(alloc, input),
         "desks" => desks::answers(alloc, input),
+        "views" => views::compared(alloc, input),
         "desk_roles" => desks::roles(alloc, input),
         _ => bail!("no such topic"),
     }

@@ -1,1 +1,2 @@
 pub mod StopMoves
+pub mod Resizing

@@ -1,5 +1,5 @@
 ghost use Rattle.std.specs.Prelude.{◌≡◌, ◌<◌, ◌≤◌, length, slice_set, true, IfOk};
-ghost use Rattle.gate_model.specs.terminal.TabStops.{stop_above, stop_below, stops_above, stops_below, stops_cleared};
+ghost use Rattle.gate_model.specs.terminal.TabStops.{stop_above, stop_below, stops_above, stops_below, stops_cleared, stops_resized};
 ghost use Rattle.gate_model.specs.terminal.Terminal.{first_stops, is_first_stop};
 
 use gate_model::NoMemory;
@@ -37,6 +37,18 @@ impl TabStops {
         ensures { IfOk result (λ s. s ≡ self.now) }
     {
         let held = Vec::from_slice(alloc, &self.held)?;
+        Ok(TabStops { held })
+    }
+
+    /// The stops of so many columns: those that are there stay, and the columns that come in have the stops of the start
+    /// (this project's own rule). Refused for want of memory alone.
+    pub fn resized(&self, alloc: Global, columns: u16) -> Result<TabStops, NoMemory>
+        ensures { IfOk result (λ s. s ≡ stops_resized columns self.now) }
+    {
+        let first = TabStops::new(alloc, columns)?;
+        let kept = self.held.len().min(first.held.len());
+        let mut held = Vec::from_slice(alloc, &self.held[..kept])?;
+        held.extend_from_slice(&first.held[kept..])?;
         Ok(TabStops { held })
     }
 

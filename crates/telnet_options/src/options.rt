@@ -1,6 +1,6 @@
 ghost use Rattle.std.specs.Prelude.{◌≡◌, ◌++◌, OnOk, OnErr, true, false};
 ghost use Rattle.gate_model.specs.Sequences.{BeginsWith};
-ghost use Rattle.gate_model.specs.telnet.OptionAnswers.{all_off, if_off, if_on, reply, do_answer, dont_answer, will_answer, wont_answer, option_answer, own_set, peer_set, switches_after};
+ghost use Rattle.gate_model.specs.telnet.OptionAnswers.{all_off, if_off, if_on, reply, do_answer, dont_answer, will_answer, wont_answer, option_answer, own_set, size_text, peer_set, switches_after};
 
 use crate::codes::{ECHO, SEND, SUPPRESS_GO_AHEAD, TERMINAL_TYPE, WINDOW_SIZE};
 use crate::replies::{put_reply, put_size, put_terminal};
@@ -52,6 +52,23 @@ impl Options {
         let put = self.answer(token, cols, rows, term, into);
         if put.is_err() {
             *self = old;
+            into.truncate(before);
+        }
+        put
+    }
+
+    /// Appends the window size, where it is told: where that option of this side is on (RFC 1073). Refused for want of
+    /// memory, it appends nothing.
+    pub fn resized(&self, cols: u16, rows: u16, into: &mut Vec<u8>) -> Result<(), NoMemory>
+        ensures appended { OnOk result (into.new.items ≡ into.old.items ++ if_on (switches self.now).own_size (size_text cols rows)) }
+        ensures unchanged { OnErr result (into.new.items ≡ into.old.items) }
+    {
+        if !self.own_size {
+            return Ok(());
+        }
+        let before = into.len();
+        let put = put_size(into, cols, rows);
+        if put.is_err() {
             into.truncate(before);
         }
         put

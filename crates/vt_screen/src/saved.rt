@@ -1,4 +1,5 @@
-ghost use Rattle.std.specs.Prelude.{◌≡◌};
+ghost use Rattle.std.specs.Prelude.{◌≡◌, ◌≤◌};
+ghost use Rattle.gate_model.specs.terminal.Resizing.{saved_within};
 ghost use Rattle.gate_model.specs.terminal.Terminal.{plain};
 
 use crate::pen::Pen;
@@ -31,6 +32,19 @@ impl Saved {
             x: 0,
             y: 0,
             pen: Pen::plain(),
+        }
+    }
+
+    // The same on a screen of another size: a place beyond it comes to its last column and row.
+    pub(crate) fn within(self, cols: u16, rows: u16) -> Saved
+        requires columns { 1 ≤ cols }
+        requires lines { 1 ≤ rows }
+        ensures { result ≡ saved_within cols rows self }
+    {
+        Saved {
+            x: self.x.min(cols - 1),
+            y: self.y.min(rows - 1),
+            pen: self.pen,
         }
     }
 }

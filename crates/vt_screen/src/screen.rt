@@ -1,6 +1,8 @@
-ghost use Rattle.std.specs.Prelude.{◌≡◌, ◌-◌, ◌^◌, min, IfOk};
+ghost use Rattle.std.specs.Prelude.{◌≡◌, ◌-◌, ◌^◌, min, IfOk, OnErr, OnOk};
 ghost use Rattle.gate_model.specs.terminal.Effects.{reset};
 ghost use Rattle.gate_model.specs.session.Steps.{IsScreenSize};
+ghost use Rattle.std.specs.Option.{option_map};
+ghost use Rattle.gate_model.specs.terminal.Resizing.{resized, saved_within};
 ghost use Rattle.gate_model.specs.terminal.Terminal.{opening_screen};
 
 use crate::modes::Modes;
@@ -94,6 +96,40 @@ impl Screen {
             modes: self.modes,
             shift: self.shift.copy(),
         })
+    }
+
+    /// Gives the screen another size, of 1 to 512 columns and 1 to 256 rows: the cells that both sizes have stay, and the
+    /// cursor comes to the last column and row where it was beyond. Refused for want of memory alone, and then nothing
+    /// changed (this project's own rule).
+    pub fn resize(&mut self, alloc: Global, cols: u16, rows: u16) -> Result<(), NoMemory>
+        requires { IsScreenSize cols rows }
+        ensures state { OnOk result (self.new ≡ resized cols rows self.old) }
+        ensures unchanged { OnErr result (self.new ≡ self.old) }
+    {
+        let saved = self.saved_within(cols, rows);
+        let stops = self.stops.resized(alloc, cols)?;
+        self.grid.resize(alloc, cols, rows)?;
+        self.columns = cols;
+        self.rows = rows;
+        self.x = self.x.min(cols - 1);
+        self.y = self.y.min(rows - 1);
+        self.pending = false;
+        self.top = 0;
+        self.bottom = rows - 1;
+        self.stops = stops;
+        self.saved = saved;
+        Ok(())
+    }
+
+    // What was saved, on a screen of another size.
+    fn saved_within(&self, cols: u16, rows: u16) -> Option<Saved>
+        requires { IsScreenSize cols rows }
+        ensures { result ≡ option_map (saved_within cols rows) self.now.saved }
+    {
+        match self.saved {
+            Some(saved) => Some(saved.within(cols, rows)),
+            None => None,
+        }
     }
 
     /// The lesser of 2^32 - 1 and the number of lines that the whole screen has scrolled up since

@@ -66,7 +66,7 @@ impl Desk {
     fn heard(&self, alloc: Global, bytes: &[u8]) -> Result<Heard, NoMemory>
         ensures { (h : History) → Stands self.now h → IfOk result (Follows h bytes.now) }
     {
-        let (cols, rows) = (self.setup.cols, self.setup.rows);
+        let (cols, rows) = (self.drawing.cols(), self.drawing.rows());
         self.host
             .hear(alloc, bytes, cols, rows, self.setup.term.as_str())
     }

@@ -5,12 +5,12 @@ ghost use Rattle.gate_model.specs.session.History.{History};
 ghost use Rattle.gate_model.specs.declared.event.Event.{Event};
 ghost use Rattle.gate_model.specs.declared.event.Event.TheVariants.{Take};
 ghost use Rattle.gate_model.specs.session.Calls.{MeetsCondition};
-ghost use Rattle.desk_core.specs.Calls.{feed_answer, join_answer, read_answer, write_answer};
+ghost use Rattle.desk_core.specs.Calls.{feed_answer, join_answer, read_answer, resize_answer, write_answer};
 
 use crate::desk::Desk;
 use gate_model::{
     Answer, Answers, Bytes, Event, FeedRefusal, JoinRefusal, Joined, NoMemory, ReadAnswer,
-    ReadRefusal, WriteRefusal, Written,
+    ReadRefusal, ResizeRefusal, WriteRefusal, Written,
 };
 use std::alloc::Global;
 
@@ -49,6 +49,9 @@ impl Desk {
             Event::Read { viewer } => read_answer(self.read(*viewer, into)),
             Event::Write { viewer, acts } => {
                 write_answer(self.write(alloc, *viewer, acts.as_slice()))
+            }
+            Event::Resize { viewer, cols, rows } => {
+                resize_answer(self.resize(alloc, *viewer, *cols, *rows))
             }
             Event::Take { most } => self.take_at_most(alloc, *most),
             Event::Leave { viewer } => Ok(Answer::Leave(self.leave(*viewer))),
@@ -110,5 +113,15 @@ fn write_answer(written: Result<Written, WriteRefusal>) -> Result<Answer, NoMemo
     match written {
         Err(WriteRefusal::NoMemory) => Err(NoMemory),
         written => Ok(Answer::Write(written)),
+    }
+}
+
+// The answer to a change of size, where memory didn't run short.
+fn resize_answer(resized: Result<u64, ResizeRefusal>) -> Result<Answer, NoMemory>
+    ensures { result ≡ resize_answer resized }
+{
+    match resized {
+        Err(ResizeRefusal::NoMemory) => Err(NoMemory),
+        resized => Ok(Answer::Resize(resized)),
     }
 }

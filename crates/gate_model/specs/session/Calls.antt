@@ -10,22 +10,23 @@ use Rattle.gate_model.specs.declared.how.How.TheVariants.{Suffix, Fresh as Pictu
 use Rattle.gate_model.specs.declared.instr.Instr.{Instr}
 use Rattle.gate_model.specs.declared.sharing.Role.{Role}
 use Rattle.gate_model.specs.declared.entry.Entry.{Entry}
-use Rattle.gate_model.specs.declared.entry.Entry.TheVariants.{Feed, Join, Read, Write, Take, Leave, Close}
+use Rattle.gate_model.specs.declared.entry.Entry.TheVariants.{Feed, Size, Join, Read, Write, Take, Leave, Close}
 use Rattle.gate_model.specs.declared.event.Event.{Event}
-use Rattle.gate_model.specs.declared.event.Event.TheVariants.{Feed as feed, Join as join, Read as read, Write as write, Take as take_most, Leave as leave, Close as close}
+use Rattle.gate_model.specs.declared.event.Event.TheVariants.{Feed as feed, Join as join, Read as read, Write as write, Resize as resize, Take as take_most, Leave as leave, Close as close}
 use Rattle.gate_model.specs.declared.answer.Answer.{Answer}
-use Rattle.gate_model.specs.declared.answer.Answer.TheVariants.{Feed as fed, Join as joined_as, Read as was_read, Write as was_written, Take as was_taken, Leave as was_left, Close as was_closed}
+use Rattle.gate_model.specs.declared.answer.Answer.TheVariants.{Feed as fed, Join as joined_as, Read as was_read, Write as was_written, Resize as was_resized, Take as was_taken, Leave as was_left, Close as was_closed}
 use Rattle.gate_model.specs.declared.read_answer.ReadAnswer.{ReadAnswer}
 use Rattle.gate_model.specs.declared.read_answer.ReadAnswer.TheVariants.{Frames, Fresh}
 use Rattle.gate_model.specs.Limits.{most_piece, most_acts}
-use Rattle.gate_model.specs.picture.Shape.{Shape}
+use Rattle.gate_model.specs.picture.Shape.{Shape, OpensScreen}
+use Rattle.gate_model.specs.terminal.Sizes.{IsScreenSize}
 use Rattle.gate_model.specs.session.History.{History, next_stamp, newest, size_now, frames, frames_after, joined, share_mode, is_closed}
 use Rattle.gate_model.specs.session.Rights.{may}
 use Rattle.gate_model.specs.session.Roles.{grant_of}
 use Rattle.gate_model.specs.session.Delivered.{position}
 use Rattle.gate_model.specs.session.Kept.{Covers}
 use Rattle.gate_model.specs.session.Output.{untaken}
-use Rattle.gate_model.specs.session.Refusals.{only_if, feed_refusal, join_refusal, read_stop, write_refusal, leave_refusal, close_refusal}
+use Rattle.gate_model.specs.session.Refusals.{only_if, feed_refusal, join_refusal, read_stop, write_refusal, resize_refusal, leave_refusal, close_refusal}
 
 -- ---- what a call is given
 
@@ -42,6 +43,7 @@ pub record IsWrite (acts : List Act) : Type 0 where
 abbrev pub MeetsCondition : Event → Type 0
 MeetsCondition (feed bytes now) = IsPiece bytes
 MeetsCondition (write viewer acts) = IsWrite acts
+MeetsCondition (resize viewer cols rows) = IsScreenSize cols rows
 MeetsCondition event = Unit {0}
 
 -- ---- a call that adds nothing
@@ -52,6 +54,7 @@ stop_of h (feed bytes now) = option_map (λ refusal. fed (Err refusal)) (feed_re
 stop_of h (join asked) = option_map (λ refusal. joined_as (Err refusal)) (join_refusal h asked)
 stop_of h (read viewer) = option_map was_read (read_stop h viewer)
 stop_of h (write viewer acts) = option_map (λ refusal. was_written (Err refusal)) (write_refusal h viewer)
+stop_of h (resize viewer cols rows) = option_map (λ refusal. was_resized (Err refusal)) (resize_refusal h viewer cols rows)
 stop_of h (take_most most) = only_if (length (take most (untaken h)) == 0) (was_taken [] (is_closed h))
 stop_of h (leave viewer) = option_map (λ refusal. was_left (Err refusal)) (leave_refusal h viewer)
 stop_of h (close cause) = option_map (λ refusal. was_closed (Err refusal)) (close_refusal h)
@@ -98,6 +101,8 @@ Adds h (read viewer) answer entry =
     (how : How) × Updates h (position h viewer) how × (answer ≡ was_read (Ok (updated_as h viewer how))) × (entry ≡ Read viewer how)
 Adds h (write viewer acts) answer entry = let keys = count_by is_key_act acts in
     (answer ≡ was_written (Ok record { keys = if may h viewer then keys else 0; denied = if may h viewer then 0 else keys })) × (entry ≡ Write viewer acts)
+Adds h (resize viewer cols rows) answer entry = let stamp = newest h + 1 in
+    (frame : List Instr) × Shape cols rows frame stamp × OpensScreen frame × (answer ≡ was_resized (Ok stamp)) × (entry ≡ Size viewer cols rows stamp frame)
 Adds h (take_most most) answer entry = let bytes = take most (untaken h) in
     (answer ≡ was_taken bytes (is_closed h)) × (entry ≡ Take (length bytes))
 Adds h (leave viewer) answer entry = (answer ≡ was_left (Ok tt)) × (entry ≡ Leave viewer)

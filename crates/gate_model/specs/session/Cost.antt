@@ -3,14 +3,15 @@ use Rattle.std.specs.Prelude.{ℕ, ◌+◌, ◌-◌, ◌*◌, ◌/◌, ◌%◌, 
 use Rattle.std.specs.List.{range_with_len}
 use Rattle.gate_model.specs.declared.key.Key.{Key}
 use Rattle.gate_model.specs.declared.entry.Entry.{Entry}
-use Rattle.gate_model.specs.declared.entry.Entry.TheVariants.{Start, Feed, Join, Read}
+use Rattle.gate_model.specs.declared.entry.Entry.TheVariants.{Start, Feed, Size, Join, Read}
 use Rattle.gate_model.specs.declared.how.How.TheVariants.{Fresh}
 use Rattle.gate_model.specs.picture.KeyGrid.{KeyGrid}
 use Rattle.gate_model.specs.picture.Pictures.{key_at}
 use Rattle.gate_model.specs.Limits.{most_buffers}
 use Rattle.gate_model.specs.picture.Buffers.{is_same_key, new_keys}
 use Rattle.gate_model.specs.terminal.Screens.{shown}
-use Rattle.gate_model.specs.session.History.{History, ScreenSize, at, size_now}
+use Rattle.gate_model.specs.session.History.{History, at, size_now}
+use Rattle.gate_model.specs.terminal.Sizes.{ScreenSize}
 
 -- ---- the places that changed
 
@@ -41,11 +42,12 @@ cost changed fresh = 3 + 2 * changed + 40 * fresh
 abbrev pub picture_cost : ScreenSize → ℕ
 picture_cost size = 3 + 40 * (size.columns * size.rows + most_buffers)
 
--- the keys that the screens at Start and the Feeds showed, each once, the oldest first
+-- the keys that the screens at Start, the Sizes and the Feeds showed, each once, the oldest first
 abbrev pub keys_shown : History → List Key
 keys_shown [] = []
 keys_shown (Start cols rows mode term entries stamp frame ∷ g) = new_keys [] (shown (at (Start cols rows mode term entries stamp frame ∷ g))).keys
 keys_shown (Feed bytes stamp frame ∷ g) = keys_shown g ++ new_keys (keys_shown g) (shown (at (Feed bytes stamp frame ∷ g))).keys
+keys_shown (Size viewer cols rows stamp frame ∷ g) = keys_shown g ++ new_keys (keys_shown g) (shown (at (Size viewer cols rows stamp frame ∷ g))).keys
 keys_shown (e ∷ g) = keys_shown g
 
 -- the lines of the whole screen that the last entry's bytes scrolled up

@@ -1,7 +1,7 @@
 -- What one entry of a history holds, one function for each thing that is asked of it.
 use Rattle.std.specs.Prelude.{ℕ, List, [], ◌∷◌, Option, Some, None, Bool, true, false, ◌==◌}
 use Rattle.gate_model.specs.declared.entry.Entry.{Entry}
-use Rattle.gate_model.specs.declared.entry.Entry.TheVariants.{Start, Feed, Join, Take, Leave, Close}
+use Rattle.gate_model.specs.declared.entry.Entry.TheVariants.{Start, Feed, Size, Join, Take, Leave, Close}
 use Rattle.gate_model.specs.declared.instr.Instr.{Instr}
 
 -- the bytes of a Feed
@@ -9,16 +9,18 @@ abbrev pub fed : Entry → List ℕ
 fed (Feed bytes stamp frame) = bytes
 fed e = []
 
--- the frame of a Start or a Feed, with its stamp
+-- the frame of a Start, a Feed or a Size, with its stamp
 abbrev pub framed : Entry → List (ℕ × List Instr)
 framed (Start cols rows mode term entries stamp frame) = (stamp, frame) ∷ []
 framed (Feed bytes stamp frame) = (stamp, frame) ∷ []
+framed (Size viewer cols rows stamp frame) = (stamp, frame) ∷ []
 framed e = []
 
--- the stamp of a Start or a Feed
+-- the stamp of a Start, a Feed or a Size
 abbrev pub stamp_of : Entry → Option ℕ
 stamp_of (Start cols rows mode term entries stamp frame) = Some stamp
 stamp_of (Feed bytes stamp frame) = Some stamp
+stamp_of (Size viewer cols rows stamp frame) = Some stamp
 stamp_of e = None
 
 abbrev pub is_join : Entry → Bool

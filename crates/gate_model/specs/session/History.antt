@@ -2,12 +2,13 @@
 use Rattle.std.specs.Prelude.{ℕ, ◌+◌, max, min, List, [], ◌∷◌, ◌++◌, length, unwrap_or, flat_map, filter, Option, Some, None, Bool, false, ◌==◌, nat_le, nat_lt, if◌then◌else◌}
 use Rattle.std.specs.List.{list_any}
 use Rattle.gate_model.specs.declared.entry.Entry.{Entry}
-use Rattle.gate_model.specs.declared.entry.Entry.TheVariants.{Start, Feed}
+use Rattle.gate_model.specs.declared.entry.Entry.TheVariants.{Start, Feed, Size}
 use Rattle.gate_model.specs.declared.instr.Instr.{Instr}
 use Rattle.gate_model.specs.declared.sharing.Share.{Share}
 use Rattle.gate_model.specs.declared.sharing.Share.TheVariants.{Nobody}
 use Rattle.gate_model.specs.Limits.{most_clock}
 use Rattle.gate_model.specs.terminal.Terminal.{Terminal}
+use Rattle.gate_model.specs.terminal.Sizes.{ScreenSize, Cut, sized}
 use Rattle.gate_model.specs.terminal.Screens.{screen}
 use Rattle.gate_model.specs.session.Entries.{fed, framed, stamp_of, is_join, is_close}
 
@@ -45,39 +46,49 @@ capacity [] = 0
 capacity (Start cols lines mode term entries stamp frame ∷ g) = entries
 capacity (e ∷ g) = capacity g
 
--- a size of the screen
-pub record ScreenSize : Type 0 where
-  pub columns : ℕ
-  pub rows : ℕ
+-- the size of the start
+abbrev pub first_size : History → ScreenSize
+first_size h = sized (columns h) (rows h)
 
--- the size in force: of the frames, of what the host is told, and of what it is answered. It is Start's
+-- the size in force: of the frames, of what the host is told, and of what it is answered. It is the last Size's, or
+-- Start's
 abbrev pub size_now : History → ScreenSize
-size_now h = record { columns = columns h; rows = rows h }
+size_now [] = sized 0 0
+size_now (Start cols lines mode term entries stamp frame ∷ g) = sized cols lines
+size_now (Size viewer cols lines stamp frame ∷ g) = sized cols lines
+size_now (e ∷ g) = size_now g
 
 -- the bytes of every Feed
 abbrev pub bytes : History → List ℕ
 bytes [] = []
 bytes (e ∷ g) = bytes g ++ fed e
 
+-- the changes of size, each after the bytes of the Feeds before it
+abbrev pub cuts : History → List Cut
+cuts [] = []
+cuts (Size viewer cols lines stamp frame ∷ g) = cuts g ++ record { after = length (bytes g); size = sized cols lines } ∷ []
+cuts (e ∷ g) = cuts g
+
 -- the screen that the history leaves
 abbrev pub at : History → Terminal
-at h = screen (columns h) (rows h) (bytes h)
+at h = screen (first_size h) (bytes h) (cuts h)
 
 -- the last stamp
 abbrev pub newest : History → ℕ
 newest [] = 0
 newest (e ∷ g) = unwrap_or (stamp_of e) (newest g)
 
--- the frames of Start and the Feeds with their stamps, the oldest first
+-- the frames of Start, the Feeds and the Sizes with their stamps, the oldest first
 abbrev pub frames : History → List (ℕ × List Instr)
 frames [] = []
 frames (e ∷ g) = frames g ++ framed e
 
--- the frame of the last Start or Feed
+-- the frame of the last Start, Feed or Size
 abbrev pub newest_frame : History → List Instr
 newest_frame [] = []
 newest_frame (Start cols lines mode term entries stamp frame ∷ g) = frame
 newest_frame (Feed bytes stamp frame ∷ g) = frame
+newest_frame (Size viewer cols lines stamp frame ∷ g) = frame
 newest_frame (e ∷ g) = newest_frame g
 
 -- the frames with stamps above t

@@ -18,10 +18,12 @@ use Rattle.gate_model.specs.declared.read_refusal.ReadRefusal.{ReadRefusal}
 use Rattle.gate_model.specs.declared.read_refusal.ReadRefusal.TheVariants.{NoViewer as read_no_viewer, Worn as read_worn}
 use Rattle.gate_model.specs.declared.write_refusal.WriteRefusal.{WriteRefusal}
 use Rattle.gate_model.specs.declared.write_refusal.WriteRefusal.TheVariants.{NoViewer as write_no_viewer, Closed as write_closed, Worn as write_worn}
-use Rattle.gate_model.specs.session.History.{History, newest, joined, share_mode, is_closed, is_full}
+use Rattle.gate_model.specs.declared.resize_refusal.ResizeRefusal.{ResizeRefusal}
+use Rattle.gate_model.specs.declared.resize_refusal.ResizeRefusal.TheVariants.{NoViewer as resize_no_viewer, Closed as resize_closed, Denied, Same, Worn as resize_worn}
+use Rattle.gate_model.specs.session.History.{History, newest, joined, share_mode, size_now, is_closed, is_full}
 use Rattle.gate_model.specs.Limits.{most_live, most_joined, most_waiting}
 use Rattle.gate_model.specs.session.Delivered.{position, ended}
-use Rattle.gate_model.specs.session.Rights.{is_live, live_count}
+use Rattle.gate_model.specs.session.Rights.{is_live, live_count, role_in, is_control}
 use Rattle.gate_model.specs.session.Waiting.{waiting}
 use Rattle.gate_model.specs.session.Roles.{grant_of}
 
@@ -81,6 +83,20 @@ write_refusal h viewer = first_of (
     only_if (not (is_live h viewer)) write_no_viewer
     ∷ option_map write_closed (close_cause h)
     ∷ only_if (is_full h) (write_worn (length h))
+    ∷ [])
+
+-- resize: the viewer isn't there; the session is closed; the viewer doesn't have the role Control; the size is in force;
+-- the session is full
+abbrev pub has_size : History → ℕ → ℕ → Bool
+has_size h cols rows = (size_now h).columns == cols && (size_now h).rows == rows
+
+abbrev pub resize_refusal : History → ℕ → ℕ → ℕ → Option ResizeRefusal
+resize_refusal h viewer cols rows = first_of (
+    only_if (not (is_live h viewer)) resize_no_viewer
+    ∷ option_map resize_closed (close_cause h)
+    ∷ only_if (not (is_control (role_in h viewer))) Denied
+    ∷ only_if (has_size h cols rows) Same
+    ∷ only_if (is_full h) (resize_worn (length h))
     ∷ [])
 
 -- leave: the viewer isn't there

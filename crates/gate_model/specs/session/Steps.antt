@@ -7,17 +7,11 @@ use Rattle.gate_model.specs.declared.entry.Entry.TheVariants.{Start}
 use Rattle.gate_model.specs.declared.event.Event.{Event}
 use Rattle.gate_model.specs.declared.instr.Instr.{Instr}
 use Rattle.gate_model.specs.declared.setup.Setup.{Setup}
-use Rattle.gate_model.specs.Limits.{most_columns, most_rows, most_term, most_entries}
+use Rattle.gate_model.specs.Limits.{most_term, most_entries}
+pub use Rattle.gate_model.specs.terminal.Sizes.{IsScreenSize}
 use Rattle.gate_model.specs.picture.Shape.{Shape, OpensScreen}
 use Rattle.gate_model.specs.session.History.{History, next_stamp}
 use Rattle.gate_model.specs.session.Calls.{Step}
-
--- a screen has 1 to 512 columns and 1 to 256 rows
-pub record IsScreenSize (cols rows : ℕ) : Type 0 where
-  pub some_columns : 1 ≤ cols
-  pub few_columns : cols ≤ most_columns
-  pub some_rows : 1 ≤ rows
-  pub few_rows : rows ≤ most_rows
 
 -- a terminal type is 1 to 40 characters from ! to ~
 abbrev pub is_mark : ℕ → Bool

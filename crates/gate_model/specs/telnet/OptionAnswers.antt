@@ -1,10 +1,11 @@
 -- What is answered to Telnet tokens (RFC 854, "TELNET COMMANDS", and RFC 855; RFC 1073, the window size; RFC 1091, the
 -- terminal type). Which options are agreed to is this project's own: of those that the peer asks for, suppress go ahead
 -- (3), the terminal type (24) and the window size (31); of those that it offers, echo (1) and suppress go ahead.
-use Rattle.std.specs.Prelude.{ℕ, ◌++◌, ◌/◌, ◌%◌, List, [], ◌∷◌, ◌==◌, ◌&&◌, Bool, true, false, if◌then◌else◌}
+use Rattle.std.specs.Prelude.{ℕ, ◌++◌, ◌/◌, ◌%◌, List, [], ◌∷◌, length, drop, map, ◌==◌, ◌&&◌, Bool, true, false, if◌then◌else◌}
 use Rattle.gate_model.specs.declared.token.Token.{Token}
 use Rattle.gate_model.specs.declared.token.Token.TheVariants.{Byte, Do, Dont, Will, Wont, Sub, Single}
-use Rattle.gate_model.specs.telnet.TelnetTokens.{iac, doubled}
+use Rattle.gate_model.specs.telnet.TelnetTokens.{iac, doubled, tokens}
+use Rattle.gate_model.specs.terminal.Sizes.{ScreenSize, Cut, size_at}
 
 -- which options are on
 pub record Switches : Type 0 where
@@ -99,17 +100,36 @@ switches_after s (Wont option) = peer_set false s option
 switches_after s (Sub bytes) = s
 switches_after s (Single b) = s
 
--- ---- all tokens
-
--- the answers from some switches on, and the switches after them
-abbrev pub answers_from : ℕ → ℕ → List ℕ → Switches → List Token → List ℕ
-answers_from cols rows term s [] = []
-answers_from cols rows term s (t ∷ ts) = option_answer cols rows term s t ++ answers_from cols rows term (switches_after s t) ts
-
+-- which options are on after all of them
 abbrev pub switches_from : Switches → List Token → Switches
 switches_from s [] = s
 switches_from s (t ∷ ts) = switches_from (switches_after s t) ts
 
+-- ---- all tokens, each with the size in force when its last byte came
+
+-- tokens of one size
+abbrev pub all_at : ScreenSize → List Token → List (ScreenSize × Token)
+all_at size ts = map (λ t. (size, t)) ts
+
+abbrev pub without_sizes : List (ScreenSize × Token) → List Token
+without_sizes ts = map (λ (t : ScreenSize × Token). t.1) ts
+
+-- the tokens that bytes complete after those before them
+abbrev pub sized_from : ScreenSize → List Cut → List ℕ → List ℕ → List (ScreenSize × Token)
+sized_from size cuts before [] = []
+sized_from size cuts before (b ∷ bytes) =
+    let now = before ++ b ∷ [] in
+    all_at (size_at size cuts (length now)) (drop (length (tokens before)) (tokens now)) ++ sized_from size cuts now bytes
+
+-- the tokens of bytes, of a screen that has this size first and is changed so
+abbrev pub sized_tokens : ScreenSize → List ℕ → List Cut → List (ScreenSize × Token)
+sized_tokens size bytes cuts = sized_from size cuts [] bytes
+
+-- the answers from some switches on
+abbrev pub answers_from : List ℕ → Switches → List (ScreenSize × Token) → List ℕ
+answers_from term s [] = []
+answers_from term s (t ∷ ts) = option_answer t.0.columns t.0.rows term s t.1 ++ answers_from term (switches_after s t.1) ts
+
 -- the answers to a list of tokens
-abbrev pub option_answers : ℕ → ℕ → List ℕ → List Token → List ℕ
-option_answers cols rows term ts = answers_from cols rows term all_off ts
+abbrev pub option_answers : List ℕ → List (ScreenSize × Token) → List ℕ
+option_answers term ts = answers_from term all_off ts

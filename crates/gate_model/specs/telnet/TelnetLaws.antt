@@ -3,7 +3,8 @@ use Rattle.std.specs.Prelude.{◌≡◌, ℕ, List, [], ◌∷◌, ◌++◌, map
 use Rattle.gate_model.specs.declared.token.Token.TheVariants.{Byte}
 use Rattle.gate_model.specs.declared.token.Token.{Token}
 use Rattle.gate_model.specs.terminal.ControlLaws.{ReadsOn}
-use Rattle.gate_model.specs.telnet.OptionAnswers.{all_off, answers_from, switches_from, option_answers}
+use Rattle.gate_model.specs.telnet.OptionAnswers.{all_off, answers_from, switches_from, without_sizes, option_answers}
+use Rattle.gate_model.specs.terminal.Sizes.{ScreenSize}
 use Rattle.gate_model.specs.text.Reading.{read}
 use Rattle.gate_model.specs.telnet.TelnetTokens.{head_token, tokens, unfinished_token, sub_token, doubled}
 
@@ -21,5 +22,5 @@ SubnegotiationIsRead = (bytes : List ℕ) → read head_token (255 ∷ 250 ∷ d
 
 -- the answers to two lists of tokens are those to the first, and then to the second from the switches that it leaves
 abbrev pub AnswersGoOn : Type 0
-AnswersGoOn = (cols rows : ℕ) (term : List ℕ) (first second : List Token)
-    → option_answers cols rows term (first ++ second) ≡ option_answers cols rows term first ++ answers_from cols rows term (switches_from all_off first) second
+AnswersGoOn = (term : List ℕ) (first second : List (ScreenSize × Token))
+    → option_answers term (first ++ second) ≡ option_answers term first ++ answers_from term (switches_from all_off (without_sizes first)) second

@@ -1,7 +1,7 @@
 -- Laws of the edits of a grid, cell by cell, which public functions of `laws::cells` prove.
 use Rattle.std.specs.Prelude.{◌≡◌, ◌<◌, ◌≤◌, ℕ, ◌+◌, ◌-◌, ◌*◌, ◌==◌, ◌&&◌, nat_lt, nat_le, if◌then◌else◌, length}
 use Rattle.gate_model.specs.declared.cell.Cell.{Cell}
-use Rattle.gate_model.specs.terminal.Cells.{blank, CellGrid, cell_at, put, erased, inserted, deleted, scrolled_up, scrolled_down}
+use Rattle.gate_model.specs.terminal.Cells.{blank, CellGrid, cell_at, kept_at, put, erased, inserted, deleted, scrolled_up, scrolled_down, resized}
 
 -- there is a cell for each place
 abbrev pub IsFull : CellGrid → Type 0
@@ -53,3 +53,13 @@ pub record StaysAtZero (g : CellGrid) : Type 0 where
 
 abbrev pub NothingAtZero : Type 0
 NothingAtZero = (g : CellGrid) → StaysAtZero g
+
+-- a grid of another size has a cell for each of its places: the one that stood there, or blank where none did
+pub record Refits (g edited : CellGrid) (columns lines : ℕ) : Type 0 where
+  pub cols : edited.cols ≡ columns
+  pub rows : edited.rows ≡ lines
+  pub full : IsFull edited
+  pub cells : (column row : ℕ) → column < columns → row < lines → cell_at column row edited ≡ kept_at column row g
+
+abbrev pub ResizedByCell : Type 0
+ResizedByCell = (g : CellGrid) (cols rows : ℕ) → Refits g (resized cols rows g) cols rows

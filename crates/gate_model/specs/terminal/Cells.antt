@@ -1,5 +1,6 @@
 -- The cells of a grid, and what each edit makes of them (this project's own; the edits are those of ECMA-48).
-use Rattle.std.specs.Prelude.{ℕ, ◌+◌, ◌-◌, ◌*◌, min, List, length, take, drop, ◌++◌, replicate, slice_set, slice_range, get_or, false}
+use Rattle.std.specs.Prelude.{ℕ, ◌+◌, ◌-◌, ◌*◌, ◌/◌, ◌%◌, min, List, length, take, drop, ◌++◌, map, replicate, slice_set, slice_range, get_or, false, ◌&&◌, nat_lt, if◌then◌else◌}
+use Rattle.std.specs.List.{range_with_len}
 use Rattle.gate_model.specs.declared.cell.Cell.{Cell}
 
 -- a space with ink 7, paper 0 and no underline
@@ -67,3 +68,11 @@ scrolled_up top bottom n g = record g { cells = with_part (place 0 top g) (place
 -- SD: the rows from top to bottom, both included, move down by n, and blank rows come in at the top
 abbrev pub scrolled_down : ℕ → ℕ → ℕ → CellGrid → CellGrid
 scrolled_down top bottom n g = record g { cells = with_part (place 0 top g) (place 0 (bottom + 1) g) (moved_right (n * g.cols) (rows_of top bottom g)) g.cells }
+
+-- the cell at column x of row y; a place that the grid doesn't have is blank
+abbrev pub kept_at : ℕ → ℕ → CellGrid → Cell
+kept_at x y g = if nat_lt x g.cols && nat_lt y g.rows then cell_at x y g else blank
+
+-- a grid of another size: the cells that both sizes have stay, and all others are blank
+abbrev pub resized : ℕ → ℕ → CellGrid → CellGrid
+resized cols rows g = record { cols = cols; rows = rows; cells = map (λ at. kept_at (at % cols) (at / cols) g) (range_with_len 0 (rows * cols)) }

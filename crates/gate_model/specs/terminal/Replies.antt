@@ -4,10 +4,11 @@ use Rattle.std.specs.Prelude.{◌≡◌, ℕ, List, [], ◌∷◌, ◌++◌, len
 use Rattle.gate_model.specs.declared.control.Control.{Control}
 use Rattle.gate_model.specs.declared.token.Token.{Token}
 use Rattle.gate_model.specs.terminal.Effects.{effect}
-use Rattle.gate_model.specs.telnet.OptionAnswers.{all_off, option_answer, option_answers, switches_from}
+use Rattle.gate_model.specs.telnet.OptionAnswers.{all_off, option_answer, option_answers, switches_from, sized_tokens}
 use Rattle.gate_model.specs.terminal.Reports.{report}
-use Rattle.gate_model.specs.terminal.Screens.{functions}
-use Rattle.gate_model.specs.Sequences.{BeginsWith}
+use Rattle.gate_model.specs.terminal.Resizing.{resized}
+use Rattle.gate_model.specs.terminal.Screens.{Happening, Does, Turns, after_controls, functions, happens, screen}
+use Rattle.gate_model.specs.terminal.Sizes.{ScreenSize, Cut, AreWithin, cuts_below, size_after}
 use Rattle.gate_model.specs.telnet.TelnetTokens.{tokens, doubled}
 use Rattle.gate_model.specs.terminal.Terminal.{Terminal, opening_screen}
 
@@ -16,9 +17,15 @@ abbrev pub reports_from : Terminal → List Control → List ℕ
 reports_from t [] = []
 reports_from t (c ∷ cs) = report c t ++ reports_from (effect c t) cs
 
--- the reports of the control functions that tokens complete
-abbrev pub reports : ℕ → ℕ → List Token → List ℕ
-reports cols rows ts = reports_from (opening_screen cols rows) (functions ts)
+-- .. and of what happens to a screen: a change of its size reports nothing
+abbrev pub reports_of : Terminal → List Happening → List ℕ
+reports_of t [] = []
+reports_of t (Does c ∷ hs) = report c t ++ reports_of (effect c t) hs
+reports_of t (Turns s ∷ hs) = reports_of (resized s.columns s.rows t) hs
+
+-- the reports of bytes and changes of size, from the start
+abbrev pub reports : ScreenSize → List ℕ → List Cut → List ℕ
+reports size bytes cuts = reports_of (opening_screen size.columns size.rows) (happens bytes cuts)
 
 -- what is new in a list past an older one
 abbrev pub past : List ℕ → List ℕ → List ℕ
@@ -27,39 +34,45 @@ past old new = drop (length old) new
 -- ---- byte by byte
 
 -- what the last byte is answered: what the option answers of all bytes have past those of the bytes before
--- it, and then the same of the reports
-abbrev pub reply_after : ℕ → ℕ → List ℕ → List ℕ → ℕ → List ℕ
-reply_after cols rows term before b = let old = tokens before in let new = tokens (before ++ b ∷ []) in
-    past (option_answers cols rows term old) (option_answers cols rows term new) ++ doubled (past (reports cols rows old) (reports cols rows new))
+-- it, and then the same of the reports; with the changes of size that are given
+abbrev pub reply_given : ScreenSize → List Cut → List ℕ → List ℕ → ℕ → List ℕ
+reply_given size cuts term before b =
+    let now = before ++ b ∷ [] in
+    past (option_answers term (sized_tokens size before cuts)) (option_answers term (sized_tokens size now cuts))
+    ++ doubled (past (reports size before cuts) (reports size now cuts))
 
-abbrev pub replies_from : ℕ → ℕ → List ℕ → List ℕ → List ℕ → List ℕ
-replies_from cols rows term before [] = []
-replies_from cols rows term before (b ∷ bytes) = reply_after cols rows term before b ++ replies_from cols rows term (before ++ b ∷ []) bytes
+-- .. with those whose numbers are below that byte's, counted from 1
+abbrev pub reply_after : ScreenSize → List Cut → List ℕ → List ℕ → ℕ → List ℕ
+reply_after size cuts term before b = reply_given size (cuts_below (length (before ++ b ∷ [])) cuts) term before b
 
--- what bytes are answered, for a screen of so many columns and rows and this terminal type
-abbrev pub replies : ℕ → ℕ → List ℕ → List ℕ → List ℕ
-replies cols rows term bytes = replies_from cols rows term [] bytes
+abbrev pub replies_from : ScreenSize → List Cut → List ℕ → List ℕ → List ℕ → List ℕ
+replies_from size cuts term before [] = []
+replies_from size cuts term before (b ∷ bytes) = reply_after size cuts term before b ++ replies_from size cuts term (before ++ b ∷ []) bytes
 
--- ---- token by token
+-- what bytes are answered, for a screen that has this size first and is changed so, and this terminal type
+abbrev pub replies : ScreenSize → List ℕ → List ℕ → List Cut → List ℕ
+replies size term bytes cuts = replies_from size cuts term [] bytes
 
--- what one token is answered after those before it: its option answer, and the reports of the control
--- functions that it completes
-abbrev pub reply_to : ℕ → ℕ → List ℕ → List Token → Token → List ℕ
-reply_to cols rows term before t =
-    option_answer cols rows term (switches_from all_off before) t
-    ++ doubled (drop (length (reports cols rows before)) (reports cols rows (before ++ t ∷ [])))
+-- ---- token by token, while the size stays
 
--- what tokens are answered after those before them
-abbrev pub replies_after : ℕ → ℕ → List ℕ → List Token → List Token → List ℕ
-replies_after cols rows term before [] = []
-replies_after cols rows term before (t ∷ ts) = reply_to cols rows term before t ++ replies_after cols rows term (before ++ t ∷ []) ts
+-- what tokens are answered after those before them, which left this screen: of each its option answer, and the
+-- reports of the control functions that it completes
+abbrev pub replies_on : ScreenSize → List ℕ → Terminal → List Token → List Token → List ℕ
+replies_on size term t before [] = []
+replies_on size term t before (tok ∷ toks) =
+    let now = before ++ tok ∷ [] in
+    let completed = drop (length (functions before)) (functions now) in
+    (option_answer size.columns size.rows term (switches_from all_off before) tok ++ doubled (reports_from t completed))
+    ++ replies_on size term (after_controls t completed) now toks
 
--- ---- laws, which public functions of `laws::telnet` prove
+-- ---- laws, which a public function of `laws::telnet` proves
 
--- bytes are answered as their tokens are, one after the other
-abbrev pub BytesAsTokens : Type 0
-BytesAsTokens = (cols rows : ℕ) (term bytes : List ℕ) → replies cols rows term bytes ≡ replies_after cols rows term [] (tokens bytes)
-
--- what more bytes are answered begins with what fewer are
+-- what bytes that come after all changes of size are answered goes on from the screen before them, token by token, with
+-- the size in force
 abbrev pub RepliesGoOn : Type 0
-RepliesGoOn = (cols rows : ℕ) (term bytes more : List ℕ) → BeginsWith (replies cols rows term (bytes ++ more)) (replies cols rows term bytes)
+RepliesGoOn = (size : ScreenSize) (term bytes more : List ℕ) (cuts : List Cut) (given : List Token) → AreWithin (length bytes) cuts → tokens (bytes ++ more) ≡ tokens bytes ++ given
+    → replies size term (bytes ++ more) cuts ≡ replies size term bytes cuts ++ replies_on (size_after size cuts) term (screen size bytes cuts) (tokens bytes) given
+
+-- a change after all bytes answers nothing
+abbrev pub RepliesStay : Type 0
+RepliesStay = (size : ScreenSize) (term bytes : List ℕ) (cuts : List Cut) (to : ScreenSize) → replies size term bytes (cuts ++ record { after = length bytes; size = to } ∷ []) ≡ replies size term bytes cuts

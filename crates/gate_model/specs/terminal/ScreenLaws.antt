@@ -1,8 +1,10 @@
--- A law of screens, which a public function of `laws::screens` proves.
-use Rattle.std.specs.Prelude.{◌≡◌, ℕ, ◌+◌, List}
+-- Laws of screens, which public functions of `laws::screens` prove.
+use Rattle.std.specs.Prelude.{◌≡◌, ℕ, ◌+◌, List, [], ◌∷◌, ◌++◌, length}
 use Rattle.gate_model.specs.declared.control.Control.{Control}
 use Rattle.gate_model.specs.terminal.Replies.{reports_from}
-use Rattle.gate_model.specs.terminal.Screens.{after_controls}
+use Rattle.gate_model.specs.terminal.Resizing.{resized}
+use Rattle.gate_model.specs.terminal.Screens.{after_controls, completed, screen}
+use Rattle.gate_model.specs.terminal.Sizes.{ScreenSize, Cut, AreWithin}
 use Rattle.gate_model.specs.terminal.Terminal.{Terminal}
 
 -- the screen, with so many more lines counted as scrolled
@@ -16,3 +18,11 @@ ScrollsAreCounted = (n : ℕ) (t : Terminal) (cs : List Control) → after_contr
 -- .. and no report tells it
 abbrev pub ScrollsAreNotReported : Type 0
 ScrollsAreNotReported = (n : ℕ) (t : Terminal) (cs : List Control) → reports_from (scrolled_more n t) cs ≡ reports_from t cs
+
+-- bytes that come after all changes of size go on from the screen before them
+abbrev pub ScreensGoOn : Type 0
+ScreensGoOn = (size : ScreenSize) (bytes more : List ℕ) (cuts : List Cut) → AreWithin (length bytes) cuts → screen size (bytes ++ more) cuts ≡ after_controls (screen size bytes cuts) (completed bytes more)
+
+-- a change after all bytes gives that screen its size
+abbrev pub ScreensTurn : Type 0
+ScreensTurn = (size : ScreenSize) (bytes : List ℕ) (cuts : List Cut) (to : ScreenSize) → screen size bytes (cuts ++ record { after = length bytes; size = to } ∷ []) ≡ resized to.columns to.rows (screen size bytes cuts)

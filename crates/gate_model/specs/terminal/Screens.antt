@@ -1,5 +1,5 @@
--- The screen that a session's bytes leave, and what it shows.
-use Rattle.std.specs.Prelude.{ℕ, List, [], ◌∷◌, map, flat_map, ◌&&◌, nat_le, if◌then◌else◌, slice_set, ◌<◌, All}
+-- The screen that a session's bytes and its changes of size leave, and what it shows.
+use Rattle.std.specs.Prelude.{ℕ, List, [], ◌∷◌, ◌++◌, length, take, drop, map, flat_map, ◌&&◌, nat_le, if◌then◌else◌, slice_set, ◌<◌, All}
 use Rattle.gate_model.specs.declared.cell.Cell.{Cell}
 use Rattle.gate_model.specs.declared.key.Key.{Key}
 use Rattle.gate_model.specs.declared.control.Control.{Control}
@@ -12,6 +12,8 @@ use Rattle.gate_model.specs.terminal.Effects.{effect}
 use Rattle.gate_model.specs.picture.KeyGrid.{KeyGrid}
 use Rattle.gate_model.specs.picture.Pictures.{key_at}
 use Rattle.gate_model.specs.telnet.TelnetTokens.{tokens}
+use Rattle.gate_model.specs.terminal.Resizing.{resized}
+use Rattle.gate_model.specs.terminal.Sizes.{ScreenSize, Cut}
 use Rattle.gate_model.specs.terminal.Terminal.{Terminal, opening_screen}
 
 -- the data bytes among Telnet tokens
@@ -36,9 +38,39 @@ abbrev pub after_controls : Terminal → List Control → Terminal
 after_controls t [] = t
 after_controls t (c ∷ cs) = after_controls (effect c t) cs
 
--- the screen that bytes of a Telnet host leave from the start
-abbrev pub screen : ℕ → ℕ → List ℕ → Terminal
-screen columns rows bytes = after_controls (opening_screen columns rows) (functions (tokens bytes))
+-- what bytes complete past those before them
+abbrev pub completed : List ℕ → List ℕ → List Control
+completed bytes more = drop (length (functions (tokens bytes))) (functions (tokens (bytes ++ more)))
+
+-- ---- from the start
+
+-- what happens to a screen: a control function, or a change of its size
+pub data Happening : Type 0 where
+  Does : Control → Happening
+  Turns : ScreenSize → Happening
+
+-- what happens by bytes and changes of size, past the first `done` control functions
+abbrev pub happens_past : ℕ → List ℕ → List Cut → List Happening
+happens_past done bytes [] = map Does (drop done (functions (tokens bytes)))
+happens_past done bytes (cut ∷ cuts) =
+    let before = functions (tokens (take cut.after bytes)) in
+    map Does (drop done before) ++ Turns cut.size ∷ happens_past (length before) bytes cuts
+
+-- each change stands after the control functions of the bytes before it, and before all later ones
+abbrev pub happens : List ℕ → List Cut → List Happening
+happens bytes cuts = happens_past 0 bytes cuts
+
+-- the screen after it
+abbrev pub after_all : Terminal → List Happening → Terminal
+after_all t [] = t
+after_all t (Does c ∷ hs) = after_all (effect c t) hs
+after_all t (Turns s ∷ hs) = after_all (resized s.columns s.rows t) hs
+
+-- the screen that bytes of a Telnet host and changes of size leave from the start
+abbrev pub screen : ScreenSize → List ℕ → List Cut → Terminal
+screen size bytes cuts = after_all (opening_screen size.columns size.rows) (happens bytes cuts)
+
+-- ---- what it shows
 
 -- the face of a character: itself from U+0020 to U+007E, U+FFFD otherwise
 abbrev pub face_of : ℕ → ℕ

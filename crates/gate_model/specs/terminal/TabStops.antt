@@ -1,6 +1,7 @@
 -- Tab stops: a flag for each column (ECMA-48, HT, HTS, TBC, CHT, CBT).
-use Rattle.std.specs.Prelude.{ℕ, zero, suc, ◌+◌, ◌-◌, min, List, length, take, drop, replicate, slice_set, Bool, false, true, not, ◌==◌, if◌then◌else◌}
+use Rattle.std.specs.Prelude.{ℕ, zero, suc, ◌+◌, ◌-◌, min, List, length, take, drop, ◌++◌, replicate, slice_set, Bool, false, true, not, ◌==◌, if◌then◌else◌}
 use Rattle.std.specs.List.{prefix_len, suffix_len}
+use Rattle.gate_model.specs.terminal.Terminal.{first_stops}
 
 -- the first tab stop above column x, or the last column
 abbrev pub stop_above : List Bool → ℕ → ℕ
@@ -28,3 +29,7 @@ abbrev pub stops_cleared : ℕ → ℕ → List Bool → List Bool
 stops_cleared which x stops =
     if which == 0 then slice_set stops x false else (
     if which == 3 then replicate (length stops) false else stops)
+
+-- the stops of another number of columns: those of the columns that stay, and the first stops of those that come in
+abbrev pub stops_resized : ℕ → List Bool → List Bool
+stops_resized columns stops = take columns stops ++ drop (length stops) (first_stops columns)

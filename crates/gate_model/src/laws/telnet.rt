@@ -1,6 +1,6 @@
 //! Laws of Telnet tokens.
 
-ghost use Rattle.gate_model.specs.terminal.Replies.{BytesAsTokens, RepliesGoOn};
+ghost use Rattle.gate_model.specs.terminal.Replies.{RepliesGoOn, RepliesStay};
 ghost use Rattle.gate_model.specs.telnet.TelnetLaws.{AnswersGoOn, DoubledIsData, SubnegotiationIsRead, TokensOfAnyCutting};
 
 /// The tokens of a stream are the same however it is cut into pieces.
@@ -20,12 +20,9 @@ pub fn option_answers_go_on()
     ensures { AnswersGoOn }
 {}
 
-/// Bytes are answered, byte by byte, as their tokens are, one after the other.
-pub fn bytes_as_tokens()
-    ensures { BytesAsTokens }
-{}
-
-/// What more bytes of a host are answered begins with what fewer of them are.
+/// What bytes that come after all changes of size are answered goes on, token by token, from the screen before them
+/// with the size in force, and a change after all bytes answers nothing (this project's own).
 pub fn replies_go_on()
-    ensures { RepliesGoOn }
+    ensures bytes { RepliesGoOn }
+    ensures size { RepliesStay }
 {}

@@ -4,7 +4,7 @@ use Rattle.gate_model.specs.declared.act.Act.{Act}
 use Rattle.gate_model.specs.declared.answer.Answer.{Answer}
 use Rattle.gate_model.specs.declared.answer.Answer.TheVariants.{Leave as was_left, Close as was_closed}
 use Rattle.gate_model.specs.declared.event.Event.{Event}
-use Rattle.gate_model.specs.declared.event.Event.TheVariants.{Feed, Write, Take, Leave, Close}
+use Rattle.gate_model.specs.declared.event.Event.TheVariants.{Feed, Write, Resize, Take, Leave, Close}
 use Rattle.gate_model.specs.declared.memory.NoMemory.{NoMemory}
 use Rattle.desk_core.specs.Calls.{Ended, feed_answer, write_answer}
 use Rattle.desk_core.proofs.Running.{beside}
@@ -28,6 +28,16 @@ returns-in-Write c = record {
       (beside h (Write c.in-Write.viewer c.in-Write.acts) c.write_answer.result c.args.self.now c.write.new.self w
       (subst (λ (r : Result Answer NoMemory). Ended h (Write c.in-Write.viewer c.in-Write.acts) r c.args.self.now c.write.new.self [] []) (sym c.write_answer.ensures)
       (subst (λ (acts : List Act). Ended h (Write c.in-Write.viewer acts) (write_answer c.write.result) c.args.self.now c.write.new.self [] []) c.as_slice-in-Write.ensures (c.write.ensures.step h stood))));
+}
+
+pub returns-in-Resize : goal.returns-in-Resize
+returns-in-Resize c = record {
+  step = λ h stood.
+      let w = c.args.into.now.items in
+      let e = Resize c.in-Resize.viewer c.in-Resize.cols c.in-Resize.rows in
+      subst (λ (x : Event). Ended h x c.resize_answer.result c.args.self.now c.resize.new.self w w) (sym c.in-Resize.is)
+      (beside h e c.resize_answer.result c.args.self.now c.resize.new.self w
+      (subst (λ (r : Result Answer NoMemory). Ended h e r c.args.self.now c.resize.new.self [] []) (sym c.resize_answer.ensures) (c.resize.ensures.step h stood)));
 }
 
 pub returns-in-Take : goal.returns-in-Take

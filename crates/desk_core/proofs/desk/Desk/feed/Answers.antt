@@ -5,7 +5,7 @@ use Rattle.gate_model.specs.declared.event.Event.TheVariants.{Feed}
 use Rattle.gate_model.specs.declared.feed_refusal.FeedRefusal.{FeedRefusal}
 use Rattle.gate_model.specs.declared.feed_refusal.FeedRefusal.TheVariants.{NoMemory as feed_no_memory}
 use Rattle.desk_core.specs.Calls.{Ended, feed_answer}
-use Rattle.gate_model.specs.session.History.{at, bytes, next_stamp}
+use Rattle.gate_model.specs.session.History.{at, next_stamp}
 use Rattle.gate_model.specs.session.Refusals.{feed_refusal}
 use Rattle.desk_core.specs.Desk.{DeskState, Stands}
 use Rattle.desk_core.specs.Drawing.{Draws}
@@ -30,28 +30,28 @@ draw-requires-clause-size c =
     let h = c.self.invariant.0 in
     let s : Stands (state c.self.inside) h = c.self.invariant.1 in
     let stood : Stands c.args.self.now h = subst (λ (k : DeskState). Stands k h) c.self.view_is s in
-    size_of h c.in_ok-heard.heard.host (at h).shift (bytes h ++ c.args.bytes.now) (c.in_ok-heard.ensures h stood).host s.legal
+    size_of h c.in_ok-heard.heard.host (at h).shift c.args.bytes.now s.legal (c.in_ok-heard.ensures h stood).host
 
 pub draw-requires-clause-same_cols : goal.draw-requires-clause-same_cols
 draw-requires-clause-same_cols c =
     let h = c.self.invariant.0 in
     let s : Stands (state c.self.inside) h = c.self.invariant.1 in
     let stood : Stands c.args.self.now h = subst (λ (k : DeskState). Stands k h) c.self.view_is s in
-    drawn_cols c.self.inside.drawing h s.drawing ∙ sym (cols_of h c.in_ok-heard.heard.host (at h).shift (bytes h ++ c.args.bytes.now) (c.in_ok-heard.ensures h stood).host)
+    drawn_cols c.self.inside.drawing h s.legal s.drawing ∙ sym (cols_of h c.in_ok-heard.heard.host (at h).shift c.args.bytes.now s.legal (c.in_ok-heard.ensures h stood).host)
 
 pub draw-requires-clause-same_rows : goal.draw-requires-clause-same_rows
 draw-requires-clause-same_rows c =
     let h = c.self.invariant.0 in
     let s : Stands (state c.self.inside) h = c.self.invariant.1 in
     let stood : Stands c.args.self.now h = subst (λ (k : DeskState). Stands k h) c.self.view_is s in
-    drawn_rows c.self.inside.drawing h s.drawing ∙ sym (rows_of h c.in_ok-heard.heard.host (at h).shift (bytes h ++ c.args.bytes.now) (c.in_ok-heard.ensures h stood).host)
+    drawn_rows c.self.inside.drawing h s.legal s.drawing ∙ sym (rows_of h c.in_ok-heard.heard.host (at h).shift c.args.bytes.now s.legal (c.in_ok-heard.ensures h stood).host)
 
 pub draw-requires-clause-coloured : goal.draw-requires-clause-coloured
 draw-requires-clause-coloured c =
     let h = c.self.invariant.0 in
     let s : Stands (state c.self.inside) h = c.self.invariant.1 in
     let stood : Stands c.args.self.now h = subst (λ (k : DeskState). Stands k h) c.self.view_is s in
-    colours_of h c.in_ok-heard.heard.host (at h).shift (bytes h ++ c.args.bytes.now) (c.in_ok-heard.ensures h stood).host
+    colours_of h c.in_ok-heard.heard.host (at h).shift c.args.bytes.now s.legal (c.in_ok-heard.ensures h stood).host
 
 pub put-requires : goal.put-requires
 put-requires c = omega (arith, c.next_stamp-stamp.ensures, c.stamp.ensures)

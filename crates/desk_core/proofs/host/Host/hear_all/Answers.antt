@@ -1,7 +1,13 @@
 use Rattle.std.proofs.Common.{arith}
 use Rattle.desk_core.proofs.DataRuns.{length-rest}
-use Rattle.desk_core.proofs.Hearing.{hears_more}
+use Rattle.desk_core.proofs.Hearing.{hears_more, hears_none}
 use Rattle.desk_core.proofs.host.Host.hear_all.Goals as goal
+
+pub loop-at-init : goal.loop-at-init
+loop-at-init c = record {
+  within = omega arith;
+  heard = hears_none c.args.self.now c.args.cols c.args.rows c.args.term.now c.args.into.now.items;
+}
 
 pub loop-at-preserved : goal.loop-at-preserved
 loop-at-preserved c =

@@ -1,0 +1,113 @@
+//! Runs of cells that stand elsewhere on the screen already: one copy from there stands for the copies of their cells.
+
+ghost use Rattle.std.specs.Prelude.{◌≡◌, ◌+◌, ◌*◌, ◌<◌, ◌≤◌, length, IfOk, OnOk};
+ghost use Rattle.gate_model.specs.session.Steps.{IsScreenSize};
+ghost use Rattle.frame_draw.specs.Leads.{Leads};
+ghost use Rattle.frame_draw.specs.Matches.{IsMatch};
+
+use crate::blanks::{FEWEST, count, strike};
+use crate::strokes::copy_cells;
+use crate::wanted::differ;
+use gate_model::{Instr, Key, NoMemory, Shown};
+
+/// How many pairs of neighbouring keys are remembered with the place where they stand.
+const PAIRS: usize = 1_024;
+
+/// Copies runs of cells, some of them wanted, from where the same keys stand already. They are wanted no more. Over layers
+/// on which every other place shows its key, these show theirs then too, and there are no more instructions than there were
+/// copies.
+pub(crate) fn copy_runs(
+    list: &mut Vec<Instr>,
+    wanted: &mut [bool],
+    now: &Shown,
+) -> Result<(), NoMemory>
+    requires size { IsScreenSize now.now.cols now.now.rows }
+    requires all { length wanted.now ≡ length now.now.keys }
+    ensures { OnOk result (Leads now.now list.old.items wanted.old list.new.items wanted.new) }
+{
+    let pairs = pairs_of(now.as_slice(), wanted);
+    let mut place = 0;
+    while place < now.as_slice().len() {
+        place = copy_run(list, wanted, now, &pairs, place)?;
+    }
+    Ok(())
+}
+
+// Copies a run to the place, where one is worth it, and answers the place behind it.
+fn copy_run(
+    list: &mut Vec<Instr>,
+    wanted: &mut [bool],
+    now: &Shown,
+    pairs: &[usize; PAIRS],
+    place: usize,
+) -> Result<usize, NoMemory>
+    requires size { IsScreenSize now.now.cols now.now.rows }
+    requires all { length wanted.now ≡ length now.now.keys }
+    requires inside { place < length now.now.keys }
+    ensures on { IfOk result (λ end. (place < end) × (end ≤ length now.now.keys)) }
+    ensures copies { OnOk result (Leads now.now list.old.items wanted.old list.new.items wanted.new) }
+{
+    let (keys, cols) = (now.as_slice(), now.cols() as usize);
+    if !wanted[place] || place + 1 == keys.len() {
+        return Ok(place + 1);
+    }
+    let from = pairs[pair_of(keys[place], keys[place + 1])];
+    let length = matching(keys, wanted, from, place, cols);
+    if length < FEWEST || count(wanted, place, place + length) < FEWEST {
+        return Ok(place + 1);
+    }
+    list.push(copy_cells(cols, from, place, length))?;
+    strike(wanted, place, place + length);
+    Ok(place + length)
+}
+
+// How many cells from one place on show the keys of those from another on already, within a row each.
+fn matching(keys: &[Key], wanted: &[bool], from: usize, to: usize, cols: usize) -> usize
+    requires columns { 1 ≤ cols }
+    requires few { cols ≤ 512 }
+    requires small { length keys.now ≤ 131072 }
+    requires all { length wanted.now ≡ length keys.now }
+    requires inside { to < length keys.now }
+    ensures { IsMatch keys.now wanted.now cols from to result }
+{
+    if keys.len() <= from {
+        return 0;
+    }
+    let most = (cols - from % cols).min(cols - to % cols);
+    let room = most.min(keys.len() - from).min(keys.len() - to);
+    for step in 0..room {
+        if wanted[from + step] || differ(keys[from + step], keys[to + step]) {
+            return step;
+        }
+    }
+    room
+}
+
+// Where pairs of neighbouring keys stand that aren't wanted, by the number of the pair. It's a guess: each is looked at again.
+fn pairs_of(keys: &[Key], wanted: &[bool]) -> [usize; PAIRS] {
+    let mut pairs = [0; PAIRS];
+    let shown = keys.len().min(wanted.len());
+    for place in 1..shown {
+        if !wanted[place - 1] && !wanted[place] {
+            pairs[pair_of(keys[place - 1], keys[place])] = place - 1;
+        }
+    }
+    pairs
+}
+
+// The number of a pair of keys.
+fn pair_of(first: Key, second: Key) -> usize
+    ensures { result < 1024 }
+{
+    (number_of(first) * 31 + number_of(second)) % PAIRS
+}
+
+// Some number of a key, most of which differ.
+fn number_of(key: Key) -> usize
+    ensures { result < 2097152 }
+{
+    (key.face as usize % 65_536) * 8
+        + key.ink as usize
+        + key.paper as usize * 3
+        + usize::from(key.under)
+}
