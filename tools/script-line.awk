@@ -12,11 +12,14 @@ function number(name, word, most) {
     if (!at_most(word, most)) fault(name " is " word ", and is at most " most)
 }
 function words(count) { if (n != count) fault("\"" w[1] "\" takes " count - 1 " words; " n - 1 " stand behind it") }
+function screen(cols, rows) {
+    number("the columns", cols, "512"); number("the rows", rows, "256")
+    if (cols + 0 == 0 || rows + 0 == 0) fault("a screen has at least 1 column and 1 row")
+    if (cols * rows > 8192) fault(cols " x " rows " is " cols * rows " cells, at most 8192")
+}
 function start() {
     words(4)
-    number("the columns", w[2], "512"); number("the rows", w[3], "256")
-    if (w[2] + 0 == 0 || w[3] + 0 == 0) fault("a screen has at least 1 column and 1 row")
-    if (w[2] * w[3] > 8192) fault(w[2] " x " w[3] " is " w[2] * w[3] " cells, at most 8192")
+    screen(w[2], w[3])
     if (w[4] !~ /^(none|view|control)$/) fault("the mode is \"" w[4] "\", and should be none, view or control")
     if (started) fault("the session was started before")
     started = 1
@@ -42,12 +45,13 @@ function server() {
     if ($0 ~ /^[ \t]|[ \t][ \t]|[ \t]$/) fault("one blank stands between two words, and none before or behind them")
     n = split($0, w, /[ \t]/)
     if (w[1] == "at") { words(2); number("the time", w[2], "18446744073709551615"); next }
-    if (w[1] !~ /^(start|server|join|read|take|leave|close|pixel|same)$/) fault("\"" w[1] "\" is no word of a script")
+    if (w[1] !~ /^(start|server|join|read|size|take|leave|close|pixel|same)$/) fault("\"" w[1] "\" is no word of a script")
     if (w[1] == "start") { start(); next }
     if (!started) fault("the session isn't started yet; \"start\" comes first")
     if (w[1] == "server") server()
     if (w[1] == "join") { words(2); if (w[2] !~ /^(owner|control|view|keep)$/) fault("a viewer joins as owner, control, view or keep") }
     if (w[1] == "read" || w[1] == "leave") { words(2); number("the viewer", w[2], "4294967295") }
+    if (w[1] == "size") { words(4); number("the viewer", w[2], "4294967295"); screen(w[3], w[4]) }
     if (w[1] == "take") { words(2); number("the most bytes", w[2], "65536") }
     if (w[1] == "close") words(1)
     if (w[1] == "pixel") { words(4); number("the viewer", w[2], "4294967295"); number("x", w[3], "18446744073709551615"); number("y", w[4], "18446744073709551615") }

@@ -1,5 +1,5 @@
 -- What is read of the gateway's instructions can be played: layers and sizes are within a canvas's.
-use Rattle.std.proofs.Common.{◌≡◌, ℕ, zero, suc, ◌<◌, ◌≤◌, List, [], ◌∷◌, Bool, true, false, inl, inr, subst, ℤ, pos, neg_ℤ, arith, lit≤}
+use Rattle.std.proofs.Common.{◌≡◌, ℕ, zero, suc, ◌<◌, ◌≤◌, List, [], ◌∷◌, ◌++◌, length, get_or, Bool, true, false, inl, inr, subst, ℤ, pos, neg_ℤ, arith, lit≤}
 use Rattle.std.specs.Prelude.{⊤, Option, Some, None, option_map, option_and_then, slice_get, codes, bytes_eq, if◌then◌else◌, ◌&&◌, nat_le}
 use Rattle.std.specs.Int.{is_in_range}
 use Rattle.std.proofs.lemmas.Bool.{leb-true, and_parts, cases_Bool}
@@ -10,7 +10,7 @@ use Rattle.gate_model.specs.picture.Shape.{IsLayer}
 use Rattle.gate_model.specs.text.Spelling.{number_of}
 use Rattle.gate_model.specs.text.Numerals.{value_at, is_number, number_within, number_of_bits, layer_of}
 use Rattle.gate_model.specs.text.ServerMeaning.{extent_of, over_of, opaque_of, size_instr, rect_instr, cfill_instr, copy_instr, error_instr, instr_named, instr_of}
-use Rattle.canvas.specs.Standing.{IsPlayable}
+use Rattle.canvas.specs.Standing.{ArePlayable, IsPlayable}
 
 -- what a value is, if there is one
 abbrev If : {A : Type 0} → (A → Type 0) → Option A → Type 0
@@ -146,3 +146,14 @@ read_playable (opcode ∷ es) = (named opcode (opcode ∷ es)).it
 -- an instruction that was read can be played
 pub playable : (es : List (List ℕ)) (i : Instr) → instr_of es ≡ Some i → IsPlayable i
 playable es i e = if_some IsPlayable (instr_of es) i (read_playable es) e
+
+-- one more
+pub one_more : (is : List Instr) (i : Instr) → ArePlayable is → IsPlayable i → ArePlayable (is ++ i ∷ [])
+one_more [] i all one = (one, tt)
+one_more (first ∷ is) i all one = (all.0, one_more is i all.1 one)
+
+-- one of them
+pub playable_at : (is : List Instr) (k : ℕ) (d : Instr) → ArePlayable is → k < length is → IsPlayable (get_or is k d)
+playable_at [] k d all within = absurd (omega (arith, within))
+playable_at (i ∷ is) zero d all within = all.0
+playable_at (i ∷ is) (suc k) d all within = playable_at is k d all.1 (omega (arith, within))

@@ -1,5 +1,5 @@
 -- For which layers of the drawing machine a canvas stands (this project's own).
-use Rattle.std.specs.Prelude.{◌≡◌, ◌≢◌, ℕ, ◌+◌, ◌<◌, ◌≤◌, ℤ, pos, negsuc, List, map, reverse, get_or, ◌==◌, if◌then◌else◌, ⊤}
+use Rattle.std.specs.Prelude.{◌≡◌, ◌≢◌, ℕ, ◌+◌, ◌<◌, ◌≤◌, ℤ, pos, negsuc, List, [], ◌∷◌, map, reverse, get_or, ◌==◌, if◌then◌else◌, ⊤}
 use Rattle.gate_model.specs.declared.instr.Instr.{Instr}
 use Rattle.gate_model.specs.declared.instr.Instr.TheVariants.{Size, Rect, Cfill, Copy, Sync, Disconnect, Error}
 use Rattle.gate_model.specs.picture.Layers.{Area, Layer, Layers, is_in}
@@ -44,6 +44,11 @@ IsPlayable (Copy from x y width height to to_x to_y) = IsLayer from × IsLayer t
 IsPlayable (Sync stamp) = ⊤
 IsPlayable Disconnect = ⊤
 IsPlayable (Error status) = ⊤
+
+-- .. each of these
+abbrev pub ArePlayable : List Instr → Type 0
+ArePlayable [] = Unit {0}
+ArePlayable (i ∷ is) = IsPlayable i × ArePlayable is
 
 -- the layers but for one are as before
 abbrev pub KeepsOthers : List KeptLayer → ℤ → List KeptLayer → Type 0

@@ -18,3 +18,6 @@ pub mod OneFault
 pub mod LoadLaws
 pub mod LoadEndings
 pub mod LoadRun
+pub mod PlayEndings
+pub mod PlayTelling
+pub mod PlayReading

@@ -10,13 +10,13 @@ use Rattle.gate_model.specs.Sequences.{IsLater}
 use Rattle.gate_model.specs.Limits.{most_entries}
 use Rattle.gate_model.specs.declared.act.Act.{Act}
 use Rattle.gate_model.specs.declared.answer.Answer.{Answer}
-use Rattle.gate_model.specs.declared.answer.Answer.TheVariants.{Feed as fed, Join as joined_as, Read as was_read, Write as was_written, Take as was_taken, Leave as was_left, Close as was_closed}
+use Rattle.gate_model.specs.declared.answer.Answer.TheVariants.{Feed as fed, Join as joined_as, Read as was_read, Write as was_written, Resize as was_resized, Take as was_taken, Leave as was_left, Close as was_closed}
 use Rattle.gate_model.specs.declared.cause.Cause.{Cause}
 use Rattle.gate_model.specs.declared.closed.Closed.{Closed}
 use Rattle.gate_model.specs.declared.entry.Entry.{Entry}
 use Rattle.gate_model.specs.declared.entry.Entry.TheVariants.{Start, Feed, Join, Read, Write, Take, Leave, Close}
 use Rattle.gate_model.specs.declared.event.Event.{Event}
-use Rattle.gate_model.specs.declared.event.Event.TheVariants.{Feed as feed, Join as join_in, Read as read_as, Write as write_acts, Take as take_most, Leave as leave_as, Close as close_for}
+use Rattle.gate_model.specs.declared.event.Event.TheVariants.{Feed as feed, Join as join_in, Read as read_as, Write as write_acts, Resize as resize_to, Take as take_most, Leave as leave_as, Close as close_for}
 use Rattle.gate_model.specs.declared.feed_refusal.FeedRefusal.TheVariants.{Closed as feed_closed, Worn as feed_worn}
 use Rattle.gate_model.specs.declared.join_refusal.JoinRefusal.TheVariants.{Closed as join_closed, Forbidden as join_forbidden, TooMany as join_too_many, Worn as join_worn}
 use Rattle.gate_model.specs.declared.no_viewer.NoViewer.{NoViewer}
@@ -25,13 +25,14 @@ use Rattle.gate_model.specs.declared.read_refusal.ReadRefusal.TheVariants.{NoVie
 use Rattle.gate_model.specs.declared.setup.Setup.{Setup}
 use Rattle.gate_model.specs.declared.sharing.Asked.{Asked}
 use Rattle.gate_model.specs.declared.sharing.Share.{Share}
+use Rattle.gate_model.specs.declared.resize_refusal.ResizeRefusal.TheVariants.{NoViewer as resize_no_viewer, Closed as resize_closed, Denied, Same, Worn as resize_worn}
 use Rattle.gate_model.specs.declared.write_refusal.WriteRefusal.TheVariants.{NoViewer as write_no_viewer, Closed as write_closed, Worn as write_worn}
 use Rattle.gate_model.specs.session.Calls.{Step, stop_of, take_entry}
 use Rattle.gate_model.specs.session.History.{History, capacity, is_full}
 use Rattle.gate_model.specs.session.Output.{out, taken, untaken}
 use Rattle.gate_model.specs.session.Refusals.{close_cause, first_of, only_if, feed_refusal, join_refusal, read_stop, write_refusal, leave_refusal, close_refusal}
 use Rattle.script_lines.specs.declared.line.Line.{Line}
-use Rattle.script_lines.specs.declared.line.Line.TheVariants.{Blank as blank, Bad as bad, At as moment, Start as start, Server as server, Join as join, Read as read, Write as write, Take as take_up_to, Leave as leave, Close as close, Pixel as pixel, Same as same, Acknowledge as acknowledge, Done as done, Press as press_key, Totals as tell_totals}
+use Rattle.script_lines.specs.declared.line.Line.TheVariants.{Blank as blank, Bad as bad, At as moment, Start as start, Server as server, Join as join, Read as read, Write as write, Resize as resize, Take as take_up_to, Leave as leave, Close as close, Pixel as pixel, Same as same, Acknowledge as acknowledge, Done as done, Press as press_key, Totals as tell_totals}
 use Rattle.script_lines.specs.declared.order.Order.{Order}
 use Rattle.script_lines.specs.declared.order.Order.TheVariants.{Told, Untold}
 use Rattle.script_lines.specs.declared.size.Size.{Size}
@@ -147,6 +148,7 @@ module _ (p q : Play) (a f : List ℕ) where
   round_steps bad round w = absurd round
   round_steps (start size mode entries) round w = absurd round
   round_steps (write viewer text) round w = absurd round
+  round_steps (resize viewer size) round w = absurd round
   round_steps close round w = absurd round
   round_steps (pixel viewer x y) round w = absurd round
   round_steps (same one other) round w = absurd round
@@ -180,6 +182,7 @@ module _ (p q : Play) (a f : List ℕ) where
   first_starts (join asked) first w = absurd first
   first_starts (read viewer) first w = absurd first
   first_starts (write viewer text) first w = absurd first
+  first_starts (resize viewer size) first w = absurd first
   first_starts (take_up_to most) first w = absurd first
   first_starts (leave viewer) first w = absurd first
   first_starts close first w = absurd first
@@ -240,6 +243,14 @@ write_full m n false (Some cause) d e = none_some n e
 write_full m n false None true e = refl
 write_full m n false None false e = none_some n e
 
+resize_full : (m n : ℕ) (b : Bool) (o : Option Cause) (c d x : Bool) → worn_in (option_map (λ refusal. was_resized (Err refusal)) (first_of (only_if b resize_no_viewer ∷ option_map resize_closed o ∷ only_if c Denied ∷ only_if d Same ∷ only_if x (resize_worn m) ∷ []))) ≡ Some n → x ≡ true
+resize_full m n true o c d x e = none_some n e
+resize_full m n false (Some cause) c d x e = none_some n e
+resize_full m n false None true d x e = none_some n e
+resize_full m n false None false true x e = none_some n e
+resize_full m n false None false false true e = refl
+resize_full m n false None false false false e = none_some n e
+
 take_full : {A : Type 0} → (n : ℕ) (b closed : Bool) → worn_in (only_if b (was_taken [] closed)) ≡ Some n → A
 take_full n true closed e = none_some n e
 take_full n false closed e = none_some n e
@@ -261,6 +272,7 @@ worn_is_full h (feed bytes now) n e = feed_full _ n _ (is_full h) e
 worn_is_full h (join_in asked) n e = join_full _ n _ _ _ _ _ (is_full h) e
 worn_is_full h (read_as viewer) n e = second_holds _ (is_full h) (read_full _ _ n _ _ _ _ _ e)
 worn_is_full h (write_acts viewer acts) n e = write_full _ n _ _ (is_full h) e
+worn_is_full h (resize_to viewer cols rows) n e = resize_full _ n _ _ _ _ (is_full h) e
 worn_is_full h (take_most most) n e = take_full n _ _ e
 worn_is_full h (leave_as viewer) n e = leave_full n _ e
 worn_is_full h (close_for cause) n e = close_full n _ e
@@ -283,6 +295,7 @@ not_long b (start size mode entries) follows long = absurd long
 not_long b (server bytes) follows long = absurd long
 not_long b (join asked) follows long = absurd long
 not_long b (read viewer) follows long = absurd long
+not_long b (resize viewer size) follows long = absurd long
 not_long b (take_up_to most) follows long = absurd long
 not_long b (leave viewer) follows long = absurd long
 not_long b close follows long = absurd long
@@ -303,6 +316,7 @@ starts_no_call (server bytes) p event first makes = absurd first
 starts_no_call (join asked) p event first makes = absurd first
 starts_no_call (read viewer) p event first makes = absurd first
 starts_no_call (write viewer text) p event first makes = absurd first
+starts_no_call (resize viewer size) p event first makes = absurd first
 starts_no_call (take_up_to most) p event first makes = absurd first
 starts_no_call (leave viewer) p event first makes = absurd first
 starts_no_call close p event first makes = absurd first
@@ -402,6 +416,7 @@ may_be_placed true blank w = absurd w
 may_be_placed true bad w = absurd w
 may_be_placed true (start size mode entries) w = absurd w
 may_be_placed true (write viewer text) w = absurd w
+may_be_placed true (resize viewer size) w = absurd w
 may_be_placed true close w = absurd w
 may_be_placed true (pixel viewer x y) w = absurd w
 may_be_placed true (same one other) w = absurd w
@@ -415,6 +430,7 @@ may_be_placed false (server bytes) w = absurd w
 may_be_placed false (join asked) w = absurd w
 may_be_placed false (read viewer) w = absurd w
 may_be_placed false (write viewer text) w = absurd w
+may_be_placed false (resize viewer size) w = absurd w
 may_be_placed false (take_up_to most) w = absurd w
 may_be_placed false (leave viewer) w = absurd w
 may_be_placed false close w = absurd w
@@ -441,6 +457,7 @@ first_is_start line w = by line w (may_be_placed false line w)
     by (join asked) w e = absurd w
     by (read viewer) w e = absurd w
     by (write viewer text) w e = absurd w
+    by (resize viewer size) w e = absurd w
     by (take_up_to most) w e = absurd w
     by (leave viewer) w e = absurd w
     by close w e = absurd w
@@ -548,6 +565,7 @@ round_in_range blank w = absurd w
 round_in_range bad w = absurd w
 round_in_range (start size mode entries) w = absurd w
 round_in_range (write viewer text) w = absurd w
+round_in_range (resize viewer size) w = absurd w
 round_in_range close w = absurd w
 round_in_range (pixel viewer x y) w = absurd w
 round_in_range (same one other) w = absurd w

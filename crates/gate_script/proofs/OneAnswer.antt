@@ -5,13 +5,14 @@ use Rattle.canvas.specs.declared.dot.Dot.{Dot}
 use Rattle.canvas.specs.declared.dot.Dot.TheVariants.{Outside, Clear, Painted}
 use Rattle.gate_model.specs.declared.act.Act.{Act}
 use Rattle.gate_model.specs.declared.answer.Answer.{Answer}
-use Rattle.gate_model.specs.declared.answer.Answer.TheVariants.{Feed as fed, Join as joined_as, Read as was_read, Write as was_written, Take as was_taken, Leave as was_left, Close as was_closed}
+use Rattle.gate_model.specs.declared.answer.Answer.TheVariants.{Feed as fed, Join as joined_as, Read as was_read, Write as was_written, Resize as was_resized, Take as was_taken, Leave as was_left, Close as was_closed}
 use Rattle.gate_model.specs.declared.event.Event.{Event}
-use Rattle.gate_model.specs.declared.event.Event.TheVariants.{Feed as feed, Join as join_in, Read as read_as, Write as write_acts, Take as take_most, Leave as leave_as, Close as close_for}
+use Rattle.gate_model.specs.declared.event.Event.TheVariants.{Feed as feed, Join as join_in, Read as read_as, Write as write_acts, Resize as resize_to, Take as take_most, Leave as leave_as, Close as close_for}
 use Rattle.gate_model.specs.declared.feed_refusal.FeedRefusal.TheVariants.{Closed as feed_closed, Worn as feed_worn, NoMemory as feed_no_memory}
 use Rattle.gate_model.specs.declared.join_refusal.JoinRefusal.TheVariants.{Closed as join_closed, Worn as join_worn, Forbidden, TooMany as too_many_viewers, NoMemory as join_no_memory}
 use Rattle.gate_model.specs.declared.read_answer.ReadAnswer.TheVariants.{Frames, Fresh, Ended, Empty, Hold}
 use Rattle.gate_model.specs.declared.read_refusal.ReadRefusal.TheVariants.{NoViewer as read_no_viewer, Worn as read_worn, NoMemory as read_no_memory}
+use Rattle.gate_model.specs.declared.resize_refusal.ResizeRefusal.TheVariants.{NoViewer as resize_no_viewer, Closed as resize_closed, Denied, Same, Worn as resize_worn, NoMemory as resize_no_memory}
 use Rattle.gate_model.specs.declared.write_refusal.WriteRefusal.{WriteRefusal}
 use Rattle.gate_model.specs.declared.write_refusal.WriteRefusal.TheVariants.{NoViewer as write_no_viewer, Closed as write_closed, Worn as write_worn, NoMemory as write_no_memory}
 use Rattle.gate_model.specs.declared.written.Written.{Written}
@@ -20,7 +21,7 @@ use Rattle.gate_model.specs.session.Rights.{is_live}
 use Rattle.guac_framing.specs.declared.next.BadAt.{BadAt}
 use Rattle.script_lines.specs.declared.line.Line.{Line}
 use Rattle.script_lines.specs.declared.totals.Totals.{Totals}
-use Rattle.script_lines.specs.declared.line.Line.TheVariants.{Blank as blank, Bad as bad, At as moment, Start as start, Server as server, Join as join, Read as read, Write as write, Take as take_up_to, Leave as leave, Close as close, Pixel as pixel, Same as same, Acknowledge as acknowledge, Done as done, Press as press_key, Totals as tell_totals}
+use Rattle.script_lines.specs.declared.line.Line.TheVariants.{Blank as blank, Bad as bad, At as moment, Start as start, Server as server, Join as join, Read as read, Write as write, Resize as resize, Take as take_up_to, Leave as leave, Close as close, Pixel as pixel, Same as same, Acknowledge as acknowledge, Done as done, Press as press_key, Totals as tell_totals}
 use Rattle.script_lines.specs.declared.reading.Reading.{Reading}
 use Rattle.script_lines.specs.declared.reading.Reading.TheVariants.{Whole, Cut, Bad, TooMany}
 use Rattle.gate_script.specs.Plays.{Answers, Calls, Compares, Does, DoesReading, Play, TellsTotals, Writes}
@@ -75,6 +76,13 @@ call_some (was_written (Err write_no_viewer)) event = answer_some _ _
 call_some (was_written (Err (write_closed cause))) event = answer_some _ _
 call_some (was_written (Err (write_worn m))) event = tt
 call_some (was_written (Err write_no_memory)) event = tt
+call_some (was_resized (Ok stamp)) event = answer_some _ _
+call_some (was_resized (Err resize_no_viewer)) event = answer_some _ _
+call_some (was_resized (Err (resize_closed cause))) event = answer_some _ _
+call_some (was_resized (Err Denied)) event = answer_some _ _
+call_some (was_resized (Err Same)) event = answer_some _ _
+call_some (was_resized (Err (resize_worn m))) event = tt
+call_some (was_resized (Err resize_no_memory)) event = tt
 call_some (was_taken bytes closed) event = took_some bytes
 call_some (was_left (Ok u)) (leave_as viewer) = answer_some _ _
 call_some (was_left (Err refusal)) (leave_as viewer) = answer_some _ _
@@ -82,6 +90,7 @@ call_some (was_left result) (feed bytes now) = tt
 call_some (was_left result) (join_in asked) = tt
 call_some (was_left result) (read_as viewer) = tt
 call_some (was_left result) (write_acts viewer acts) = tt
+call_some (was_left result) (resize_to viewer cols rows) = tt
 call_some (was_left result) (take_most most) = tt
 call_some (was_left result) (close_for cause) = tt
 call_some (was_closed (Ok u)) event = answer_some _ _
@@ -145,6 +154,7 @@ silent (server bytes) p q a f does none = called_some p q a f none _ does
 silent (join asked) p q a f does none = called_some p q a f none _ does
 silent (read viewer) p q a f does none = called_some p q a f none _ does
 silent (write viewer text) p q a f does none = read_some p q a f none does.0 viewer does.2
+silent (resize viewer size) p q a f does none = called_some p q a f none _ does
 silent (take_up_to most) p q a f does none = called_some p q a f none _ does
 silent (leave viewer) p q a f does none = called_some p q a f none _ does
 silent close p q a f does none = called_some p q a f none _ does

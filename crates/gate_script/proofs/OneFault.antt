@@ -12,7 +12,7 @@ use Rattle.gate_model.specs.session.Calls.{Step}
 use Rattle.gate_model.specs.session.History.{History}
 use Rattle.script_lines.specs.declared.text_form.TextForm.TheVariants.{Script}
 use Rattle.script_lines.specs.declared.line.Line.{Line}
-use Rattle.script_lines.specs.declared.line.Line.TheVariants.{Blank as blank, Bad as bad, At as moment, Start as start, Server as server, Join as join, Read as read, Write as write, Take as take_up_to, Leave as leave, Close as close, Pixel as pixel, Same as same, Acknowledge as acknowledge, Done as done, Press as press_key, Totals as tell_totals}
+use Rattle.script_lines.specs.declared.line.Line.TheVariants.{Blank as blank, Bad as bad, At as moment, Start as start, Server as server, Join as join, Read as read, Write as write, Resize as resize, Take as take_up_to, Leave as leave, Close as close, Pixel as pixel, Same as same, Acknowledge as acknowledge, Done as done, Press as press_key, Totals as tell_totals}
 use Rattle.script_lines.specs.declared.order.Order.{Order}
 use Rattle.script_lines.specs.declared.reading.Reading.{Reading}
 use Rattle.script_lines.specs.declared.reading.Reading.TheVariants.{Whole, Cut, Bad, TooMany}
@@ -60,6 +60,7 @@ module _ (p q : Play) (a f : List ℕ) where
   line_adds (join asked) w = call_adds _ w
   line_adds (read viewer) w = call_adds _ w
   line_adds (write viewer text) w = reading_adds w.0 viewer w.2
+  line_adds (resize viewer size) w = call_adds _ w
   line_adds (take_up_to most) w = call_adds _ w
   line_adds (leave viewer) w = call_adds _ w
   line_adds close w = call_adds _ w

@@ -8,14 +8,14 @@ use Rattle.gate_model.specs.declared.answer.Answer.TheVariants.{Write as was_wri
 use Rattle.gate_model.specs.declared.cause.Cause.TheVariants.{Stopped}
 use Rattle.gate_model.specs.declared.entry.Entry.{Entry}
 use Rattle.gate_model.specs.declared.event.Event.{Event}
-use Rattle.gate_model.specs.declared.event.Event.TheVariants.{Feed as feed, Join as join_in, Read as read_as, Write as write_acts, Take as take_most, Leave as leave_as, Close as close_for}
+use Rattle.gate_model.specs.declared.event.Event.TheVariants.{Feed as feed, Join as join_in, Read as read_as, Write as write_acts, Resize as resize_to, Take as take_most, Leave as leave_as, Close as close_for}
 use Rattle.gate_model.specs.declared.setup.Setup.{Setup}
 use Rattle.gate_model.specs.declared.write_refusal.WriteRefusal.{WriteRefusal}
 use Rattle.gate_model.specs.declared.written.Written.{Written}
 use Rattle.gate_model.specs.picture.Layers.{Same as AreAlike}
 use Rattle.gate_model.specs.session.History.{History}
 use Rattle.script_lines.specs.declared.line.Line.{Line}
-use Rattle.script_lines.specs.declared.line.Line.TheVariants.{Blank as blank, Bad as bad, At as moment, Start as start, Server as server, Join as join, Read as read, Write as write, Take as take_up_to, Leave as leave, Close as close, Pixel as pixel, Same as same, Acknowledge as acknowledge, Done as done, Press as press_key, Totals as tell_totals}
+use Rattle.script_lines.specs.declared.line.Line.TheVariants.{Blank as blank, Bad as bad, At as moment, Start as start, Server as server, Join as join, Read as read, Write as write, Resize as resize, Take as take_up_to, Leave as leave, Close as close, Pixel as pixel, Same as same, Acknowledge as acknowledge, Done as done, Press as press_key, Totals as tell_totals}
 use Rattle.script_lines.specs.declared.totals.Totals.{Totals}
 use Rattle.script_lines.specs.declared.order.Order.{Order}
 use Rattle.script_lines.specs.declared.reading.Reading.{Reading}
@@ -108,6 +108,7 @@ module _ (p q q' : Play) (a a' f f' x y : List ℕ) where
   does_same (read viewer) one other e = calls_same (read_as viewer) one other e
   does_same (write viewer text) one other e =
       by_reading one.0 viewer one.2 (subst (λ (r : Reading). DoesReading r viewer p q' a' f') (sym (reading_same text one.0 other.0 one.1 other.1)) other.2) e
+  does_same (resize viewer size) one other e = calls_same (resize_to viewer size.cols size.rows) one other e
   does_same (take_up_to most) one other e = calls_same (take_most most) one other e
   does_same (leave viewer) one other e = calls_same (leave_as viewer) one other e
   does_same close one other e = calls_same (close_for Stopped) one other e

@@ -5,13 +5,14 @@ use Rattle.std.proofs.lemmas.List.{append_cancel_left, reverse-append}
 use Rattle.gate_model.specs.Sequences.{IsLater}
 use Rattle.gate_model.specs.declared.act.Act.{Act}
 use Rattle.gate_model.specs.declared.answer.Answer.{Answer}
-use Rattle.gate_model.specs.declared.answer.Answer.TheVariants.{Feed as fed, Join as joined_as, Read as was_read, Write as was_written, Take as was_taken, Leave as was_left, Close as was_closed}
+use Rattle.gate_model.specs.declared.answer.Answer.TheVariants.{Feed as fed, Join as joined_as, Read as was_read, Write as was_written, Resize as was_resized, Take as was_taken, Leave as was_left, Close as was_closed}
 use Rattle.gate_model.specs.declared.entry.Entry.{Entry}
 use Rattle.gate_model.specs.declared.event.Event.{Event}
 use Rattle.gate_model.specs.declared.event.Event.TheVariants.{Write as write_acts}
 use Rattle.gate_model.specs.declared.feed_refusal.FeedRefusal.TheVariants.{Closed as feed_closed, Worn as feed_worn, NoMemory as feed_no_memory}
 use Rattle.gate_model.specs.declared.join_refusal.JoinRefusal.TheVariants.{Closed as join_closed, Worn as join_worn, Forbidden, TooMany as too_many_viewers, NoMemory as join_no_memory}
 use Rattle.gate_model.specs.declared.read_refusal.ReadRefusal.TheVariants.{NoViewer as read_no_viewer, Worn as read_worn, NoMemory as read_no_memory}
+use Rattle.gate_model.specs.declared.resize_refusal.ResizeRefusal.TheVariants.{NoViewer as resize_no_viewer, Closed as resize_closed, Denied, Same, Worn as resize_worn, NoMemory as resize_no_memory}
 use Rattle.gate_model.specs.declared.write_refusal.WriteRefusal.{WriteRefusal}
 use Rattle.gate_model.specs.declared.write_refusal.WriteRefusal.TheVariants.{NoViewer as write_no_viewer, Closed as write_closed, Worn as write_worn, NoMemory as write_no_memory}
 use Rattle.gate_model.specs.declared.written.Written.{Written}
@@ -22,7 +23,7 @@ use Rattle.std.specs.Prelude.{take}
 use Rattle.script_lines.specs.declared.text_form.TextForm.{TextForm}
 use Rattle.script_lines.specs.declared.text_form.TextForm.TheVariants.{Script}
 use Rattle.script_lines.specs.declared.line.Line.{Line}
-use Rattle.script_lines.specs.declared.line.Line.TheVariants.{Blank as blank, Bad as bad, At as moment, Start as start, Server as server, Join as join, Read as read, Write as write, Take as take_up_to, Leave as leave, Close as close, Pixel as pixel, Same as same, Acknowledge as acknowledge, Done as done, Press as press_key, Totals as tell_totals}
+use Rattle.script_lines.specs.declared.line.Line.TheVariants.{Blank as blank, Bad as bad, At as moment, Start as start, Server as server, Join as join, Read as read, Write as write, Resize as resize, Take as take_up_to, Leave as leave, Close as close, Pixel as pixel, Same as same, Acknowledge as acknowledge, Done as done, Press as press_key, Totals as tell_totals}
 use Rattle.script_lines.specs.declared.order.Order.{Order}
 use Rattle.script_lines.specs.declared.order.Order.TheVariants.{Told as told, Untold as untold}
 use Rattle.script_lines.specs.declared.reading.Reading.{Reading}
@@ -189,6 +190,13 @@ worn_untold (was_written (Err write_no_viewer)) event n a w t = no_entries n w
 worn_untold (was_written (Err (write_closed cause))) event n a w t = no_entries n w
 worn_untold (was_written (Err (write_worn m))) event n a w t = no_text a t
 worn_untold (was_written (Err write_no_memory)) event n a w t = no_entries n w
+worn_untold (was_resized (Ok stamp)) event n a w t = no_entries n w
+worn_untold (was_resized (Err resize_no_viewer)) event n a w t = no_entries n w
+worn_untold (was_resized (Err (resize_closed cause))) event n a w t = no_entries n w
+worn_untold (was_resized (Err Denied)) event n a w t = no_entries n w
+worn_untold (was_resized (Err Same)) event n a w t = no_entries n w
+worn_untold (was_resized (Err (resize_worn m))) event n a w t = no_text a t
+worn_untold (was_resized (Err resize_no_memory)) event n a w t = no_entries n w
 worn_untold (was_taken bytes closed) event n a w t = no_entries n w
 worn_untold (was_left result) event n a w t = no_entries n w
 worn_untold (was_closed result) event n a w t = no_entries n w
@@ -232,6 +240,7 @@ module _ (p q : Play) (a f : List ℕ) where
   worn_not_done (read viewer) r n w worn does = worn_not_called _ (w.event, w.makes) r n w.step worn does
   worn_not_done (write viewer text) r n w worn does =
       by_reading does.0 viewer w.makes.1 w.makes.0 w.event r n (reading_same text (Whole w.makes.0 w.makes.1) does.0 w.makes.2 does.1) (sym w.makes.3) w.step worn does.2
+  worn_not_done (resize viewer size) r n w worn does = worn_not_called _ (w.event, w.makes) r n w.step worn does
   worn_not_done (take_up_to most) r n w worn does = worn_not_called _ (w.event, w.makes) r n w.step worn does
   worn_not_done (leave viewer) r n w worn does = worn_not_called _ (w.event, w.makes) r n w.step worn does
   worn_not_done close r n w worn does = worn_not_called _ (w.event, w.makes) r n w.step worn does
@@ -251,6 +260,7 @@ module _ (p q : Play) (a f : List ℕ) where
   too_long_not_done (server bytes) long does = absurd long
   too_long_not_done (join asked) long does = absurd long
   too_long_not_done (read viewer) long does = absurd long
+  too_long_not_done (resize viewer size) long does = absurd long
   too_long_not_done (take_up_to most) long does = absurd long
   too_long_not_done (leave viewer) long does = absurd long
   too_long_not_done close long does = absurd long
@@ -287,6 +297,7 @@ makes_once (start size mode entries) p d e w v = some_event d e (sym w ∙ v)
 makes_once (server bytes) p d e w v = some_event d e (sym w ∙ v)
 makes_once (join asked) p d e w v = some_event d e (sym w ∙ v)
 makes_once (read viewer) p d e w v = some_event d e (sym w ∙ v)
+makes_once (resize viewer size) p d e w v = some_event d e (sym w ∙ v)
 makes_once (take_up_to most) p d e w v = some_event d e (sym w ∙ v)
 makes_once (leave viewer) p d e w v = some_event d e (sym w ∙ v)
 makes_once close p d e w v = some_event d e (sym w ∙ v)
@@ -308,6 +319,7 @@ bad_makes_none (start size mode entries) p e (inr long) w = absurd long
 bad_makes_none (server bytes) p e (inr long) w = absurd long
 bad_makes_none (join asked) p e (inr long) w = absurd long
 bad_makes_none (read viewer) p e (inr long) w = absurd long
+bad_makes_none (resize viewer size) p e (inr long) w = absurd long
 bad_makes_none (take_up_to most) p e (inr long) w = absurd long
 bad_makes_none (leave viewer) p e (inr long) w = absurd long
 bad_makes_none close p e (inr long) w = absurd long

@@ -8,9 +8,9 @@ use Rattle.gate_model.specs.declared.answer.Answer.TheVariants.{Join as joined_a
 use Rattle.gate_model.specs.declared.cause.Cause.{Cause}
 use Rattle.gate_model.specs.declared.cause.Cause.TheVariants.{ServerEnd, LinkFault, Stopped, Worn}
 use Rattle.gate_model.specs.declared.entry.Entry.{Entry}
-use Rattle.gate_model.specs.declared.entry.Entry.TheVariants.{Start, Feed, Join, Read, Write, Take, Leave, Close}
+use Rattle.gate_model.specs.declared.entry.Entry.TheVariants.{Start, Feed, Size, Join, Read, Write, Take, Leave, Close}
 use Rattle.gate_model.specs.declared.event.Event.{Event}
-use Rattle.gate_model.specs.declared.event.Event.TheVariants.{Feed as feed, Join as join, Read as read, Write as write, Take as take_most, Leave as leave, Close as close}
+use Rattle.gate_model.specs.declared.event.Event.TheVariants.{Feed as feed, Join as join, Read as read, Write as write, Resize as resize, Take as take_most, Leave as leave, Close as close}
 use Rattle.gate_model.specs.declared.how.How.{How}
 use Rattle.gate_model.specs.declared.how.How.TheVariants.{Suffix, Fresh as Picture}
 use Rattle.gate_model.specs.declared.instr.Instr.{Instr}
@@ -38,6 +38,7 @@ readable_closing : (h : History) → AreReadable (closing h)
 readable_closing [] = tt
 readable_closing (Start cols rows mode term entries stamp frame ∷ g) = readable_closing g
 readable_closing (Feed bytes stamp frame ∷ g) = readable_closing g
+readable_closing (Size viewer cols rows stamp frame ∷ g) = readable_closing g
 readable_closing (Join viewer role first ∷ g) = readable_closing g
 readable_closing (Read viewer how ∷ g) = readable_closing g
 readable_closing (Write viewer acts ∷ g) = readable_closing g
@@ -82,6 +83,10 @@ adds_same h (read viewer) r s a b x y one other e =
     let how : one.0 ≡ other.0 = how_same h viewer (position h viewer) one.0 other.0 x y one.1 other.1 (ap (λ (k : Entry). framing h k ++ x) (sym one.3) ∙ (e ∙ ap (λ (k : Entry). framing h k ++ y) other.3)) in
     (one.2 ∙ (ap (λ (k : How). was_read (Ok (updated_as h viewer k))) how ∙ sym other.2), one.3 ∙ (ap (λ (k : How). Read viewer k) how ∙ sym other.3))
 adds_same h (write viewer acts) r s a b x y one other e = (one.0 ∙ sym other.0, one.1 ∙ sym other.1)
+adds_same h (resize viewer cols rows) r s a b x y one other e =
+    let stamp : ℕ = newest h + 1 in
+    let is : one.0 ≡ other.0 = line_same 0 one.0 other.0 x y one.1.in_range other.1.in_range (ap (λ (k : Entry). framing h k ++ x) (sym one.4) ∙ (e ∙ ap (λ (k : Entry). framing h k ++ y) other.4)) in
+    (one.3 ∙ sym other.3, one.4 ∙ (ap (λ (l : List Instr). Size viewer cols rows stamp l) is ∙ sym other.4))
 adds_same h (take_most most) r s a b x y one other e = (one.0 ∙ sym other.0, one.1 ∙ sym other.1)
 adds_same h (leave viewer) r s a b x y one other e = (one.0 ∙ sym other.0, one.1 ∙ sym other.1)
 adds_same h (close cause) r s a b x y one other e = (one.0 ∙ sym other.0, one.1 ∙ sym other.1)

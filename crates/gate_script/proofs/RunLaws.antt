@@ -10,7 +10,7 @@ use Rattle.gate_outside.proofs.Moved.{gained-none, gained-gained}
 use Rattle.script_lines.specs.declared.text_form.TextForm.{TextForm}
 use Rattle.script_lines.specs.declared.text_form.TextForm.TheVariants.{Draw, Script}
 use Rattle.script_lines.specs.declared.line.Line.{Line}
-use Rattle.script_lines.specs.declared.line.Line.TheVariants.{Blank, Bad, At as moment, Start, Server, Join, Read, Write, Take, Leave, Close, Pixel, Same, Acknowledge, Done, Press, Totals}
+use Rattle.script_lines.specs.declared.line.Line.TheVariants.{Blank, Bad, At as moment, Start, Server, Join, Read, Write, Resize, Take, Leave, Close, Pixel, Same, Acknowledge, Done, Press, Totals}
 use Rattle.script_lines.specs.declared.order.Order.{Order}
 use Rattle.script_lines.specs.declared.order.Order.TheVariants.{Told as told, Untold as untold}
 use Rattle.script_lines.specs.Lines.{line_in, told_by}
@@ -51,6 +51,7 @@ no_call (Server bytes) call placed = cc
 no_call (Join asked) call placed = cc
 no_call (Read viewer) call placed = cc
 no_call (Write viewer text) call placed = cc
+no_call (Resize viewer size) call placed = cc
 no_call (Take most) call placed = cc
 no_call (Leave viewer) call placed = cc
 no_call Close call placed = cc
@@ -81,6 +82,7 @@ leaves_open Blank s n (Ok u) call o = absurd call
 leaves_open Bad s n (Ok u) call o = absurd call
 leaves_open (moment now) s n (Ok u) call o = absurd call
 leaves_open (Write viewer text) s n (Ok u) call o = tt
+leaves_open (Resize viewer size) s n (Ok u) call o = tt
 leaves_open (Take most) s n (Ok u) call o = tt
 leaves_open (Leave viewer) s n (Ok u) call o = tt
 leaves_open Close s n (Ok u) call o = tt

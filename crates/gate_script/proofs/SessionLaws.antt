@@ -6,7 +6,7 @@ use Rattle.std.proofs.lemmas.List.{take_min}
 use Rattle.std.proofs.Math.Seq.{take-length}
 use Rattle.gate_model.specs.declared.act.Act.{Act}
 use Rattle.gate_model.specs.declared.answer.Answer.{Answer}
-use Rattle.gate_model.specs.declared.answer.Answer.TheVariants.{Feed as fed, Join as joined_as, Read as was_read, Write as was_written, Take as was_taken, Leave as was_left, Close as was_closed}
+use Rattle.gate_model.specs.declared.answer.Answer.TheVariants.{Feed as fed, Join as joined_as, Read as was_read, Write as was_written, Resize as was_resized, Take as was_taken, Leave as was_left, Close as was_closed}
 use Rattle.gate_model.specs.declared.how.How.{How}
 use Rattle.gate_model.specs.declared.instr.Instr.{Instr}
 use Rattle.gate_model.specs.declared.cause.Cause.TheVariants.{Stopped}
@@ -16,9 +16,9 @@ use Rattle.gate_model.specs.declared.sharing.Asked.{Asked}
 use Rattle.gate_model.specs.declared.sharing.Role.{Role}
 use Rattle.gate_model.specs.declared.sharing.Share.{Share}
 use Rattle.gate_model.specs.declared.entry.Entry.{Entry}
-use Rattle.gate_model.specs.declared.entry.Entry.TheVariants.{Start, Feed, Join, Read, Write, Take, Leave, Close}
+use Rattle.gate_model.specs.declared.entry.Entry.TheVariants.{Start, Feed, Size as size_entry, Join, Read, Write, Take, Leave, Close}
 use Rattle.gate_model.specs.declared.event.Event.{Event}
-use Rattle.gate_model.specs.declared.event.Event.TheVariants.{Feed as feed, Join as join_in, Read as read_as, Write as write_acts, Take as take_most, Leave as leave_as, Close as close_for}
+use Rattle.gate_model.specs.declared.event.Event.TheVariants.{Feed as feed, Join as join_in, Read as read_as, Write as write_acts, Resize as resize_to, Take as take_most, Leave as leave_as, Close as close_for}
 use Rattle.gate_model.specs.declared.joined.Joined.{Joined}
 use Rattle.gate_model.specs.declared.written.Written.{Written}
 use Rattle.gate_model.specs.declared.feed_refusal.FeedRefusal.{FeedRefusal}
@@ -29,6 +29,8 @@ use Rattle.gate_model.specs.declared.read_answer.ReadAnswer.{ReadAnswer}
 use Rattle.gate_model.specs.declared.read_answer.ReadAnswer.TheVariants.{Frames, Fresh, Ended, Empty, Hold}
 use Rattle.gate_model.specs.declared.read_refusal.ReadRefusal.{ReadRefusal}
 use Rattle.gate_model.specs.declared.read_refusal.ReadRefusal.TheVariants.{Worn as read_worn}
+use Rattle.gate_model.specs.declared.resize_refusal.ResizeRefusal.{ResizeRefusal}
+use Rattle.gate_model.specs.declared.resize_refusal.ResizeRefusal.TheVariants.{Worn as resize_worn}
 use Rattle.gate_model.specs.declared.write_refusal.WriteRefusal.{WriteRefusal}
 use Rattle.gate_model.specs.declared.write_refusal.WriteRefusal.TheVariants.{Worn as write_worn}
 use Rattle.gate_model.specs.text.Text.{texts}
@@ -47,12 +49,12 @@ use Rattle.gate_script.specs.declared.halt.Halt.TheVariants.{NoMemory, OutsideGr
 use Rattle.gate_script.specs.declared.reply.Reply.{Reply}
 use Rattle.script_lines.specs.declared.size.Size.{Size}
 use Rattle.script_lines.specs.declared.line.Line.{Line}
-use Rattle.script_lines.specs.declared.line.Line.TheVariants.{Start as start, Server as server, Join as join, Read as read, Write as write, Take as take_up_to, Leave as leave, Close as close, Acknowledge as acknowledge, Done as done, Press as press_key, Totals as tell_totals}
+use Rattle.script_lines.specs.declared.line.Line.TheVariants.{Start as start, Server as server, Join as join, Read as read, Write as write, Resize as resize, Take as take_up_to, Leave as leave, Close as close, Acknowledge as acknowledge, Done as done, Press as press_key, Totals as tell_totals}
 use Rattle.gate_script.specs.Told.{answer_line, answer_to, frames_line, framings, joined_line, read_told, refused_line, written_line, write_answer, pixel_line, same_line, differ_line, took_line, totals_lines}
 use Rattle.gate_script.specs.Plays.{Play, Does, Calls, Answers, Writes, acknowledgement, setup_of, seen, pixel_answer, Compares, press, Agree, TellsTotals, rows_sum, sum_seen}
 use Rattle.gate_script.specs.Seeing.{AgreeWithFirst, Canvases, AreShown, PlaysOn, TakesAway, canvas_at}
 use Rattle.gate_script.specs.Calls.{Adds, Appends, CallEnds, Halts, IsAt, LineDone, StartEnds, WriteEnds, play, read_shown}
-use Rattle.gate_script.proofs.StepLaws.{Gave, IsGiven, feed_adds, feed_stopped, join_adds, join_stopped, read_adds, read_stopped, write_adds, write_stopped, leave_adds, leave_stopped, close_adds, close_stopped, take_is}
+use Rattle.gate_script.proofs.StepLaws.{Gave, IsGiven, feed_adds, feed_stopped, join_adds, join_stopped, read_adds, read_stopped, write_adds, write_stopped, resize_adds, resize_stopped, leave_adds, leave_stopped, close_adds, close_stopped, take_is}
 use Rattle.gate_script.proofs.ShownLaws.{at_place, shown_none, shown_plain, shown_join, shown_read, shown_still, shown_leave, given_by_join}
 use Rattle.canvas.specs.Kept.{KeptLayer}
 use Rattle.canvas.specs.Standing.{Stands as stands_for, dot_at}
@@ -105,6 +107,9 @@ added_one h event answer new before after ends e is = record {
 -- what an entry shows
 framed-feed : (h : History) (bytes : List ℕ) (stamp : ℕ) (frame : List Instr) → frames_line 0 (texts frame) ≡ framings h (Feed bytes stamp frame ∷ [])
 framed-feed h bytes stamp frame = sym (append-nil (frames_line 0 (texts frame)))
+
+framed-size : (h : History) (viewer cols rows stamp : ℕ) (frame : List Instr) → frames_line 0 (texts frame) ≡ framings h (size_entry viewer cols rows stamp frame ∷ [])
+framed-size h viewer cols rows stamp frame = sym (append-nil (frames_line 0 (texts frame)))
 
 framed-start : (e : Entry) (cols rows : ℕ) (mode : Share) (term : List ℕ) (entries stamp : ℕ) (frame : List Instr) → e ≡ Start cols rows mode term entries stamp frame → frames_line 0 (texts (newest_frame (e ∷ []))) ≡ framings [] (e ∷ [])
 framed-start e cols rows mode term entries stamp frame is = rw is (sym (append-nil (frames_line 0 (texts frame))))
@@ -198,6 +203,27 @@ module _ (now : ℕ) (s : Session) (o o' : Reply) (h : History) (at : IsAt s h) 
   pub feed_is_worn : (bytes : List ℕ) (entries : ℕ) (new : DeskState) → Answered h (feed bytes now) (fed (Err (feed_worn entries))) new [] [] → Halts (server bytes) p (Worn entries)
   feed_is_worn bytes entries new ends =
       (fed (Err (feed_worn entries)), record { event = feed bytes now; makes = refl; step = subst (Step h (feed bytes now) (fed (Err (feed_worn entries)))) (feed_stopped h bytes now (feed_worn entries) ends.added ends.step) ends.step }, refl)
+
+  -- a viewer gave the screen another size
+  pub screen_sized : (viewer : ℕ) (size : Size) (stamp : ℕ) (n : Session) → Answered h (resize_to viewer size.cols size.rows) (was_resized (Ok stamp)) n.desk [] [] → n.canvases.items ≡ s.canvases.items → (text : List ℕ) → ((h : History) → Stands n.desk h → text ≡ texts (newest_frame h)) → (r : Result (Unit {0}) Halt)
+      → Adds r o o' (answer_line (codes "sized") (stamp ∷ [])) (frames_line 0 text) → CallEnds (resize viewer size) p r n o o'
+  screen_sized viewer size stamp n ends same text text_is r w =
+      let adds = resize_adds h viewer size.cols size.rows stamp ends.added ends.step in
+      let e : Entry = size_entry viewer size.cols size.rows stamp adds.0 in
+      let one = added_one h (resize_to viewer size.cols size.rows) (was_resized (Ok stamp)) n.desk [] [] ends e adds.1 in
+      line_ends (resize viewer size) p (e ∷ h) n o o' (answer_line (codes "sized") (stamp ∷ [])) (frames_line 0 text)
+      (record { result = was_resized (Ok stamp); added = e ∷ []; step = one.step; told = refl; after_it = refl; framed = ap (frames_line 0) (text_is (e ∷ h) one.stands) ∙ framed-size h viewer size.cols size.rows stamp adds.0 }) one.stands
+      (subst (λ (cs : Canvases). AreShown cs (e ∷ h)) (sym same) (shown_plain s.canvases.items h e at.shown refl (λ v. refl) (λ v. refl) (λ v. refl))) r w
+
+  pub size_refused : (viewer : ℕ) (size : Size) (refusal : ResizeRefusal) (answer : List ℕ) (n : Session) → Answered h (resize_to viewer size.cols size.rows) (was_resized (Err refusal)) n.desk [] [] → answer_to (was_resized (Err refusal)) (resize_to viewer size.cols size.rows) ≡ Some answer
+      → n.desk ≡ s.desk → n.canvases.items ≡ s.canvases.items → (r : Result (Unit {0}) Halt) → Adds r o o' answer [] → CallEnds (resize viewer size) p r n o o'
+  size_refused viewer size refusal answer n ends told same seen_same r put =
+      was_stopped (resize viewer size) (resize_to viewer size.cols size.rows) (was_resized (Err refusal)) answer n [] [] ends (resize_stopped h viewer size.cols size.rows refusal ends.added ends.step) told (λ calls. calls) same seen_same r put
+
+  pub size_is_worn : (viewer : ℕ) (size : Size) (entries : ℕ) (new : DeskState) → Answered h (resize_to viewer size.cols size.rows) (was_resized (Err (resize_worn entries))) new [] [] → Halts (resize viewer size) p (Worn entries)
+  size_is_worn viewer size entries new ends =
+      let event = resize_to viewer size.cols size.rows in
+      (was_resized (Err (resize_worn entries)), record { event = event; makes = refl; step = subst (Step h event (was_resized (Err (resize_worn entries)))) (resize_stopped h viewer size.cols size.rows (resize_worn entries) ends.added ends.step) ends.step }, refl)
 
   -- a viewer joined
   pub viewer_joined : (asked : Asked) (given_ : Joined) (n : Session) (before text : List ℕ) (canvas : List KeptLayer) → before ≡ [] → Answered h (join_in asked) (joined_as (Ok given_)) n.desk before text → ((is : List Instr) → AreReadable is → text ≡ texts is → stands_for canvas (draw nothing is)) → n.canvases.items ≡ s.canvases.items ++ Some canvas ∷ [] → (r : Result (Unit {0}) Halt)

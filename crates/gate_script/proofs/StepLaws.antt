@@ -5,13 +5,13 @@ use Rattle.std.specs.Option.{option_map}
 use Rattle.std.proofs.lemmas.Bool.Decides.{nat_tests}
 use Rattle.gate_model.specs.declared.act.Act.{Act}
 use Rattle.gate_model.specs.declared.answer.Answer.{Answer}
-use Rattle.gate_model.specs.declared.answer.Answer.TheVariants.{Feed as fed, Join as joined_as, Read as was_read, Write as was_written, Take as was_taken, Leave as was_left, Close as was_closed}
+use Rattle.gate_model.specs.declared.answer.Answer.TheVariants.{Feed as fed, Join as joined_as, Read as was_read, Write as was_written, Resize as was_resized, Take as was_taken, Leave as was_left, Close as was_closed}
 use Rattle.gate_model.specs.declared.cause.Cause.{Cause}
 use Rattle.gate_model.specs.declared.closed.Closed.{Closed}
 use Rattle.gate_model.specs.declared.entry.Entry.{Entry}
-use Rattle.gate_model.specs.declared.entry.Entry.TheVariants.{Feed, Join, Read, Write, Take, Leave, Close}
+use Rattle.gate_model.specs.declared.entry.Entry.TheVariants.{Feed, Size, Join, Read, Write, Take, Leave, Close}
 use Rattle.gate_model.specs.declared.event.Event.{Event}
-use Rattle.gate_model.specs.declared.event.Event.TheVariants.{Feed as feed, Join as join_in, Read as read_as, Write as write_acts, Take as take_most, Leave as leave_as, Close as close_for}
+use Rattle.gate_model.specs.declared.event.Event.TheVariants.{Feed as feed, Join as join_in, Read as read_as, Write as write_acts, Resize as resize_to, Take as take_most, Leave as leave_as, Close as close_for}
 use Rattle.gate_model.specs.declared.feed_refusal.FeedRefusal.{FeedRefusal}
 use Rattle.gate_model.specs.declared.how.How.{How}
 use Rattle.gate_model.specs.declared.how.How.TheVariants.{Suffix, Fresh as Picture}
@@ -23,6 +23,7 @@ use Rattle.gate_model.specs.declared.read_answer.ReadAnswer.{ReadAnswer}
 use Rattle.gate_model.specs.declared.read_answer.ReadAnswer.TheVariants.{Frames, Fresh, Ended, Empty, Hold}
 use Rattle.gate_model.specs.declared.read_refusal.ReadRefusal.{ReadRefusal}
 use Rattle.gate_model.specs.declared.read_refusal.ReadRefusal.TheVariants.{NoViewer as read_no_viewer, Worn as read_worn}
+use Rattle.gate_model.specs.declared.resize_refusal.ResizeRefusal.{ResizeRefusal}
 use Rattle.gate_model.specs.declared.sharing.Asked.{Asked}
 use Rattle.gate_model.specs.declared.write_refusal.WriteRefusal.{WriteRefusal}
 use Rattle.gate_model.specs.declared.written.Written.{Written}
@@ -30,7 +31,7 @@ use Rattle.gate_model.specs.session.Calls.{Adds, Step, stop_of, take_entry, upda
 use Rattle.gate_model.specs.session.Delivered.{position, ended}
 use Rattle.gate_model.specs.session.History.{History, newest, next_stamp, joined, is_closed, is_full}
 use Rattle.gate_model.specs.session.Output.{untaken}
-use Rattle.gate_model.specs.session.Refusals.{only_if, first_of, feed_refusal, join_refusal, write_refusal, leave_refusal, close_refusal}
+use Rattle.gate_model.specs.session.Refusals.{only_if, first_of, feed_refusal, join_refusal, write_refusal, resize_refusal, leave_refusal, close_refusal}
 use Rattle.gate_model.specs.session.Rights.{is_live}
 use Rattle.gate_model.specs.session.Waiting.{waiting}
 use Rattle.gate_model.specs.Limits.{most_waiting}
@@ -91,6 +92,16 @@ write_adds h viewer acts counts added s =
     no_stop : (o : Option WriteRefusal) → option_map (λ (r : WriteRefusal). was_written (Err r)) o ≡ Some (was_written (Ok counts)) → ⊥
     no_stop None e = let w : None ≡ Some (was_written (Ok counts)) = e in cc
     no_stop (Some r) e = let w : Some (was_written (Err r)) ≡ Some (was_written (Ok counts)) = e in cc
+
+pub resize_adds : (h : History) (viewer cols rows stamp : ℕ) (added : List Entry) → Step h (resize_to viewer cols rows) (was_resized (Ok stamp)) added → (frame : List Instr) × (added ≡ Size viewer cols rows stamp frame ∷ [])
+resize_adds h viewer cols rows stamp added s =
+    let one = adding h (resize_to viewer cols rows) (was_resized (Ok stamp)) added (no_stop (resize_refusal h viewer cols rows)) s in
+    let same : stamp ≡ newest h + 1 = (let told : was_resized (Ok stamp) ≡ was_resized (Ok (newest h + 1)) = one.1.3 in cc) in
+    (one.1.0, one.2 ∙ ap (λ (e : Entry). e ∷ []) (one.1.4 ∙ ap (λ (t : ℕ). Size viewer cols rows t one.1.0) (sym same)))
+  where
+    no_stop : (o : Option ResizeRefusal) → option_map (λ (r : ResizeRefusal). was_resized (Err r)) o ≡ Some (was_resized (Ok stamp)) → ⊥
+    no_stop None e = let w : None ≡ Some (was_resized (Ok stamp)) = e in cc
+    no_stop (Some r) e = let w : Some (was_resized (Err r)) ≡ Some (was_resized (Ok stamp)) = e in cc
 
 pub leave_adds : (h : History) (viewer : ℕ) (u : Unit {0}) (added : List Entry) → Step h (leave_as viewer) (was_left (Ok u)) added → added ≡ Leave viewer ∷ []
 leave_adds h viewer u added s =
@@ -175,6 +186,12 @@ write_stopped h viewer acts r added s = stopped h (write_acts viewer acts) (was_
   where
     no : (counts : Written) → was_written (Err r) ≡ was_written (Ok counts) → ⊥
     no counts e = cc
+
+pub resize_stopped : (h : History) (viewer cols rows : ℕ) (r : ResizeRefusal) (added : List Entry) → Step h (resize_to viewer cols rows) (was_resized (Err r)) added → added ≡ []
+resize_stopped h viewer cols rows r added s = stopped h (resize_to viewer cols rows) (was_resized (Err r)) added (λ e a. no (newest h + 1) a.3) s
+  where
+    no : (stamp : ℕ) → was_resized (Err r) ≡ was_resized (Ok stamp) → ⊥
+    no stamp e = cc
 
 pub leave_stopped : (h : History) (viewer : ℕ) (r : NoViewer) (added : List Entry) → Step h (leave_as viewer) (was_left (Err r)) added → added ≡ []
 leave_stopped h viewer r added s = stopped h (leave_as viewer) (was_left (Err r)) added (λ e a. no a.0) s

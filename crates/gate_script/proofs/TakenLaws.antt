@@ -12,7 +12,7 @@ use Rattle.gate_model.specs.declared.answer.Answer.TheVariants.{Write as was_wri
 use Rattle.gate_model.specs.declared.entry.Entry.{Entry}
 use Rattle.gate_model.specs.declared.entry.Entry.TheVariants.{Take}
 use Rattle.gate_model.specs.declared.event.Event.{Event}
-use Rattle.gate_model.specs.declared.event.Event.TheVariants.{Feed as feed, Join as join_in, Read as read_as, Write as write_acts, Take as take_most, Leave as leave_as, Close as close_for}
+use Rattle.gate_model.specs.declared.event.Event.TheVariants.{Feed as feed, Join as join_in, Read as read_as, Write as write_acts, Resize as resize_to, Take as take_most, Leave as leave_as, Close as close_for}
 use Rattle.gate_model.specs.declared.setup.Setup.{Setup}
 use Rattle.gate_model.specs.session.Entries.{taken_by}
 use Rattle.gate_model.specs.session.History.{History, is_closed}
@@ -22,7 +22,7 @@ use Rattle.script_lines.specs.declared.reading.Reading.{Reading}
 use Rattle.script_lines.specs.declared.reading.Reading.TheVariants.{Whole, Cut, Bad, TooMany}
 use Rattle.script_lines.specs.Hexadecimal.{digits_of, lower_digit}
 use Rattle.script_lines.specs.declared.line.Line.{Line}
-use Rattle.script_lines.specs.declared.line.Line.TheVariants.{Blank as blank, Bad as bad, At as moment, Start as start, Server as server, Join as join, Read as read, Write as write, Take as take_up_to, Leave as leave, Close as close, Pixel as pixel, Same as same, Acknowledge as acknowledge, Done as done, Press as press_key, Totals as tell_totals}
+use Rattle.script_lines.specs.declared.line.Line.TheVariants.{Blank as blank, Bad as bad, At as moment, Start as start, Server as server, Join as join, Read as read, Write as write, Resize as resize, Take as take_up_to, Leave as leave, Close as close, Pixel as pixel, Same as same, Acknowledge as acknowledge, Done as done, Press as press_key, Totals as tell_totals}
 use Rattle.script_lines.specs.declared.order.Order.{Order}
 use Rattle.script_lines.specs.Lines.{line_in}
 use Rattle.gate_script.specs.Told.{answer_to, taken_text, took_line}
@@ -127,6 +127,7 @@ takes_none h (feed bytes now) r (e ∷ []) other s = inr (e, refl, ap taken_by s
 takes_none h (join_in asked) r (e ∷ []) other s = inr (e, refl, ap taken_by s.1.1.5)
 takes_none h (read_as viewer) r (e ∷ []) other s = inr (e, refl, ap taken_by s.1.1.3)
 takes_none h (write_acts viewer acts) r (e ∷ []) other s = inr (e, refl, ap taken_by s.1.1.1)
+takes_none h (resize_to viewer cols rows) r (e ∷ []) other s = inr (e, refl, ap taken_by s.1.1.4)
 takes_none h (leave_as viewer) r (e ∷ []) other s = inr (e, refl, ap taken_by s.1.1.1)
 takes_none h (close_for cause) r (e ∷ []) other s = inr (e, refl, ap taken_by s.1.1.1)
 takes_none h (take_most most) r (e ∷ []) other s = absurd other
@@ -185,6 +186,7 @@ module _ (bytes own : List ℕ) where
   line_sends (join asked) p q a f does none s = calls_send (join_in asked) p q a f tt does none s
   line_sends (read viewer) p q a f does none s = calls_send (read_as viewer) p q a f tt does none s
   line_sends (write viewer text) p q a f does none s = writes_send does.0 viewer p q a f does.2 none s
+  line_sends (resize viewer size) p q a f does none s = calls_send (resize_to viewer size.cols size.rows) p q a f tt does none s
   line_sends (take_up_to most) p q a f does prints s = take_sends most p q a f does prints s
   line_sends (leave viewer) p q a f does none s = calls_send (leave_as viewer) p q a f tt does none s
   line_sends close p q a f does none s = calls_send (close_for Stopped) p q a f tt does none s

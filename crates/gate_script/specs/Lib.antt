@@ -1,5 +1,6 @@
 -- In reading order: what lines do and tell, how a run ends, what viewers see, what a session's calls do,
--- what the sinks hold, where a run stands, where a load stands, what the lines and the frames fix.
+-- what the sinks hold, where a run stands, where a load stands, what the
+-- words `play` tell and how they end, what the lines and the frames fix, some answers worked out.
 pub mod Told
 pub mod Plays
 pub mod Outcomes
@@ -9,4 +10,7 @@ pub mod Calls
 pub mod Sinks
 pub mod Running
 pub mod Loading
+pub mod PlayTold
+pub mod PlayOutcomes
 pub mod Laws
+pub mod Worked

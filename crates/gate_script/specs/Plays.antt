@@ -7,7 +7,7 @@ use Rattle.gate_model.specs.declared.answer.Answer.TheVariants.{Write as was_wri
 use Rattle.gate_model.specs.declared.cause.Cause.TheVariants.{Stopped}
 use Rattle.gate_model.specs.declared.entry.Entry.{Entry}
 use Rattle.gate_model.specs.declared.event.Event.{Event}
-use Rattle.gate_model.specs.declared.event.Event.TheVariants.{Feed as feed, Join as join_in, Read as read_as, Write as write_acts, Take as take_most, Leave as leave_as, Close as close_for}
+use Rattle.gate_model.specs.declared.event.Event.TheVariants.{Feed as feed, Join as join_in, Read as read_as, Write as write_acts, Resize as resize_to, Take as take_most, Leave as leave_as, Close as close_for}
 use Rattle.gate_model.specs.declared.setup.Setup.{Setup}
 use Rattle.gate_model.specs.declared.sharing.Share.{Share}
 use Rattle.gate_model.specs.declared.act.Act.{Act}
@@ -33,7 +33,7 @@ use Rattle.gate_model.specs.session.Truth.{Faithful}
 use Rattle.gate_model.specs.session.Whole.{Whole as IsWholeHistory}
 use Rattle.script_lines.specs.declared.size.Size.{Size}
 use Rattle.script_lines.specs.declared.line.Line.{Line}
-use Rattle.script_lines.specs.declared.line.Line.TheVariants.{Blank, Bad as Outside, At, Start, Server, Join, Read, Write, Take, Leave, Close, Pixel, Same as Alike, Acknowledge, Done, Press, Totals as TellTotals}
+use Rattle.script_lines.specs.declared.line.Line.TheVariants.{Blank, Bad as Outside, At, Start, Server, Join, Read, Write, Resize, Take, Leave, Close, Pixel, Same as Alike, Acknowledge, Done, Press, Totals as TellTotals}
 use Rattle.script_lines.specs.declared.totals.Totals.{Totals}
 use Rattle.script_lines.specs.declared.order.Order.{Order}
 use Rattle.script_lines.specs.Lines.{line_in, told_by}
@@ -165,6 +165,7 @@ abbrev pub event_of : Line → Play → Option Event
 event_of (Server bytes) p = Some (feed bytes p.now)
 event_of (Join asked) p = Some (join_in asked)
 event_of (Read viewer) p = Some (read_as viewer)
+event_of (Resize viewer size) p = Some (resize_to viewer size.cols size.rows)
 event_of (Take most) p = Some (take_most most)
 event_of (Leave viewer) p = Some (leave_as viewer)
 event_of Close p = Some (close_for Stopped)
@@ -182,6 +183,7 @@ Does (Server bytes) p q a f = Calls (feed bytes p.now) p q a f
 Does (Join asked) p q a f = Calls (join_in asked) p q a f
 Does (Read viewer) p q a f = Calls (read_as viewer) p q a f
 Does (Write viewer text) p q a f = (reading : Reading) × IsReading text reading × DoesReading reading viewer p q a f
+Does (Resize viewer size) p q a f = Calls (resize_to viewer size.cols size.rows) p q a f
 Does (Take most) p q a f = Calls (take_most most) p q a f
 Does (Leave viewer) p q a f = Calls (leave_as viewer) p q a f
 Does Close p q a f = Calls (close_for Stopped) p q a f

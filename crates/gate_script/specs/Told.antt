@@ -1,10 +1,10 @@
 -- What is printed: the answers to calls, and the frames (this project's own).
 use Rattle.std.specs.Prelude.{ℕ, Bool, if◌then◌else◌, List, [], ◌∷◌, ◌++◌, codes, decimal, flat_map, Option, Some, None, Result, Ok, Err}
 use Rattle.gate_model.specs.declared.answer.Answer.{Answer}
-use Rattle.gate_model.specs.declared.answer.Answer.TheVariants.{Feed as fed, Join as joined_as, Read as was_read, Write as was_written, Take as was_taken, Leave as was_left, Close as was_closed}
+use Rattle.gate_model.specs.declared.answer.Answer.TheVariants.{Feed as fed, Join as joined_as, Read as was_read, Write as was_written, Resize as was_resized, Take as was_taken, Leave as was_left, Close as was_closed}
 use Rattle.gate_model.specs.declared.closed.Closed.{Closed}
 use Rattle.gate_model.specs.declared.entry.Entry.{Entry}
-use Rattle.gate_model.specs.declared.entry.Entry.TheVariants.{Start, Feed, Join, Read}
+use Rattle.gate_model.specs.declared.entry.Entry.TheVariants.{Start, Feed, Size, Join, Read}
 use Rattle.gate_model.specs.declared.event.Event.{Event}
 use Rattle.gate_model.specs.declared.event.Event.TheVariants.{Leave as leave_as}
 use Rattle.gate_model.specs.declared.feed_refusal.FeedRefusal.{FeedRefusal}
@@ -17,6 +17,8 @@ use Rattle.gate_model.specs.declared.read_answer.ReadAnswer.{ReadAnswer}
 use Rattle.gate_model.specs.declared.read_answer.ReadAnswer.TheVariants.{Frames, Fresh, Ended, Empty, Hold}
 use Rattle.gate_model.specs.declared.read_refusal.ReadRefusal.{ReadRefusal}
 use Rattle.gate_model.specs.declared.read_refusal.ReadRefusal.TheVariants.{NoViewer as read_no_viewer, Worn as read_worn}
+use Rattle.gate_model.specs.declared.resize_refusal.ResizeRefusal.{ResizeRefusal}
+use Rattle.gate_model.specs.declared.resize_refusal.ResizeRefusal.TheVariants.{NoViewer as resize_no_viewer, Closed as resize_closed, Denied, Same, Worn as resize_worn}
 use Rattle.gate_model.specs.declared.write_refusal.WriteRefusal.{WriteRefusal}
 use Rattle.gate_model.specs.declared.write_refusal.WriteRefusal.TheVariants.{NoViewer as write_no_viewer, Closed as write_closed, Worn as write_worn}
 use Rattle.gate_model.specs.declared.written.Written.{Written}
@@ -88,6 +90,15 @@ write_answer (Err write_no_viewer) passed = Some (refused_line not_found)
 write_answer (Err (write_closed cause)) passed = Some (refused_line session_closed)
 write_answer (Err refusal) passed = None
 
+-- the answer to a change of size
+abbrev pub resize_answer : Result ℕ ResizeRefusal → Option (List ℕ)
+resize_answer (Ok stamp) = Some (answer_line (codes "sized") (stamp ∷ []))
+resize_answer (Err resize_no_viewer) = Some (refused_line not_found)
+resize_answer (Err (resize_closed cause)) = Some (refused_line session_closed)
+resize_answer (Err Denied) = Some (answer_line (codes "denied") [])
+resize_answer (Err Same) = Some (answer_line (codes "unchanged") [])
+resize_answer (Err refusal) = None
+
 -- the bytes that a take handed out, or a dash where there were none
 abbrev pub taken_text : List ℕ → List ℕ
 taken_text [] = codes "-"
@@ -109,6 +120,7 @@ answer_to (fed result) event = feed_answer result
 answer_to (joined_as result) event = join_answer result
 answer_to (was_read result) event = read_answer result
 answer_to (was_written result) event = write_answer result 0
+answer_to (was_resized result) event = resize_answer result
 answer_to (was_taken bytes closed) event = Some (took_line bytes)
 answer_to (was_left result) (leave_as viewer) = leave_answer viewer result
 answer_to (was_closed result) event = close_answer result
@@ -120,12 +132,14 @@ worn_by (fed (Err (feed_worn entries))) = Some entries
 worn_by (joined_as (Err (join_worn entries))) = Some entries
 worn_by (was_read (Err (read_worn entries))) = Some entries
 worn_by (was_written (Err (write_worn entries))) = Some entries
+worn_by (was_resized (Err (resize_worn entries))) = Some entries
 worn_by answer = None
 
 -- the frame that an entry after g made, or what it gave a viewer
 abbrev pub framing : History → Entry → List ℕ
 framing g (Start cols rows mode term entries stamp frame) = frames_line 0 (texts frame)
 framing g (Feed bytes stamp frame) = frames_line 0 (texts frame)
+framing g (Size viewer cols rows stamp frame) = frames_line 0 (texts frame)
 framing g (Join viewer role first) = frames_line viewer (texts first)
 framing g (Read viewer how) = frames_line viewer (texts (given g (delivered g viewer) viewer (Read viewer how)))
 framing g e = []

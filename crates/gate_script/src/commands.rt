@@ -11,6 +11,7 @@ ghost use Rattle.gate_script.specs.Running.{Ended, HasCause, HasRead, Put, RunEn
 use crate::halt::Halt;
 use crate::input::Input;
 use crate::load::Load;
+use crate::play::play;
 use crate::refused::Refused;
 use crate::reply::Reply;
 use crate::run::Run;
@@ -25,10 +26,13 @@ use std::alloc::Global;
 /// - `draw COLS ROWS`: 1 to 512 columns, 1 to 256 rows, at most 8,192 cells.
 /// - `script` or `script ENTRIES`: 1 to 2^40 entries, 2^40 where none is given.
 /// - `load SEED ROUNDS`: a seed below 2^64, at most 1,000,000 rounds. Nothing is read.
+/// - `play info`, `play at STAMP` or `play keys`: a stamp below 2^64. The input is a recording, or for `keys` a
+///   client's stream, of at most 67,108,864 bytes; no frames are written.
 ///
 /// The statuses: 0, the input was read to its end, or the rounds were done; 2, the words are of no form, and nothing is read or
 /// written; 3, a line of the script is outside the grammar; 4, the source failed; 5, a sink failed; 6,
-/// want of memory; 7, the session may have no more entries.
+/// want of memory; 7, the session may have no more entries; 10, the recording has a fault, or the stream a bad
+/// byte.
 pub fn command<S: Source, A: Sink, F: Sink>(
     alloc: Global,
     words: &[String],
@@ -56,6 +60,7 @@ pub fn command<S: Source, A: Sink, F: Sink>(
         None => 2,
         Some(Form::Text(form)) => text(alloc, form, source, answers, frames),
         Some(Form::Load(seed, rounds)) => load(alloc, seed, rounds, answers, frames),
+        Some(Form::Play(told)) => play(alloc, told, source, answers),
     }
 }
 

@@ -1,5 +1,5 @@
-//! The commands that run over text: `draw`, which draws what a Telnet host would have sent, and `script`,
-//! which does the lines of a script.
+//! The commands that run over text: `draw`, which draws what a Telnet host would have sent, `script`, which does
+//! the lines of a script, and `play`, which tells of a recording (`specs/PlayTold.antt`, `specs/PlayOutcomes.antt`).
 //!
 //! `command` is the public call. Its contract says for each status what was read and written: the
 //! answers and the frames are just what the lines that the input makes (`specs/Grammar.antt` of
@@ -17,6 +17,8 @@ mod kind;
 pub mod laws;
 mod level;
 mod load;
+mod play;
+mod play_told;
 mod playing;
 mod refused;
 mod reply;

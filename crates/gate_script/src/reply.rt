@@ -244,9 +244,13 @@ fn push_frames_line(line: &mut Vec<u8>, viewer: u32, text: &[u8]) -> Result<(), 
     Ok(())
 }
 
-// Appends an answer.
+/// Appends an answer.
 #[tactic(auto, unfolding(crate::specs::Told::answer_line))]
-fn push_answer_line(line: &mut Vec<u8>, word: &str, numbers: &[u64]) -> Result<(), NoMemory>
+pub(crate) fn push_answer_line(
+    line: &mut Vec<u8>,
+    word: &str,
+    numbers: &[u64],
+) -> Result<(), NoMemory>
     ensures { OnOk result (line.new.items ≡ line.old.items ++ answer_line word.now numbers.now) }
 {
     push_words(line, word, numbers)?;

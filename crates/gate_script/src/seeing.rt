@@ -89,8 +89,8 @@ pub(crate) fn pixel_sum(canvases: &[Option<Canvas>]) -> Result<u64, NoMemory>
     rows_sum(canvas, width, height)
 }
 
-// The sum of the first rows.
-fn rows_sum(canvas: &Canvas, width: u32, height: u32) -> Result<u64, NoMemory>
+/// The sum of all colours of the first rows of layer 0. A sum that isn't below 2^64 is refused.
+pub(crate) fn rows_sum(canvas: &Canvas, width: u32, height: u32) -> Result<u64, NoMemory>
     ensures { (m : Layers) → Stands canvas.now m → width ≡ (m visible).width → IfOk result (λ sum. sum ≡ rows_sum (m visible) height) }
 {
     let mut sum = 0;

@@ -11,7 +11,8 @@ use crate::reply::{Numbers, Reply};
 use crate::seeing::{agree_with_first, are_same, dot_of, pixel_sum};
 use canvas::Canvas;
 use desk_core::{
-    Desk, FeedRefusal, JoinRefusal, NoMemory, ReadRefusal, Setup, WriteRefusal, Written,
+    Desk, FeedRefusal, JoinRefusal, NoMemory, ReadRefusal, ResizeRefusal, Setup, WriteRefusal,
+    Written,
 };
 use gate_model::{Act, Asked, Cause, Share, Text, statuses};
 use script_lines::{Line, Reading, Size, Totals, read_acts};
@@ -29,7 +30,7 @@ pub(crate) struct Session {
 impl Session {
     ghost use Rattle.gate_model.specs.session.Calls.{IsWrite};
     ghost use Rattle.gate_model.specs.session.History.{History};
-    ghost use Rattle.script_lines.specs.declared.line.Line.TheVariants.{Acknowledge, Close, Done, Join, Leave, Pixel, Press, Read, Same, Server, Start, Take, Totals as TellTotals, Write};
+    ghost use Rattle.script_lines.specs.declared.line.Line.TheVariants.{Acknowledge, Close, Done, Join, Leave, Pixel, Press, Read, Resize, Same, Server, Start, Take, Totals as TellTotals, Write};
     ghost use Rattle.script_lines.specs.Lines.{IsInRange};
     ghost use Rattle.gate_script.specs.Calls.{CallEnds, IsAt, IsCall, IsOpenDesk, LeavesOpen, StartEnds, StaysOpen, WriteEnds, play};
     ghost use Rattle.gate_script.specs.Seeing.{PlaysOn, TakesAway};
@@ -77,6 +78,7 @@ impl Session {
             Line::Join(asked) => self.join(alloc, asked, reply),
             Line::Read(viewer) => self.read(viewer, reply),
             Line::Write(viewer, text) => self.write(alloc, viewer, text.as_slice(), reply),
+            Line::Resize(viewer, size) => self.resize(alloc, viewer, size, reply),
             Line::Take(most) => self.take(alloc, most, reply),
             Line::Leave(viewer) => self.leave(viewer, reply),
             Line::Close => self.close(reply),
@@ -237,6 +239,28 @@ impl Session {
             pressed: true,
         }];
         self.write_acts(alloc, viewer, &acts, 0, reply)
+    }
+
+    // The viewer gives the screen this size.
+    fn resize(
+        &mut self,
+        alloc: Global,
+        viewer: u32,
+        size: Size,
+        reply: &mut Reply,
+    ) -> Result<(), Halt>
+        requires { IsScreenSize size.cols size.rows }
+        ensures { (h : History) (now : ℕ) → IsAt self.old h → CallEnds (Resize viewer size) (play now h) result self.new reply.old reply.new }
+    {
+        match self.desk.resize(alloc, viewer, size.cols, size.rows) {
+            Ok(stamp) => reply.report(0, self.desk.newest_frame(), "sized", &[stamp]),
+            Err(ResizeRefusal::NoViewer) => reply.refuse(statuses::NOT_FOUND),
+            Err(ResizeRefusal::Closed(_)) => reply.refuse(statuses::SESSION_CLOSED),
+            Err(ResizeRefusal::Denied) => reply.say("denied", &[]),
+            Err(ResizeRefusal::Same) => reply.say("unchanged", &[]),
+            Err(ResizeRefusal::Worn { entries }) => Err(Halt::Worn(entries)),
+            Err(ResizeRefusal::NoMemory) => Err(Halt::NoMemory),
+        }
     }
 
     // Takes the next bytes that wait for the host, at most so many, and tells them.

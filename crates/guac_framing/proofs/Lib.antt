@@ -9,3 +9,4 @@ pub mod Places
 pub mod Steps
 pub mod Stops
 pub mod Apart
+pub mod Streams

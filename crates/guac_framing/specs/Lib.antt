@@ -6,3 +6,4 @@ pub mod Spans
 pub mod Scanned
 pub mod Answers
 pub mod Behind
+pub mod Splits

@@ -1,6 +1,6 @@
 //! The writers of one element and of an instruction's end.
 
-ghost use Rattle.std.specs.Prelude.{◌≡◌, ◌∷◌, ◌++◌, [], length, decimal, OnOk, OnErr};
+ghost use Rattle.std.specs.Prelude.{◌≡◌, ◌≤◌, ◌+◌, ◌∷◌, ◌++◌, [], length, decimal, vec_len, vec_capacity, IsOk, OnOk, OnErr};
 ghost use Rattle.std.specs.Fmt.{signed_decimal};
 ghost use Rattle.std.specs.Str.{chars};
 ghost use Rattle.gate_model.specs.Sequences.{BeginsWith};
@@ -11,10 +11,12 @@ use itoa::{Buffer, Integer};
 
 /// Appends an element: a `,` unless it is the instruction's first, the number of the value's characters
 /// in shortest decimal, `.`, and the value (the Guacamole manual, "The Guacamole protocol"). Refused for
-/// want of memory, it leaves the buffer as it was.
+/// want of memory, it leaves the buffer as it was; a buffer that has the room isn't refused.
 pub fn put_element(into: &mut Vec<u8>, first: bool, value: &str) -> Result<(), NoMemory>
     ensures appended { OnOk result (into.new.items ≡ into.old.items ++ separated first (chars value.now)) }
     ensures unchanged { OnErr result (into.new.items ≡ into.old.items) }
+    ensures succeeds { vec_len into.old + length (separated first (chars value.now)) ≤ vec_capacity into.old → IsOk result }
+    ensures capacity { vec_capacity into.old ≤ vec_capacity into.new }
 {
     put_counted(into, first, characters(value), value.as_bytes())
 }
@@ -23,6 +25,8 @@ pub fn put_element(into: &mut Vec<u8>, first: bool, value: &str) -> Result<(), N
 pub fn put_number(into: &mut Vec<u8>, first: bool, value: i128) -> Result<(), NoMemory>
     ensures appended { OnOk result (into.new.items ≡ into.old.items ++ separated first (signed_decimal value)) }
     ensures unchanged { OnErr result (into.new.items ≡ into.old.items) }
+    ensures succeeds { vec_len into.old + length (separated first (signed_decimal value)) ≤ vec_capacity into.old → IsOk result }
+    ensures capacity { vec_capacity into.old ≤ vec_capacity into.new }
 {
     match i64::try_from(value) {
         Ok(small) => put_integer(into, first, small),
@@ -34,6 +38,8 @@ pub fn put_number(into: &mut Vec<u8>, first: bool, value: i128) -> Result<(), No
 pub fn put_end(into: &mut Vec<u8>) -> Result<(), NoMemory>
     ensures appended { OnOk result (into.new.items ≡ into.old.items ++ 59 ∷ []) }
     ensures unchanged { OnErr result (into.new.items ≡ into.old.items) }
+    ensures succeeds { vec_len into.old + 1 ≤ vec_capacity into.old → IsOk result }
+    ensures capacity { vec_capacity into.old ≤ vec_capacity into.new }
 {
     into.push(b';')?;
     Ok(())
@@ -43,6 +49,8 @@ pub fn put_end(into: &mut Vec<u8>) -> Result<(), NoMemory>
 fn put_integer<I: Integer>(into: &mut Vec<u8>, first: bool, value: I) -> Result<(), NoMemory>
     ensures appended { OnOk result (into.new.items ≡ into.old.items ++ separated first (I.text value)) }
     ensures unchanged { OnErr result (into.new.items ≡ into.old.items) }
+    ensures succeeds { vec_len into.old + length (separated first (I.text value)) ≤ vec_capacity into.old → IsOk result }
+    ensures capacity { vec_capacity into.old ≤ vec_capacity into.new }
 {
     let mut buffer = Buffer::new();
     let text = buffer.format(value).as_bytes();
@@ -61,11 +69,13 @@ fn characters(text: &str) -> usize
 fn put_counted(into: &mut Vec<u8>, first: bool, count: usize, value: &[u8]) -> Result<(), NoMemory>
     ensures appended { OnOk result (into.new.items ≡ into.old.items ++ spelled first (decimal count) value.now) }
     ensures unchanged { OnErr result (into.new.items ≡ into.old.items) }
+    ensures succeeds { vec_len into.old + length (spelled first (decimal count) value.now) ≤ vec_capacity into.old → IsOk result }
+    ensures capacity { vec_capacity into.old ≤ vec_capacity into.new }
 {
     let mut buffer = Buffer::new();
-    let length = buffer.format(count).as_bytes();
+    let digits = buffer.format(count).as_bytes();
     let before = into.len();
-    let put = put_spelled(into, first, length, value);
+    let put = put_spelled(into, first, digits, value);
     if put.is_err() {
         into.truncate(before);
     }
@@ -73,14 +83,16 @@ fn put_counted(into: &mut Vec<u8>, first: bool, count: usize, value: &[u8]) -> R
 }
 
 // Appends the pieces of an element. Refused, it may have appended some of them.
-fn put_spelled(into: &mut Vec<u8>, first: bool, length: &[u8], value: &[u8]) -> Result<(), NoMemory>
-    ensures appended { OnOk result (into.new.items ≡ into.old.items ++ spelled first length.now value.now) }
+fn put_spelled(into: &mut Vec<u8>, first: bool, digits: &[u8], value: &[u8]) -> Result<(), NoMemory>
+    ensures appended { OnOk result (into.new.items ≡ into.old.items ++ spelled first digits.now value.now) }
     ensures front { BeginsWith into.new.items into.old.items }
+    ensures succeeds { vec_len into.old + length (spelled first digits.now value.now) ≤ vec_capacity into.old → IsOk result }
+    ensures capacity { vec_capacity into.old ≤ vec_capacity into.new }
 {
     if !first {
         into.push(b',')?;
     }
-    into.extend_from_slice(length)?;
+    into.extend_from_slice(digits)?;
     into.push(b'.')?;
     into.extend_from_slice(value)?;
     Ok(())

@@ -1,4 +1,3 @@
-pub mod Playable
 pub mod Streams
 pub mod Seeing
 pub mod Coming

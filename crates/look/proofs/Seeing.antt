@@ -13,7 +13,8 @@ use Rattle.canvas.specs.Kept.{KeptLayer}
 use Rattle.canvas.specs.Standing.{Stands}
 use Rattle.look.specs.declared.until.Until.{Until}
 use Rattle.look.specs.declared.looked.Marks.{Marks}
-use Rattle.look.specs.Stream.{AreUnasked, GoesOn, HasRead, is_asked, stamp_of, stamps}
+use Rattle.look.specs.Stream.{AreUnasked, GoesOn, HasRead, is_asked, stamps}
+use Rattle.record_play.specs.Stamps.{stamp_of}
 use Rattle.look.specs.Shown.{IsShown}
 use Rattle.look.specs.Seen.{IsMarked}
 use Rattle.look.specs.declared.looking.View.{View}

@@ -1,7 +1,6 @@
 -- In reading order: which stream is looked at, what is read of it, which picture of it is shown, and how.
 pub mod Choosing
 pub mod Stream
-pub mod Playable
 pub mod Seen
 pub mod Shown
 pub mod Faces

@@ -3,34 +3,19 @@
 use Rattle.std.specs.Prelude.{◌≡◌, ℕ, ◌+◌, ◌≤◌, List, [], ◌∷◌, ◌++◌, length, drop, Bool, true, false, nat_le, Option, Some, None, option_to_list}
 use Rattle.std.specs.List.{filter_map}
 use Rattle.gate_model.specs.declared.instr.Instr.{Instr}
-use Rattle.gate_model.specs.declared.instr.Instr.TheVariants.{Size, Rect, Cfill, Copy, Sync, Disconnect, Error}
 use Rattle.gate_model.specs.text.ServerMeaning.{instr_of}
-use Rattle.gate_model.specs.text.Spelling.{Spells}
+use Rattle.guac_framing.specs.Splits.{Splits}
+use Rattle.record_play.specs.Stamps.{stamp_of}
 use Rattle.look.specs.declared.until.Until.{Until}
 use Rattle.look.specs.declared.until.Until.TheVariants.{Last, Frame, Stamp}
 
--- the text is these instructions, one after the other, and then a rest; an instruction is the list of its
--- elements
-abbrev pub Splits : List ℕ → List (List (List ℕ)) → List ℕ → Type 0
-Splits text [] rest = text ≡ rest
-Splits text (e ∷ es) rest = (own after : List ℕ) × Spells own e × (text ≡ own ++ after) × Splits after es rest
-
--- the bytes before the place are whole instructions, and those of them that the gateway sends are these
+-- the bytes before the place are whole instructions, each the list of its elements, and those of them that the
+-- gateway sends are these
 pub record HasRead (text : List ℕ) (place : ℕ) (instrs : List Instr) : Type 0 where
   pub elements : List (List (List ℕ))
   pub within : place ≤ length text
   pub splits : Splits text elements (drop place text)
   pub meant : instrs ≡ filter_map instr_of elements
-
--- the stamp of a sync
-abbrev pub stamp_of : Instr → Option ℕ
-stamp_of (Size layer width height) = None
-stamp_of (Rect layer x y width height) = None
-stamp_of (Cfill layer red green blue) = None
-stamp_of (Copy from x y width height to to_x to_y) = None
-stamp_of (Sync stamp) = Some stamp
-stamp_of Disconnect = None
-stamp_of (Error status) = None
 
 -- the stamps of the syncs, in order
 abbrev pub stamps : List Instr → List ℕ

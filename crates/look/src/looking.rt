@@ -4,11 +4,11 @@ ghost use Rattle.std.specs.Prelude.{◌≡◌, ◌++◌, ◌∷◌, ◌+◌, ◌
 ghost use Rattle.gate_model.specs.picture.Layers.{Layers, draw};
 ghost use Rattle.gate_model.specs.text.ServerMeaning.{instr_of};
 ghost use Rattle.gate_model.specs.declared.instr.Instr.{Instr};
-ghost use Rattle.canvas.specs.Standing.{IsPlayable, Stands};
-ghost use Rattle.look.specs.Playable.{ArePlayable};
+ghost use Rattle.canvas.specs.Standing.{ArePlayable, IsPlayable, Stands};
 ghost use Rattle.look.specs.Seen.{IsMarked};
 ghost use Rattle.look.specs.Shown.{IsLooked, IsShown};
-ghost use Rattle.look.specs.Stream.{GoesOn, is_asked, stamp_of};
+ghost use Rattle.look.specs.Stream.{GoesOn, is_asked};
+ghost use Rattle.record_play.specs.Stamps.{stamp_of};
 
 use crate::looked::{End, Looked, Marks};
 use crate::until::Until;
@@ -16,6 +16,7 @@ use canvas::Canvas;
 use gate_model::{Instr, NoMemory};
 use guac_framing::{Frame, Next, next_instruction};
 use guac_instr::read_server;
+use record_play::stamp_of;
 use std::alloc::Global;
 
 // The canvas up to the sync that is marked, and the instructions that were read since then.
@@ -121,16 +122,6 @@ impl View {
         self.marks.frame = self.marks.syncs;
         self.marks.stamp = stamp;
         Ok(())
-    }
-}
-
-// The stamp of a sync.
-fn stamp_of(instr: Instr) -> Option<u64>
-    ensures { result ≡ stamp_of instr }
-{
-    match instr {
-        Instr::Sync { stamp } => Some(stamp),
-        _ => None,
     }
 }
 

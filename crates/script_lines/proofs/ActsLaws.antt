@@ -7,12 +7,9 @@ use Rattle.std.specs.Prelude.{Option, Some, None}
 use Rattle.gate_model.specs.text.ClientMeaning.{act_of}
 use Rattle.gate_model.specs.text.Spelling.{Spells}
 use Rattle.gate_model.specs.declared.act.Act.{Act}
-use Rattle.script_lines.specs.Acts.{HasTooMany, Splits, acts_from, acts_of, passed_from, passed_of}
-
--- one instruction more
-pub splits_more : (es : List (List (List ℕ))) (text rest own after : List ℕ) (e : List (List ℕ)) → Splits text es rest → Spells own e → rest ≡ own ++ after → Splits text (es ++ e ∷ []) after
-splits_more [] text rest own after e is spells split = (own, after, spells, is ∙ split, refl)
-splits_more (f ∷ es) text rest own after e s spells split = (s.0, s.1, s.2, s.3, splits_more es s.1 rest own after e s.4 spells split)
+use Rattle.guac_framing.specs.Splits.{Splits}
+use Rattle.guac_framing.proofs.Streams.{left_at, splits_on}
+use Rattle.script_lines.specs.Acts.{HasTooMany, acts_from, acts_of, passed_from, passed_of}
 
 pub acts_more : (es : List (List (List ℕ))) (e : List (List ℕ)) → acts_of (es ++ e ∷ []) ≡ acts_of es ++ acts_from (act_of e)
 acts_more [] e = append-nil (acts_from (act_of e))
@@ -39,10 +36,6 @@ pub record HasReadTo (text : List ℕ) (at count : ℕ) (acts : List Act) (passe
   pub acts_are : acts ≡ acts_of instructions
   pub passed_is : passed ≡ passed_of instructions
 
--- what is left of the text at a place
-pub left_at : (text : List ℕ) (at : ℕ) → take (length text - at) (drop at text) ≡ drop at text
-left_at text at = take_all (length text - at) (drop at text) (omega (arith, length-drop at text))
-
 module _ (text : List ℕ) (at count : ℕ) (acts : List Act) (passed : ℕ) (so_far : HasReadTo text at count acts passed) where
   -- the next instruction, with its act or none
   pub reads_one : (values : List (List ℕ)) (size : ℕ) → IsWhole (take (length text - at) (drop at text)) values size → HasReadTo text (at + size) (count + 1) (acts ++ acts_from (act_of values)) (passed + passed_from (act_of values))
@@ -51,9 +44,7 @@ module _ (text : List ℕ) (at count : ℕ) (acts : List Act) (passed : ℕ) (so
       let is : act_of values ≡ act_of e = ap act_of whole.texts ∙ act_in_utf8 e in
       record {
         instructions = so_far.instructions ++ e ∷ [];
-        splits = splits_more so_far.instructions text (drop at text) (take size (drop at text)) (drop (at + size) text) e so_far.splits
-            (subst (λ (l : List ℕ). Spells (take size l) e) (left_at text at) whole.spelled)
-            (sym (ap (λ (l : List ℕ). take size (drop at text) ++ l) (sym (drop-drop size at text)) ∙ take-append-drop size (drop at text)));
+        splits = splits_on text at values size whole so_far.instructions so_far.splits;
         count_is = length-append so_far.instructions (e ∷ []) ∙ ap (λ (n : ℕ). n + 1) so_far.count_is;
         acts_are = rw (is, so_far.acts_are) (sym (acts_more so_far.instructions e));
         passed_is = rw (is, so_far.passed_is) (sym (passed_more so_far.instructions e));

@@ -3,9 +3,9 @@
 use Rattle.std.specs.Prelude.{◌≡◌, ◌≢◌, ℕ, ◌+◌, ◌≤◌, List, [], ◌∷◌, ◌++◌, length, Option, Some, None}
 use Rattle.gate_model.specs.session.Calls.{IsWrite}
 use Rattle.gate_model.specs.text.ClientMeaning.{act_of}
-use Rattle.gate_model.specs.text.Spelling.{Spells}
 use Rattle.gate_model.specs.declared.act.Act.{Act}
 use Rattle.guac_framing.specs.Found.{IsUnfinished, IsBadAt}
+use Rattle.guac_framing.specs.Splits.{Splits}
 use Rattle.guac_framing.specs.declared.next.BadAt.{BadAt}
 use Rattle.script_lines.specs.declared.reading.Reading.{Reading}
 use Rattle.script_lines.specs.declared.reading.Reading.TheVariants.{Whole, Cut, Bad, TooMany}
@@ -13,11 +13,6 @@ use Rattle.script_lines.specs.declared.reading.Reading.TheVariants.{Whole, Cut, 
 -- the most instructions of a text
 abbrev pub most_instructions : ℕ
 most_instructions = 4096
-
--- the text is these instructions, one after the other, and then a rest
-abbrev pub Splits : List ℕ → List (List (List ℕ)) → List ℕ → Type 0
-Splits text [] rest = text ≡ rest
-Splits text (e ∷ es) rest = (own after : List ℕ) × Spells own e × (text ≡ own ++ after) × Splits after es rest
 
 -- the act, or none
 abbrev pub acts_from : Option Act → List Act

@@ -15,7 +15,7 @@ use Rattle.script_lines.specs.Hexadecimal.{bytes_of}
 use Rattle.script_lines.specs.Words.{size_of}
 use Rattle.script_lines.specs.Pieces.{whole_pieces, all_pieces}
 use Rattle.script_lines.specs.declared.line.Line.{Line}
-use Rattle.script_lines.specs.declared.line.Line.TheVariants.{Blank, Bad, At, Start, Server, Join, Read, Write, Take, Leave, Close, Pixel, Same, Acknowledge, Done, Press, Totals}
+use Rattle.script_lines.specs.declared.line.Line.TheVariants.{Blank, Bad, At, Start, Server, Join, Read, Write, Resize, Take, Leave, Close, Pixel, Same, Acknowledge, Done, Press, Totals}
 use Rattle.script_lines.specs.declared.order.Order.{Order}
 use Rattle.script_lines.specs.declared.order.Order.TheVariants.{Told}
 use Rattle.script_lines.specs.Lines.{line_in, draw_lines}
@@ -59,6 +59,15 @@ reading (Some viewer) = Read viewer
 abbrev pub writing : Option ℕ → Option (List ℕ) → Line
 writing (Some viewer) (Some text) = Write viewer text
 writing viewer text = Bad
+
+-- `size N COLS ROWS`
+abbrev pub resizing : Option ℕ → Option Size → Line
+resizing (Some viewer) (Some size) = Resize viewer size
+resizing viewer size = Bad
+
+abbrev pub new_size : List ℕ → Option (List ℕ) → Line
+new_size viewer None = Bad
+new_size viewer (Some text) = resizing (number_up_to (2 ^ 32 - 1) viewer) (option_and_then (size_of (first_word text)) (behind_word text))
 
 -- `take M`
 abbrev pub taking : Option ℕ → Line
@@ -124,10 +133,11 @@ meant entries name text =
     if bytes_eq name (codes "join") then joining (asked_of text) else (
     if bytes_eq name (codes "read") then reading (number_up_to (2 ^ 32 - 1) text) else (
     if bytes_eq name (codes "write") then writing (number_up_to (2 ^ 32 - 1) (first_word text)) (behind_word text) else (
+    if bytes_eq name (codes "size") then new_size (first_word text) (behind_word text) else (
     if bytes_eq name (codes "take") then taking (number_up_to most_taken text) else (
     if bytes_eq name (codes "leave") then leaving (number_up_to (2 ^ 32 - 1) text) else (
     if bytes_eq name (codes "pixel") then pixel_place (first_word text) (behind_word text) else (
-    if bytes_eq name (codes "same") then comparing (number_up_to (2 ^ 32 - 1) (first_word text)) (option_and_then (number_up_to (2 ^ 32 - 1)) (behind_word text)) else Bad)))))))))
+    if bytes_eq name (codes "same") then comparing (number_up_to (2 ^ 32 - 1) (first_word text)) (option_and_then (number_up_to (2 ^ 32 - 1)) (behind_word text)) else Bad))))))))))
 
 -- a line of one word
 abbrev pub alone : List ℕ → Line
@@ -160,6 +170,7 @@ in_place false (Server bytes) = Bad
 in_place false (Join asked) = Bad
 in_place false (Read viewer) = Bad
 in_place false (Write viewer text) = Bad
+in_place false (Resize viewer size) = Bad
 in_place false (Take most) = Bad
 in_place false (Leave viewer) = Bad
 in_place false Close = Bad

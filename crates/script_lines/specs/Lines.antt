@@ -5,7 +5,7 @@ use Rattle.gate_model.specs.declared.sharing.Share.TheVariants.{Nobody}
 use Rattle.gate_model.specs.Limits.{most_piece, most_entries}
 use Rattle.gate_model.specs.session.Steps.{IsScreenSize}
 use Rattle.script_lines.specs.declared.line.Line.{Line}
-use Rattle.script_lines.specs.declared.line.Line.TheVariants.{Start, Server, Join, Read, Acknowledge}
+use Rattle.script_lines.specs.declared.line.Line.TheVariants.{Start, Server, Join, Read, Resize, Acknowledge}
 use Rattle.script_lines.specs.declared.order.Order.{Order}
 use Rattle.script_lines.specs.declared.order.Order.TheVariants.{Told, Untold}
 use Rattle.script_lines.specs.declared.size.Size.{Size}
@@ -30,4 +30,5 @@ draw_lines size (piece ∷ pieces) = Untold (Acknowledge 1) ∷ Untold (Read 1) 
 abbrev pub IsInRange : Line → Type 0
 IsInRange (Start size mode entries) = IsScreenSize size.cols size.rows × (1 ≤ entries) × (entries ≤ most_entries)
 IsInRange (Server bytes) = (1 ≤ length bytes) × (length bytes ≤ most_piece)
+IsInRange (Resize viewer size) = IsScreenSize size.cols size.rows
 IsInRange line = Unit {0}

@@ -1,10 +1,11 @@
 -- The words of the program (this project's own): `draw COLS ROWS`, `script`, `script ENTRIES`, `load SEED
--- ROUNDS`.
+-- ROUNDS`, `play info`, `play at STAMP`, `play keys`.
 use Rattle.std.specs.Prelude.{ℕ, ◌*◌, ◌-◌, ◌^◌, ◌<◌, ◌≤◌, List, [], ◌∷◌, Bool, ◌&&◌, nat_le, if◌then◌else◌, Option, Some, None, codes, bytes_eq}
 use Rattle.gate_model.specs.Limits.{most_columns, most_rows, most_cells, most_entries}
 use Rattle.gate_model.specs.session.Steps.{IsScreenSize}
 use Rattle.script_lines.specs.declared.form.Form.{Form}
-use Rattle.script_lines.specs.declared.form.Form.TheVariants.{Text, Load}
+use Rattle.script_lines.specs.declared.form.Form.TheVariants.{Text, Load, Play}
+use Rattle.script_lines.specs.declared.play_form.PlayForm.TheVariants.{Info, At, Keys}
 use Rattle.script_lines.specs.declared.text_form.TextForm.{TextForm}
 use Rattle.script_lines.specs.declared.text_form.TextForm.TheVariants.{Draw, Script}
 use Rattle.script_lines.specs.declared.size.Size.{Size}
@@ -42,13 +43,24 @@ abbrev pub loading : Option ℕ → Option ℕ → Option Form
 loading (Some seed) (Some rounds) = if nat_le rounds most_rounds then Some (Load seed rounds) else None
 loading seed rounds = None
 
+-- what is told of a recording, by the words behind `play`
+abbrev pub playing : List ℕ → Option Form
+playing told = if bytes_eq told (codes "info") then Some (Play Info) else (if bytes_eq told (codes "keys") then Some (Play Keys) else None)
+
+abbrev pub playing_at : List ℕ → Option ℕ → Option Form
+playing_at told None = None
+playing_at told (Some stamp) = if bytes_eq told (codes "at") then Some (Play (At stamp)) else None
+
 -- the form of the words, if they are of one
 abbrev pub form_of : List (List ℕ) → Option Form
 form_of (name ∷ []) = if bytes_eq name (codes "script") then Some (Text (Script most_entries)) else None
-form_of (name ∷ entries ∷ []) = if bytes_eq name (codes "script") then of_text (counted (number_of entries)) else None
+form_of (name ∷ word ∷ []) =
+    if bytes_eq name (codes "script") then of_text (counted (number_of word)) else (
+    if bytes_eq name (codes "play") then playing word else None)
 form_of (name ∷ one ∷ other ∷ []) =
     if bytes_eq name (codes "draw") then of_text (drawing (size_of one other)) else (
-    if bytes_eq name (codes "load") then loading (number_up_to (2 ^ 64 - 1) one) (number_of other) else None)
+    if bytes_eq name (codes "load") then loading (number_up_to (2 ^ 64 - 1) one) (number_of other) else (
+    if bytes_eq name (codes "play") then playing_at one (number_up_to (2 ^ 64 - 1) other) else None))
 form_of words = None
 
 -- what a form holds is in range
@@ -59,3 +71,4 @@ IsTextForm (Script entries) = (1 ≤ entries) × (entries ≤ most_entries)
 abbrev pub IsForm : Form → Type 0
 IsForm (Text form) = IsTextForm form
 IsForm (Load seed rounds) = (seed < 2 ^ 64) × (rounds ≤ most_rounds)
+IsForm (Play told) = Unit {0}

@@ -1,3 +1,4 @@
+use crate::play_form::PlayForm;
 use crate::text_form::TextForm;
 
 /// A form of the program's words.
@@ -7,4 +8,6 @@ pub enum Form {
     Text(TextForm),
     /// Do the lines that words drawn under this seed make, in so many rounds.
     Load(u64, u32),
+    /// Tell of the recording that the input is.
+    Play(PlayForm),
 }

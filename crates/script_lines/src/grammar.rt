@@ -2,9 +2,10 @@
 
 ghost use Rattle.std.specs.Prelude.{◌≡◌, ◌≤◌, ◌+◌, ◌-◌, ◌^◌, length, position, option_and_then, IfOk, bytes_eq};
 ghost use Rattle.std.specs.Option.{option_map};
-ghost use Rattle.script_lines.specs.Grammar.{alone, asked_of, behind_word, comparing, content, end_length, first_word, in_place, is_blank, judged, joining, leaving, line_of, looking, meant, mode_of, most_line, most_of, most_script, most_taken, moved, pixel_place, reading, served, start_mode, start_rows, taking, writing};
+ghost use Rattle.script_lines.specs.Grammar.{alone, asked_of, behind_word, comparing, content, end_length, first_word, in_place, is_blank, judged, joining, leaving, line_of, looking, meant, mode_of, most_line, most_of, most_script, most_taken, moved, new_size, pixel_place, reading, resizing, served, start_mode, start_rows, taking, writing};
 ghost use Rattle.script_lines.specs.Hexadecimal.{bytes_of};
 ghost use Rattle.script_lines.specs.Numbers.{number_up_to};
+ghost use Rattle.script_lines.specs.Words.{size_of};
 ghost use Rattle.script_lines.specs.Lines.{IsInRange};
 ghost use Rattle.gate_model.specs.Limits.{most_entries};
 
@@ -186,6 +187,9 @@ fn meant(alloc: Global, entries: u64, name: &[u8], text: &[u8]) -> Result<Line, 
     if is(name, "write") {
         return write(alloc, text);
     }
+    if is(name, "size") {
+        return Ok(size(text));
+    }
     if is(name, "take") {
         return Ok(take(text));
     }
@@ -323,6 +327,33 @@ fn write(alloc: Global, text: &[u8]) -> Result<Line, NoMemory>
             Ok(Line::Write(viewer, text))
         }
         _ => Ok(Line::Bad),
+    }
+}
+
+// `size VIEWER COLS ROWS`
+fn size(text: &[u8]) -> Line
+    ensures says { result ≡ new_size (first_word text.now) (behind_word text.now) }
+    ensures in_range { IsInRange result }
+{
+    let words = split(text);
+    match words.behind {
+        Some(behind) => size_for(words.first, behind),
+        None => Line::Bad,
+    }
+}
+
+// `size` with this word for the viewer, and then `COLS ROWS`
+fn size_for(viewer: &[u8], text: &[u8]) -> Line
+    ensures says { result ≡ resizing (number_up_to (2 ^ 32 - 1) viewer.now) (option_and_then (size_of (first_word text.now)) (behind_word text.now)) }
+    ensures in_range { IsInRange result }
+{
+    let words = split(text);
+    let Some(rows) = words.behind else {
+        return Line::Bad;
+    };
+    match (number_of_32_bits(viewer), size_of(words.first, rows)) {
+        (Some(viewer), Some(size)) => Line::Resize(viewer, size),
+        _ => Line::Bad,
     }
 }
 

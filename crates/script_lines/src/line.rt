@@ -21,6 +21,8 @@ pub enum Line {
     Read(u32),
     /// The viewer writes a text of instructions.
     Write(u32, Bytes),
+    /// The viewer gives the screen this size.
+    Resize(u32, Size),
     /// At most so many bytes are taken for the host.
     Take(u32),
     /// The viewer leaves.

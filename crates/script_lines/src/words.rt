@@ -3,10 +3,11 @@
 ghost use Rattle.std.specs.Prelude.{◌≡◌, ◌^◌, ◌-◌, map, string_bytes, IfSome};
 ghost use Rattle.gate_model.specs.session.Steps.{IsScreenSize};
 ghost use Rattle.script_lines.specs.Numbers.{number_up_to};
-ghost use Rattle.script_lines.specs.Words.{IsForm, IsTextForm, counted, drawing, form_of, loading, of_text, size_of, sized};
+ghost use Rattle.script_lines.specs.Words.{IsForm, IsTextForm, counted, drawing, form_of, loading, of_text, playing, playing_at, size_of, sized};
 
 use crate::form::Form;
 use crate::numbers::{number, number_of_64_bits};
+use crate::play_form::PlayForm;
 use crate::size::Size;
 use crate::text_form::TextForm;
 
@@ -16,9 +17,9 @@ const MOST_ENTRIES: u64 = 1 << 40;
 /// The most rounds of a load (this project's own rule).
 const MOST_ROUNDS: u128 = 1_000_000;
 
-/// The form of the words, if they are of one: `draw COLS ROWS`, `script`, `script ENTRIES` or `load SEED
-/// ROUNDS`. Numbers are of 1 to 20 decimal digits: 1 to 512 columns, 1 to 256 rows, at most 8,192 cells, 1 to
-/// 2^40 entries (2^40 where none is given), a seed below 2^64, 0 to 1,000,000 rounds.
+/// The form of the words, if they are of one: `draw COLS ROWS`, `script`, `script ENTRIES`, `load SEED
+/// ROUNDS`, `play info`, `play at STAMP` or `play keys`. Numbers are of 1 to 20 decimal digits: 1 to 512 columns, 1 to 256 rows, at most 8,192 cells, 1 to
+/// 2^40 entries (2^40 where none is given), a seed and a stamp below 2^64, 0 to 1,000,000 rounds.
 pub fn form_of(words: &[String]) -> Option<Form>
     ensures exact { result ≡ form_of (map string_bytes words.now) }
     ensures in_range { IfSome result IsForm }
@@ -26,6 +27,7 @@ pub fn form_of(words: &[String]) -> Option<Form>
     match words {
         [name] if name.as_str() == "script" => Some(Form::Text(TextForm::Script(MOST_ENTRIES))),
         [name, entries] if name.as_str() == "script" => of_text(script(number(entries.as_bytes()))),
+        [name, told] if name.as_str() == "play" => play(told.as_str()),
         [name, cols, rows] if name.as_str() == "draw" => {
             of_text(draw(size_of(cols.as_bytes(), rows.as_bytes())))
         }
@@ -35,7 +37,37 @@ pub fn form_of(words: &[String]) -> Option<Form>
                 number(rounds.as_bytes()),
             )
         }
+        [name, told, stamp] if name.as_str() == "play" => {
+            play_at(told.as_str(), number_of_64_bits(stamp.as_bytes()))
+        }
         _ => None,
+    }
+}
+
+// The form `play` with one word more.
+fn play(told: &str) -> Option<Form>
+    ensures exact { result ≡ playing told.now }
+    ensures in_range { IfSome result IsForm }
+{
+    if told == "info" {
+        Some(Form::Play(PlayForm::Info))
+    } else if told == "keys" {
+        Some(Form::Play(PlayForm::Keys))
+    } else {
+        None
+    }
+}
+
+// The form `play` with a word and a stamp.
+fn play_at(told: &str, stamp: Option<u64>) -> Option<Form>
+    ensures exact { result ≡ playing_at told.now stamp }
+    ensures in_range { IfSome result IsForm }
+{
+    let stamp = stamp?;
+    if told == "at" {
+        Some(Form::Play(PlayForm::At(stamp)))
+    } else {
+        None
     }
 }
 

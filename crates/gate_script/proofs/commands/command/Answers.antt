@@ -1,8 +1,9 @@
-use Rattle.std.proofs.Common.{◌≡◌, ◌∙◌, sym, subst}
+use Rattle.std.proofs.Common.{◌≡◌, ◌∙◌, inl, sym, subst}
 use Rattle.script_lines.specs.declared.form.Form.{Form}
-use Rattle.script_lines.specs.declared.form.Form.TheVariants.{Text, Load}
+use Rattle.script_lines.specs.declared.form.Form.TheVariants.{Text, Load, Play}
 use Rattle.gate_script.specs.Outcomes.{Outcome, Ran}
 use Rattle.gate_script.proofs.LoadEndings.{load_is_used, load_ran, load_reads_none, same_form, text_is_used, text_ran, used}
+use Rattle.gate_script.proofs.PlayEndings.{play_is_used, play_ran}
 use Rattle.gate_script.proofs.commands.command.Goals as goal
 
 -- the lines of an input
@@ -38,3 +39,23 @@ returns-in-Some-Load-clause-outcome g c = λ form is.
 
 pub returns-in-Some-Load-clause-read_fault : goal.returns-in-Some-Load-clause-read_fault
 returns-in-Some-Load-clause-read_fault g c = λ e. load_reads_none c.load.result c.load.ensures.only e
+
+-- a recording
+
+pub returns-in-Some-Play-clause-usage : goal.returns-in-Some-Play-clause-usage
+returns-in-Some-Play-clause-usage g c = used _ c.in-Some-Play.field-0 c.play.result (sym c.in-Some-Play.ensures.exact) (λ e. play_is_used c.play.result c.play.ensures.only e)
+
+pub returns-in-Some-Play-clause-nothing : goal.returns-in-Some-Play-clause-nothing
+returns-in-Some-Play-clause-nothing g c = λ e. play_is_used c.play.result c.play.ensures.only e
+
+pub returns-in-Some-Play-clause-outcome : goal.returns-in-Some-Play-clause-outcome
+returns-in-Some-Play-clause-outcome g c = λ form is.
+    let same : Play c.in-Some-Play.told ≡ form = sym c.in-Some-Play.field-0-is ∙ same_form c.in-Some-Play.field-0 form (c.in-Some-Play.ensures.exact ∙ is) in
+    let before = g.S.Source.left c.args.source.now in
+    let left = g.S.Source.left c.play.new.source in
+    let framed = g.F.Sink.written c.args.frames.now in
+    subst (λ (x : Form). Ran before left (g.A.Sink.written c.args.answers.now) (g.A.Sink.written c.play.new.answers) framed framed (Outcome c.play.result x left)) same
+    (play_ran c.in-Some-Play.told c.play.result before left (g.A.Sink.written c.args.answers.now) (g.A.Sink.written c.play.new.answers) framed c.play.ensures.outcome)
+
+pub returns-in-Some-Play-clause-write_fault : goal.returns-in-Some-Play-clause-write_fault
+returns-in-Some-Play-clause-write_fault g c = λ e. inl (c.play.ensures.write_fault e)

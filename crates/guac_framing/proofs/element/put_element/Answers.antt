@@ -1,4 +1,4 @@
-use Rattle.std.proofs.Common.{◌∙◌, ap, ◌++◌, decimal}
+use Rattle.std.proofs.Common.{◌∙◌, ◌+◌, ◌≤◌, ap, sym, ◌++◌, decimal, length, subst, vec_len, vec_capacity}
 use Rattle.std.proofs.lemmas.Result.{on_ok_weaker}
 use Rattle.guac_framing.specs.Appended.{spelled}
 use Rattle.guac_framing.proofs.Spelled.{spelled-text}
@@ -11,3 +11,11 @@ returns-clause-appended c =
     (ap (spelled c.args.first (decimal c.characters.result)) c.as_bytes.ensures.value
     ∙ spelled-text c.args.first c.characters.result c.args.value.now c.utf8.value c.characters.ensures))
     c.put_counted.ensures.appended
+
+pub returns-clause-succeeds : goal.returns-clause-succeeds
+returns-clause-succeeds c room =
+    c.put_counted.ensures.succeeds
+    (subst (λ text. vec_len c.args.into.now + length text ≤ vec_capacity c.args.into.now)
+    (sym (ap (spelled c.args.first (decimal c.characters.result)) c.as_bytes.ensures.value
+    ∙ spelled-text c.args.first c.characters.result c.args.value.now c.utf8.value c.characters.ensures))
+    room)

@@ -1,7 +1,8 @@
 use Rattle.std.proofs.Common.{ℕ, List, sym, subst}
 use Rattle.guac_framing.specs.Found.{IsBadAt}
 use Rattle.look.specs.Shown.{IsLooked}
-use Rattle.look.proofs.Streams.{goes_on, left_at, within}
+use Rattle.guac_framing.proofs.Streams.{left_at, within}
+use Rattle.look.proofs.Streams.{goes_on}
 use Rattle.look.proofs.looking.look_at.Goals as goal
 
 pub loop-at-preserved : goal.loop-at-preserved

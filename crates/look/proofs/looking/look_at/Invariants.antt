@@ -1,5 +1,5 @@
 use Rattle.std.proofs.Common.{length, ◌-◌, ◌≤◌}
-use Rattle.look.specs.Playable.{ArePlayable}
+use Rattle.canvas.specs.Standing.{ArePlayable}
 use Rattle.look.specs.Shown.{IsShown}
 use Rattle.look.proofs.looking.look_at.Given as goal
 

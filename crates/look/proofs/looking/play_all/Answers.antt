@@ -3,7 +3,7 @@ use Rattle.std.proofs.lemmas.List.{take_all}
 use Rattle.gate_model.specs.declared.instr.Instr.{Instr}
 use Rattle.gate_model.specs.picture.Layers.{draw}
 use Rattle.canvas.specs.Standing.{Stands}
-use Rattle.look.proofs.Playable.{playable_at}
+use Rattle.canvas.proofs.Playable.{playable_at}
 use Rattle.look.proofs.Seeing.{played_more}
 use Rattle.look.proofs.looking.play_all.Goals as goal
 

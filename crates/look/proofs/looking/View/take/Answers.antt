@@ -1,10 +1,10 @@
 use Rattle.std.proofs.Common.{List, [], ◌∷◌, ◌++◌, sym, ◌∙◌, ap, subst}
 use Rattle.std.specs.Prelude.{Some}
 use Rattle.gate_model.specs.declared.instr.Instr.{Instr}
-use Rattle.look.specs.Playable.{ArePlayable}
+use Rattle.canvas.specs.Standing.{ArePlayable}
 use Rattle.look.specs.Shown.{IsShown}
 use Rattle.look.specs.Stream.{GoesOn}
-use Rattle.look.proofs.Playable.{one_more}
+use Rattle.canvas.proofs.Playable.{one_more}
 use Rattle.look.proofs.Seeing.{sync_is, sync_shown, waits}
 use Rattle.look.proofs.looking.View.take.Goals as goal
 
