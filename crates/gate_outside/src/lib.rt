@@ -33,6 +33,7 @@ mod std_source;
 mod sure_source;
 #[cfg(test)]
 mod tests;
+mod waking;
 mod writing;
 
 pub use again::Again;
@@ -59,4 +60,8 @@ pub use spawner::{Spawner, Way, start_by};
 pub use std_sink::StdSink;
 pub use std_source::StdSource;
 pub use sure_source::SureSource;
+pub use waking::{
+    ring_after_feed, ring_after_leave, ring_after_take, ring_after_write, wait_for_news,
+    wait_for_room,
+};
 pub use writing::write_all;

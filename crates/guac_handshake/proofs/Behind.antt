@@ -14,7 +14,7 @@ use Rattle.guac_handshake.specs.declared.expected.Said.{Said}
 use Rattle.guac_handshake.specs.declared.expected.Said.TheVariants as said
 use Rattle.guac_handshake.specs.declared.stop.Stop.{Stop}
 use Rattle.guac_handshake.specs.declared.stop.Stop.TheVariants.{Refused, Ended, ReadFault, WriteFault, NoMemory}
-use Rattle.guac_handshake.specs.Asks.{Wish, Unfinished, Wants, Refuses, asks_behind, before_connect, begin_wish, beginning, connects_as, connects_in, is_connect, join_wish, joining, last_size, size_after}
+use Rattle.guac_handshake.specs.Asks.{ReadsNoFurther, Wish, Unfinished, Wants, Refuses, asks_behind, before_connect, begin_wish, beginning, connects_as, connects_in, is_connect, join_wish, joining, last_size, size_after}
 use Rattle.guac_handshake.specs.declared.ask.Ask.{Ask}
 use Rattle.gate_model.specs.declared.sharing.Asked.{Asked}
 use Rattle.guac_handshake.specs.declared.request.Selected.TheVariants.{Telnet, Known}
@@ -93,6 +93,38 @@ module _ (chosen : Selected) where
 
   pub asks_connect : (es : List (List (List ℕ))) (e : List (List ℕ)) → NoneConnects es → is_connect e ≡ true → length es ≤ 64 → asks_behind chosen (es ++ e ∷ []) ≡ connects_as chosen e (last_size es)
   asks_connect es e none is few = rw (before_last es e none is, find_last es e none is, under (length es) few) refl
+
+-- ---- no front of the instructions settles what is asked
+
+pub not_none : (front more : List (List (List ℕ))) (values : List (List ℕ)) → [] ≡ front ++ values ∷ more → ⊥
+not_none [] more values e = cc
+not_none (f ∷ front) more values e = cc
+
+none_front : (front rest : List (List (List ℕ))) → NoneConnects (front ++ rest) → NoneConnects front
+none_front [] rest none = tt
+none_front (e ∷ front) rest none = (none.0, none_front front rest none.1)
+
+-- a front that doesn't have the last one is a front of those before it
+front_within : (es front more : List (List (List ℕ))) (e values : List (List ℕ)) → es ++ e ∷ [] ≡ front ++ values ∷ more → (rest : List (List (List ℕ))) × (es ≡ front ++ rest)
+front_within es [] more e values is = (es, refl)
+front_within [] (f ∷ front) more e values is = absurd (not_none front more values (let same : [] ≡ front ++ values ∷ more = cc in same))
+front_within (x ∷ es) (f ∷ front) more e values is =
+    let first : x ≡ f = cc in
+    let others : es ++ e ∷ [] ≡ front ++ values ∷ more = cc in
+    let k = front_within es front more e values others in
+    (k.0, ap (λ (y : List (List ℕ)). y ∷ es) first ∙ ap (λ (ys : List (List (List ℕ))). f ∷ ys) k.1)
+
+module _ (chosen : Selected) where
+  open_front : (es front rest : List (List (List ℕ))) → NoneConnects es → es ≡ front ++ rest → length front ≤ 64 → asks_behind chosen front ≡ Unfinished
+  open_front es front rest none is few = asks_open chosen front (none_front front rest (subst NoneConnects is none)) few
+
+  pub no_further_open : (es : List (List (List ℕ))) → NoneConnects es → length es ≤ 65 → ReadsNoFurther (asks_behind chosen) es
+  no_further_open es none few = λ front more values is. open_front es front (values ∷ more) none is (omega (arith, few, ap length is, length-append front (values ∷ more)))
+
+  pub no_further_last : (es : List (List (List ℕ))) (e : List (List ℕ)) → NoneConnects es → length es ≤ 64 → ReadsNoFurther (asks_behind chosen) (es ++ e ∷ [])
+  no_further_last es e none few = λ front more values is.
+      let k = front_within es front more e values is in
+      open_front es front k.0 none k.1 (omega (arith, few, ap length k.1, length-append front k.0))
 
 -- what a wish is said as
 wish_asks : (w : Wish) (request : Request) → said.Ask request ≡ wish_said w → w ≡ Wants request
@@ -210,6 +242,7 @@ module _ (first left now : Option (List ℕ)) (unread before rest : List ℕ) (s
     instructions = so_far.others ++ values_of ∷ [];
     came_is = came_on;
     split = split_on;
+    no_further = no_further_last chosen so_far.others values_of so_far.none (subst (λ (n : ℕ). n ≤ 64) (sym so_far.count_is) few);
     answers = subst (λ (w : Wish). Answers w rest now result)
         (ap (connects_as chosen values_of) so_far.size_is ∙ sym (asks_connect chosen so_far.others values_of so_far.none is (subst (λ (n : ℕ). n ≤ 64) (sym so_far.count_is) few)))
         answers;
@@ -222,6 +255,7 @@ connected_many chosen first left unread rest size count so_far many = record {
   instructions = so_far.others;
   came_is = so_far.came_is;
   split = so_far.split;
+  no_further = no_further_open chosen so_far.others so_far.none (omega (arith, so_far.count_is, many));
   answers = OutOfForm (asks_many chosen so_far.others so_far.none (so_far.count_is ∙ many));
 }
 
@@ -240,6 +274,7 @@ connected_stop chosen first left now unread before rest size count expected stop
   came_is = so_far.came_is ∙ ap (came so_far.bytes) heard.came_is ∙ came-came so_far.bytes heard.bytes now;
   split = subst (λ (l : List ℕ). Splits l so_far.others rest) (append_assoc unread so_far.bytes heard.bytes)
       (subst (λ (l : List ℕ). Splits (unread ++ so_far.bytes ++ heard.bytes) so_far.others l) (sym heard.heard.0) (splits_append so_far.others (unread ++ so_far.bytes) before heard.bytes so_far.split));
+  no_further = no_further_open chosen so_far.others so_far.none (omega (arith, so_far.count_is, few));
   answers = subst (λ (r : Result Request Stop). Answers (asks_behind chosen so_far.others) rest now r) (sym e)
       (stop_answers _ rest now stop (asks_open chosen so_far.others so_far.none (subst (λ (n : ℕ). n ≤ 64) (sym so_far.count_is) few)) heard.heard.1);
 }

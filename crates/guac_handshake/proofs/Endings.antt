@@ -12,9 +12,9 @@ use Rattle.guac_handshake.specs.declared.request.Request.{Request}
 use Rattle.guac_handshake.specs.declared.stop.Stop.{Stop}
 use Rattle.guac_handshake.specs.declared.stop.Stop.TheVariants as stop
 use Rattle.guac_handshake.specs.declared.welcome.Welcome.{Welcome}
-use Rattle.guac_handshake.specs.Asks.{Wish, Wants, asks, selected}
+use Rattle.guac_handshake.specs.Asks.{Wish, Refuses, Unfinished, Wants, asks, selected}
 use Rattle.guac_handshake.specs.Doors.{MayRefuse, Sessions, asked_more, logged_for}
-use Rattle.guac_handshake.specs.Greetings.{AskedAsWished, AskedAtMost, AskedOnce, ByDoor, ByForm, Ends, ErrorReply, HasAsked, IsGreeting, IsServed, IsToldError, IsToldReady, NoReply, NotAsked, ReadyReply, RefusedEarly, Unasked, Wished}
+use Rattle.guac_handshake.specs.Greetings.{AskedAsWished, AskedAtMost, AskedOnce, Broken, ByDoor, ByForm, EarlyReply, Ends, HasAsked, IsGreeting, IsReplyTo, IsServed, IsToldError, IsToldReady, NoReply, NotAsked, OutOfForm, ReadyReply, RefusalReply, RefusedEarly, Unasked, Wished}
 use Rattle.guac_handshake.specs.Statuses.{status_of}
 use Rattle.guac_handshake.specs.Splits.{Splits}
 use Rattle.guac_handshake.specs.Texts.{args_for, error_text, ready_text}
@@ -36,8 +36,8 @@ serve_ok May request w v a b welcome (greeted.Ready other) e t = (t.1, e)
 serve_ok May request w v a b welcome (greeted.Refused status) e t = absurd t
 serve_ok May request w v a b welcome greeted.Ended e t = absurd t
 serve_ok May request w v a b welcome greeted.ReadFault e t = absurd t
-serve_ok May request w v a b welcome greeted.WriteFault e t = (ready_text welcome.id, ReadyReply welcome.id refl, t, AskedOnce e)
-serve_ok May request w v a b welcome greeted.NoMemory e t = (ready_text welcome.id, ReadyReply welcome.id refl, t, AskedOnce e)
+serve_ok May request w v a b welcome greeted.WriteFault e t = (ready_text welcome.id, ReadyReply request welcome.id refl refl, t, AskedOnce e)
+serve_ok May request w v a b welcome greeted.NoMemory e t = (ready_text welcome.id, ReadyReply request welcome.id refl refl, t, AskedOnce e)
 
 -- the door refused
 pub serve_err : {P : Type 0} (May : Request → Refused → Type 0) (request : Request) (w v : Option (List ℕ)) (a b : Option (List Request)) (r : Refused) (status : ℕ) (result : Greeted P) → May request r → status ≡ status_of r → b ≡ logged_for a request r → IsToldError status w v result → IsServed May request w v a b result
@@ -45,8 +45,8 @@ serve_err May request w v a b r status (greeted.Ready other) may is e t = absurd
 serve_err May request w v a b r status (greeted.Refused told) may is e t = (r, may, t.0 ∙ is, t.1, e)
 serve_err May request w v a b r status greeted.Ended may is e t = absurd t
 serve_err May request w v a b r status greeted.ReadFault may is e t = absurd t
-serve_err May request w v a b r status greeted.WriteFault may is e t = (error_text status, ErrorReply status refl, t, at_most a b request r e)
-serve_err May request w v a b r status greeted.NoMemory may is e t = (error_text status, ErrorReply status refl, t, at_most a b request r e)
+serve_err May request w v a b r status greeted.WriteFault may is e t = (error_text status, RefusalReply request r refl may (ap error_text is), t, at_most a b request r e)
+serve_err May request w v a b r status greeted.NoMemory may is e t = (error_text status, RefusalReply request r refl may (ap error_text is), t, at_most a b request r e)
 
 -- a text after the parameters
 gained_on : (w m v : Option (List ℕ)) (args text : List ℕ) → m ≡ gained w args → v ≡ gained m text → v ≡ gained w (args ++ text)
@@ -60,21 +60,35 @@ wished : (wish : Wish) (a b : Option (List Request)) (request : Request) → wis
 wished wish a b request is (NotAsked e) = Unasked e
 wished wish a b request is (AskedOnce e) = Wished request is e
 
+wants_open : (request : Request) → Wants request ≡ Unfinished → ⊥
+wants_open request e = cc
+
+wants_early : (request : Request) (rest : List ℕ) (status : ℕ) → RefusedEarly (Wants request) rest status → ⊥
+wants_early request rest status (OutOfForm e) = let same : Wants request ≡ Refuses status = e in cc
+wants_early request rest status (Broken e is at) = wants_open request e
+
+-- the reply to a request is that to the wish
+reply_to : (May : Request → Refused → Type 0) (wish : Wish) (rest text : List ℕ) (request : Request) → wish ≡ Wants request → IsReplyTo May (Wants request) [] text → IsReplyTo May wish rest text
+reply_to May wish rest text request is (NoReply waits e) = absurd (wants_open request waits)
+reply_to May wish rest text request is (EarlyReply status early e) = absurd (wants_early request [] status early)
+reply_to May wish rest text request is (RefusalReply q r same may e) = RefusalReply q r (is ∙ same) may e
+reply_to May wish rest text request is (ReadyReply q id same e) = ReadyReply q id (is ∙ same) e
+
 ends_served : {P : Type 0} (May : Request → Refused → Type 0) (wish : Wish) (args rest : List ℕ) (left w m v : Option (List ℕ)) (a b : Option (List Request)) (request : Request) (result : Greeted P) → wish ≡ Wants request → m ≡ gained w args → IsServed May request m v a b result → Ends May wish args rest left w v a b result
 ends_served May wish args rest left w m v a b request (greeted.Ready welcome) is e s = (request, is, gained_on w m v args (ready_text welcome.id) e s.0, s.1)
 ends_served May wish args rest left w m v a b request (greeted.Refused status) is e s = (gained_on w m v args (error_text status) e s.3, ByDoor request s.0 is s.1 s.2 s.4)
 ends_served May wish args rest left w m v a b request greeted.Ended is e s = absurd s
 ends_served May wish args rest left w m v a b request greeted.ReadFault is e s = absurd s
-ends_served May wish args rest left w m v a b request greeted.WriteFault is e s = (s.0, s.1, front_on w m v args s.0 e s.2, wished wish a b request is s.3)
-ends_served May wish args rest left w m v a b request greeted.NoMemory is e s = (s.0, s.1, front_on w m v args s.0 e s.2, wished wish a b request is s.3)
+ends_served May wish args rest left w m v a b request greeted.WriteFault is e s = (s.0, reply_to May wish rest s.0 request is s.1, front_on w m v args s.0 e s.2, wished wish a b request is s.3)
+ends_served May wish args rest left w m v a b request greeted.NoMemory is e s = (s.0, reply_to May wish rest s.0 request is s.1, front_on w m v args s.0 e s.2, wished wish a b request is s.3)
 
 ends_refused : {P : Type 0} (May : Request → Refused → Type 0) (wish : Wish) (args rest : List ℕ) (left w m v : Option (List ℕ)) (a b : Option (List Request)) (status : ℕ) (result : Greeted P) → RefusedEarly wish rest status → m ≡ gained w args → b ≡ a → IsToldError status m v result → Ends May wish args rest left w v a b result
 ends_refused May wish args rest left w m v a b status (greeted.Ready welcome) early e same t = absurd t
 ends_refused May wish args rest left w m v a b status (greeted.Refused told) early e same t = (gained_on w m v args (error_text told) e t.1, ByForm (subst (λ (s : ℕ). RefusedEarly wish rest s) (sym t.0) early) same)
 ends_refused May wish args rest left w m v a b status greeted.Ended early e same t = absurd t
 ends_refused May wish args rest left w m v a b status greeted.ReadFault early e same t = absurd t
-ends_refused May wish args rest left w m v a b status greeted.WriteFault early e same t = (error_text status, ErrorReply status refl, front_on w m v args (error_text status) e t, Unasked same)
-ends_refused May wish args rest left w m v a b status greeted.NoMemory early e same t = (error_text status, ErrorReply status refl, front_on w m v args (error_text status) e t, Unasked same)
+ends_refused May wish args rest left w m v a b status greeted.WriteFault early e same t = (error_text status, EarlyReply status early refl, front_on w m v args (error_text status) e t, Unasked same)
+ends_refused May wish args rest left w m v a b status greeted.NoMemory early e same t = (error_text status, EarlyReply status early refl, front_on w m v args (error_text status) e t, Unasked same)
 
 no_reply : (w m v : Option (List ℕ)) (args : List ℕ) → v ≡ m → GainedFront w m args → GainedFront w v (args ++ [])
 no_reply w m v args written f = subst (λ (l : List ℕ). GainedFront w v l) (sym (append-nil args)) (f.0, f.1, written ∙ f.2)
@@ -87,6 +101,7 @@ module _ {P : Type 0} (id_of : List ℕ → Option (List ℕ)) (sessions session
     known = h.known;
     came_is = h.came_is;
     split = subst (λ (l : List ℕ). Splits (l ++ h.bytes) h.instructions rest) empty h.split;
+    no_further = h.no_further;
     looked = h.looked;
     ends = ends;
   }
@@ -116,9 +131,9 @@ module _ {P : Type 0} (id_of : List ℕ → Option (List ℕ)) (sessions session
     pub greeted_unwritten : s ≡ stop.WriteFault → IsGreeting {P = P} id_of sessions sessions_new draws a b w v asked_old asked_new rest greeted.WriteFault
     greeted_unwritten is =
         let h = subst (λ (x : Stop). HasAsked id_of sessions a b w m unread rest (Err x)) is h0 in
-        made (Err stop.WriteFault) greeted.WriteFault h ([], NoReply refl, no_reply w m v _ written h.wrote, Unasked (kept ∙ same))
+        made (Err stop.WriteFault) greeted.WriteFault h ([], NoReply h.answers refl, no_reply w m v _ written h.wrote, Unasked (kept ∙ same))
 
     pub greeted_short : s ≡ stop.NoMemory → IsGreeting {P = P} id_of sessions sessions_new draws a b w v asked_old asked_new rest greeted.NoMemory
     greeted_short is =
         let h = subst (λ (x : Stop). HasAsked id_of sessions a b w m unread rest (Err x)) is h0 in
-        made (Err stop.NoMemory) greeted.NoMemory h ([], NoReply refl, no_reply w m v _ written h.wrote, Unasked (kept ∙ same))
+        made (Err stop.NoMemory) greeted.NoMemory h ([], NoReply h.answers refl, no_reply w m v _ written h.wrote, Unasked (kept ∙ same))

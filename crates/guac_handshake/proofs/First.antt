@@ -11,19 +11,30 @@ use Rattle.guac_handshake.specs.declared.expected.Expected.TheVariants as expect
 use Rattle.guac_handshake.specs.declared.expected.Said.TheVariants as said
 use Rattle.guac_handshake.specs.declared.stop.Stop.{Stop}
 use Rattle.guac_handshake.specs.declared.stop.Stop.TheVariants.{Refused, Ended, ReadFault, WriteFault, NoMemory}
-use Rattle.guac_handshake.specs.Asks.{Wish, Unfinished, Refuses, asks, asks_behind, asks_first, asks_selected, selected, selected_by, selection_of}
+use Rattle.guac_handshake.specs.Asks.{ReadsNoFurther, Wish, Unfinished, Refuses, asks, asks_behind, asks_first, asks_selected, selected, selected_by, selection_of}
 use Rattle.guac_handshake.specs.Doors.{Sessions, at_name}
 use Rattle.guac_handshake.specs.Heard.{HasHeard, said_first}
 use Rattle.guac_handshake.specs.Greetings.{Answers, Chose, HasAsked, HasConnected, HasSelected, IsFound, IsLook, OutOfForm, WroteArgs, found_as, name_looked_at}
 use Rattle.guac_handshake.specs.Splits.{Splits}
 use Rattle.guac_handshake.specs.Statuses.{bad_request}
 use Rattle.guac_handshake.specs.Texts.{args_for, args_text}
-use Rattle.guac_handshake.proofs.Behind.{asks_open, stop_answers}
+use Rattle.guac_handshake.proofs.Behind.{asks_open, not_none, stop_answers}
 
 -- nothing was looked at
 look_none : (id_of : List ℕ → Option (List ℕ)) (sessions : Option Sessions) (known : Bool) (o : Option (List ℕ)) → o ≡ None → IfSome sessions (λ m. IfSome o (λ name. known ≡ is_some (at_name (id_of name) m)))
 look_none id_of None known o e = tt
 look_none id_of (Some m) known o e = subst (λ (x : Option (List ℕ)). IfSome x (λ name. known ≡ is_some (at_name (id_of name) m))) (sym e) tt
+
+-- no more than one was read
+no_further_none : (known : Bool) → ReadsNoFurther (asks known) []
+no_further_none known = λ front more values is. absurd (not_none front more values is)
+
+no_further_one : (known : Bool) (first : List (List ℕ)) → ReadsNoFurther (asks known) (first ∷ [])
+no_further_one known first = λ front more values is. by front more values is
+  where
+    by : (front more : List (List (List ℕ))) (values : List (List ℕ)) → first ∷ [] ≡ front ++ values ∷ more → asks known front ≡ Unfinished
+    by [] more values is = refl
+    by (f ∷ front) more values is = absurd (not_none front more values (let same : [] ≡ front ++ values ∷ more = cc in same))
 
 -- an instruction out of form selects nothing
 bad_asks : (known : Bool) (g : Greeting) → said.Bad ≡ said_first g → (asks_first known g [] ≡ Refuses bad_request) × (selection_of known g ≡ None) × (name_looked_at g ≡ None)
@@ -46,6 +57,7 @@ module _ (id_of : List ℕ → Option (List ℕ)) (sessions : Option Sessions) (
     known = false;
     came_is = h.came_is;
     split = sym h.heard.0;
+    no_further = no_further_none false;
     looked = look_none id_of sessions false None refl;
     chose = subst (λ (r : Result Selected Stop). Chose false [] rest b r) (sym e) (refl, stop_answers Unfinished rest b stop refl h.heard.1);
   }
@@ -59,6 +71,7 @@ module _ (id_of : List ℕ → Option (List ℕ)) (sessions : Option Sessions) (
         known = false;
         came_is = h.came_is;
         split = (h.heard.0, rest, h.heard.2, h.heard.3, refl);
+        no_further = no_further_one false h.heard.1;
         looked = look_none id_of sessions false (name_looked_at (greeting_of h.heard.1)) f.2;
         chose = (f.1, OutOfForm f.0);
       }
@@ -80,6 +93,7 @@ module _ (id_of : List ℕ → Option (List ℕ)) (sessions : Option Sessions) (
         known = found.known;
         came_is = h.came_is;
         split = (h.heard.0, rest, h.heard.2, h.heard.3, refl);
+        no_further = no_further_one found.known h.heard.1;
         looked = subst (λ (g : Greeting). IfSome sessions (λ m. IfSome (name_looked_at g) (λ n. found.known ≡ is_some (at_name (id_of n) m)))) (sym is) found.looked;
         chose = chose_found found.known h.heard.1 name (selected_by found.known name) result is refl found.found;
       }
@@ -90,6 +104,16 @@ asks_chosen known (Selects name) chosen others e = ap (λ (s : Option Selected).
 asks_chosen known (HasSize w h) chosen others e = cc
 asks_chosen known Connects chosen others e = cc
 asks_chosen known SaysOther chosen others e = cc
+
+no_further_on : (known : Bool) (first : List (List ℕ)) (others : List (List (List ℕ))) (chosen : Selected) → selection_of known (greeting_of first) ≡ Some chosen → ReadsNoFurther (asks_behind chosen) others → ReadsNoFurther (asks known) (first ∷ others)
+no_further_on known first others chosen only further = λ front more values is. by front more values is
+  where
+    by : (front more : List (List (List ℕ))) (values : List (List ℕ)) → first ∷ others ≡ front ++ values ∷ more → asks known front ≡ Unfinished
+    by [] more values is = refl
+    by (f ∷ front) more values is =
+        let same : f ≡ first = cc in
+        let behind : others ≡ front ++ values ∷ more = cc in
+        ap (λ (x : List (List ℕ)). asks_first known (greeting_of x) front) same ∙ (asks_chosen known (greeting_of first) chosen front only ∙ further front more values behind)
 
 splits_join : (es fs : List (List (List ℕ))) (text mid more rest : List ℕ) → Splits text es mid → Splits (mid ++ more) fs rest → Splits (text ++ more) (es ++ fs) rest
 splits_join [] fs text mid more rest s t = subst (λ (l : List ℕ). Splits (l ++ more) fs rest) (sym s) t
@@ -113,6 +137,7 @@ module _ (id_of : List ℕ → Option (List ℕ)) (sessions : Option Sessions) (
     known = false;
     came_is = sym (came-none a);
     split = append-nil unread;
+    no_further = no_further_none false;
     looked = look_none id_of sessions false None refl;
     answers = refl;
     wrote = wrote_all [] w w (Err NoMemory) (sym (gained-none w));
@@ -126,6 +151,7 @@ module _ (id_of : List ℕ → Option (List ℕ)) (sessions : Option Sessions) (
     known = s.known;
     came_is = s.came_is;
     split = s.split;
+    no_further = s.no_further;
     looked = s.looked;
     answers = s.chose.1;
     wrote = wrote_all (args_for (selected s.known s.instructions)) w w (Err stop) (sym (ap (λ (o : Option Selected). gained w (args_for o)) s.chose.0 ∙ gained-none w));
@@ -142,6 +168,7 @@ module _ (id_of : List ℕ → Option (List ℕ)) (sessions : Option Sessions) (
         known = s.known;
         came_is = s.came_is;
         split = s.split;
+        no_further = s.no_further;
         looked = s.looked;
         answers = ap (asks s.known) f.1 ∙ asks_chosen s.known (greeting_of f.0) chosen [] (sym (ap (selected s.known) f.1) ∙ f.2) ∙ asks_open chosen [] tt (omega arith);
         wrote = subst (λ (o : Option Selected). GainedFront w v (args_for o)) (sym is) front;
@@ -159,6 +186,7 @@ asked_on id_of sessions a b c w v unread mid rest chosen result s written h =
       came_is = s.came_is ∙ ap (came s.bytes) h.came_is ∙ came-came s.bytes h.bytes c;
       split = subst (λ (l : List ℕ). Splits l (f.0 ∷ h.instructions) rest) (append_assoc unread s.bytes h.bytes)
           (splits_join (f.0 ∷ []) h.instructions (unread ++ s.bytes) mid h.bytes rest (subst (λ (l : List (List (List ℕ))). Splits (unread ++ s.bytes) l mid) f.1 s.split) h.split);
+      no_further = no_further_on s.known f.0 h.instructions chosen only h.no_further;
       looked = subst (λ (l : List (List (List ℕ))). IsLook id_of sessions s.known l) f.1 s.looked;
       answers = subst (λ (x : Wish). Answers x rest c result) (sym (asks_chosen s.known (greeting_of f.0) chosen h.instructions only)) h.answers;
       wrote = wrote_all (args_for (selection_of s.known (greeting_of f.0))) w v result (written ∙ sym (ap (λ (o : Option Selected). gained w (args_for o)) only));

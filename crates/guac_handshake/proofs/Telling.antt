@@ -120,16 +120,14 @@ many_status TooMany e = refl
 
 -- a session that refused a joiner is there
 there_at : (o : Option (Option History)) (role : Asked) (r : Refused) → (r ≡ Absent → ⊥) → (r ≡ NoMemory → ⊥) → RefusesAt o role r → (told : Option History) × (o ≡ Some told) × IfSome told (λ h. option_map refused_of (join_refusal h role) ≡ Some r)
-there_at None role r na ns (inl e) = absurd (na e)
-there_at None role r na ns (inr e) = absurd (ns e)
+there_at None role r na ns e = absurd (na e)
 there_at (Some None) role r na ns is = (None, refl, tt)
 there_at (Some (Some h)) role r na ns (inl e) = absurd (ns e)
 there_at (Some (Some h)) role r na ns (inr e) = (Some h, refl, e)
 
 has_refused : (id : Option (List ℕ)) (after : Option Sessions) (role : Asked) (r : Refused) → (r ≡ Absent → ⊥) → (r ≡ NoMemory → ⊥) → IfSome after (λ n. RefusesAt (at_name id n) role r) → HasRefused after r
 has_refused id None role r na ns is = tt
-has_refused None (Some n) role r na ns (inl e) = absurd (na e)
-has_refused None (Some n) role r na ns (inr e) = absurd (ns e)
+has_refused None (Some n) role r na ns e = absurd (na e)
 has_refused (Some id) (Some n) role r na ns is = let t = there_at (n id) role r na ns is in (id, t.0, role, t.1, t.2)
 
 module _ (id_of : List ℕ → Option (List ℕ)) (before after : Option Sessions) (draws : Option (ℕ → List ℕ)) where

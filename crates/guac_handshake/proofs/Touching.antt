@@ -149,7 +149,7 @@ absent_as A NoMemory there h = h
 
 -- where no session is there, and where its history is told
 at_none : (A : Type 0) (role : Asked) (r : Refused) → IsAbsent {A = A} (Err r) false → RefusesAt None role r
-at_none A role Absent h = inl refl
+at_none A role Absent h = refl
 at_none A role Conflict h = cc
 at_none A role Dial h = cc
 at_none A role Busy h = cc
@@ -157,7 +157,7 @@ at_none A role Closed h = cc
 at_none A role Forbidden h = cc
 at_none A role TooMany h = cc
 at_none A role Worn h = cc
-at_none A role NoMemory h = inr refl
+at_none A role NoMemory h = cc
 
 at_told : (A : Type 0) (h : History) (role : Asked) (r : Refused) → IsJoinRefusal r → IsAbsent {A = A} (Err r) true → MeetsTold {A = A} h role (Err r) → RefusesAt (Some (Some h)) role r
 at_told A h role Absent is a m = cc

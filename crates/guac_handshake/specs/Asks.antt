@@ -1,6 +1,6 @@
 -- What the instructions of a handshake ask (the Guacamole manual, "The Guacamole protocol"; the parameters, their
 -- forms and the limits are this project's own).
-use Rattle.std.specs.Prelude.{ℕ, ◌/◌, min, max, List, [], ◌∷◌, length, drop, take_while, find, fold, Bool, true, false, not, ◌&&◌, nat_le, nat_lt, if◌then◌else◌, Option, Some, None, bytes_eq, codes}
+use Rattle.std.specs.Prelude.{◌≡◌, ℕ, ◌/◌, min, max, List, [], ◌∷◌, ◌++◌, length, drop, take_while, find, fold, Bool, true, false, not, ◌&&◌, nat_le, nat_lt, if◌then◌else◌, Option, Some, None, bytes_eq, codes}
 use Rattle.std.specs.Int.{is_in_range}
 use Rattle.std.specs.List.{list_all}
 use Rattle.gate_model.specs.text.HelloMeaning.{Greeting, Selects, HasSize, Connects, SaysOther, greeting_of}
@@ -145,6 +145,10 @@ asks_first known SaysOther others = Refuses bad_request
 abbrev pub asks : Bool → List (List (List ℕ)) → Wish
 asks known [] = Unfinished
 asks known (first ∷ others) = asks_first known (greeting_of first) others
+
+-- no instruction was read behind those that settle what is asked: those before any one of them leave it open
+abbrev pub ReadsNoFurther : (List (List (List ℕ)) → Wish) → List (List (List ℕ)) → Type 0
+ReadsNoFurther asked instructions = (front more : List (List (List ℕ))) (values : List (List ℕ)) → instructions ≡ front ++ values ∷ more → asked front ≡ Unfinished
 
 -- what the first instruction selects
 abbrev pub selection_of : Bool → Greeting → Option Selected

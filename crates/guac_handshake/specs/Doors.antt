@@ -1,12 +1,15 @@
 -- The contract of a door: its refusals, its sessions, its places and what it was asked (this project's own).
 use Rattle.std.specs.Prelude.{◌≡◌, ◌≢◌, ℕ, ◌+◌, ◌-◌, ◌<◌, ◌⊎◌, List, [], ◌∷◌, ◌++◌, Bool, true, false, Option, Some, None, IsSome, IfSome, Result, Ok, Err, is_some}
 use Rattle.std.specs.Option.{option_map}
-use Rattle.gate_model.specs.session.History.{History}
+use Rattle.gate_model.specs.session.History.{History, share_mode}
 use Rattle.gate_model.specs.session.Refusals.{join_refusal}
-use Rattle.gate_model.specs.declared.entry.Entry.{Entry}
+use Rattle.gate_model.specs.session.Roles.{grant_of}
+use Rattle.gate_model.specs.declared.entry.Entry.TheVariants as entry
+use Rattle.gate_model.specs.declared.instr.Instr.{Instr}
 use Rattle.gate_model.specs.declared.join_refusal.JoinRefusal.{JoinRefusal}
 use Rattle.gate_model.specs.declared.join_refusal.JoinRefusal.TheVariants as refusal
 use Rattle.gate_model.specs.declared.sharing.Asked.{Asked}
+use Rattle.gate_model.specs.declared.sharing.Role.{Role}
 use Rattle.id_table.specs.Draws.{nth_id}
 use Rattle.id_table.specs.Maps.{Map}
 use Rattle.guac_handshake.specs.declared.refused.Refused.{Refused}
@@ -125,10 +128,10 @@ AreTaken None draws = Unit {0}
 AreTaken (Some m) None = Unit {0}
 AreTaken (Some m) (Some draws) = AreAllThere m draws
 
--- Absent comes exactly where the ID isn't there, but for want of memory
+-- Absent comes exactly where the ID isn't there; want of memory comes behind that
 abbrev pub IsAbsent : {A : Type 0} → Result A Refused → Bool → Type 0
 IsAbsent (Err Absent) there = there ≡ false
-IsAbsent (Err NoMemory) there = Unit {0}
+IsAbsent (Err NoMemory) there = there ≡ true
 IsAbsent (Err Closed) there = there ≡ true
 IsAbsent (Err Forbidden) there = there ≡ true
 IsAbsent (Err TooMany) there = there ≡ true
@@ -146,9 +149,9 @@ refused_of (refusal.TooMany live joined) = TooMany
 refused_of (refusal.Worn entries) = Worn
 refused_of refusal.NoMemory = NoMemory
 
--- the answer is that of the rules after a history, which at Ok ends with the Join
+-- the answer is that of the rules after a history, which at Ok ends with a Join of the role that the table gives
 abbrev pub MeetsTold : {A : Type 0} → History → Asked → Result A Refused → Type 0
-MeetsTold h role (Ok a) = (join : Entry) × (before : History) × (h ≡ join ∷ before) × (join_refusal before role ≡ None)
+MeetsTold h role (Ok a) = (viewer : ℕ) × (granted : Role) × (first : List Instr) × (before : History) × (h ≡ entry.Join viewer granted first ∷ before) × (join_refusal before role ≡ None) × (grant_of (share_mode before) role ≡ Ok granted)
 MeetsTold h role (Err Closed) = option_map refused_of (join_refusal h role) ≡ Some Closed
 MeetsTold h role (Err Forbidden) = option_map refused_of (join_refusal h role) ≡ Some Forbidden
 MeetsTold h role (Err TooMany) = option_map refused_of (join_refusal h role) ≡ Some TooMany
@@ -198,13 +201,13 @@ logged log request (Err refused) = logged_for log request refused
 abbrev pub BeginRefuses : Option Sessions → Option (ℕ → List ℕ) → Refused → Type 0
 BeginRefuses before draws refusal = IsBeginRefusal refusal × (refusal ≡ Conflict → HasConflict before × AreTaken before draws)
 
--- what the rules refuse to a joiner after the history of a session that is there; where none is, it is Absent, or memory
--- was wanting
+-- what the rules refuse to a joiner after the history of a session that is there, or memory was wanting; where none is,
+-- it is Absent
 abbrev pub RefusesAt : Option (Option History) → Asked → Refused → Type 0
-RefusesAt None role refusal = (refusal ≡ Absent) ⊎ (refusal ≡ NoMemory)
+RefusesAt None role refusal = refusal ≡ Absent
 RefusesAt (Some told) role refusal = IfSome told (λ h. (refusal ≡ NoMemory) ⊎ (option_map refused_of (join_refusal h role) ≡ Some refusal))
 
--- it refused a joiner: for Absent exactly where the ID wasn't there, and else by the rules after the session's history, but
+-- it refused a joiner: for Absent exactly where the ID wasn't there, and else by the rules after the session's history, or
 -- for want of memory
 abbrev pub JoinRefuses : Option (List ℕ) → Option Sessions → Option Sessions → Asked → Refused → Type 0
 JoinRefuses id before after role refusal =

@@ -13,7 +13,7 @@ use Rattle.guac_handshake.specs.declared.request.Selected.{Selected}
 use Rattle.guac_handshake.specs.declared.stop.Stop.{Stop}
 use Rattle.guac_handshake.specs.declared.stop.Stop.TheVariants as stop
 use Rattle.guac_handshake.specs.declared.welcome.Welcome.{Welcome}
-use Rattle.guac_handshake.specs.Asks.{Wish, Unfinished, Wants, Refuses, asks, asks_behind, selected, selected_by}
+use Rattle.guac_handshake.specs.Asks.{ReadsNoFurther, Wish, Unfinished, Wants, Refuses, asks, asks_behind, selected, selected_by}
 use Rattle.id_table.specs.Maps.{Same}
 use Rattle.guac_handshake.specs.Doors.{KeepsIds, MayRefuse, Sessions, TouchesOne, asked_more, at_name, logged_for, option_less}
 use Rattle.guac_handshake.specs.Splits.{Splits}
@@ -44,6 +44,7 @@ pub record HasConnected (chosen : Selected) (left_old left_new : Option (List �
   pub instructions : List (List (List ℕ))
   pub came_is : left_old ≡ came bytes left_new
   pub split : Splits (unread ++ bytes) instructions rest
+  pub no_further : ReadsNoFurther (asks_behind chosen) instructions
   pub answers : Answers (asks_behind chosen instructions) rest left_new result
 
 -- the name at which a door is looked at
@@ -73,6 +74,7 @@ pub record HasSelected (id_of : List ℕ → Option (List ℕ)) (sessions : Opti
   pub known : Bool
   pub came_is : left_old ≡ came bytes left_new
   pub split : Splits (unread ++ bytes) instructions rest
+  pub no_further : ReadsNoFurther (asks known) instructions
   pub looked : IsLook id_of sessions known instructions
   pub chose : Chose known instructions rest left_new result
 
@@ -102,15 +104,18 @@ pub record HasAsked (id_of : List ℕ → Option (List ℕ)) (sessions : Option 
   pub known : Bool
   pub came_is : left_old ≡ came bytes left_new
   pub split : Splits (unread ++ bytes) instructions rest
+  pub no_further : ReadsNoFurther (asks known) instructions
   pub looked : IsLook id_of sessions known instructions
   pub answers : Answers (asks known instructions) rest left_new result
   pub wrote : WroteArgs (args_for (selected known instructions)) written_old written_new result
 
--- a whole answer to a client
-pub data IsReply (text : List ℕ) : Type 0 where
-  NoReply : text ≡ [] → IsReply text
-  ReadyReply : (id : List ℕ) → text ≡ ready_text id → IsReply text
-  ErrorReply : (status : ℕ) → text ≡ error_text status → IsReply text
+-- the whole answer that is due to a client: none while what it asks is open, an error where that is refused early, and for
+-- a request the error of a refusal that the door may give, or `ready`
+pub data IsReplyTo (May : Request → Refused → Type 0) (wish : Wish) (rest text : List ℕ) : Type 0 where
+  NoReply : wish ≡ Unfinished → text ≡ [] → IsReplyTo May wish rest text
+  EarlyReply : (status : ℕ) → RefusedEarly wish rest status → text ≡ error_text status → IsReplyTo May wish rest text
+  RefusalReply : (request : Request) (refusal : Refused) → wish ≡ Wants request → May request refusal → text ≡ error_text (status_of refusal) → IsReplyTo May wish rest text
+  ReadyReply : (request : Request) (id : List ℕ) → wish ≡ Wants request → text ≡ ready_text id → IsReplyTo May wish rest text
 
 -- a door was asked this once, or not at all
 pub data AskedAtMost (before now : Option (List Request)) (request : Request) : Type 0 where
@@ -123,8 +128,8 @@ IsServed May request before now asked_before asked_now (greeted.Ready welcome) =
 IsServed May request before now asked_before asked_now (greeted.Refused status) = (refusal : Refused) × May request refusal × (status ≡ status_of refusal) × (now ≡ gained before (error_text status)) × (asked_now ≡ logged_for asked_before request refusal)
 IsServed May request before now asked_before asked_now greeted.Ended = ⊥
 IsServed May request before now asked_before asked_now greeted.ReadFault = ⊥
-IsServed May request before now asked_before asked_now greeted.WriteFault = (text : List ℕ) × IsReply text × GainedFront before now text × AskedAtMost asked_before asked_now request
-IsServed May request before now asked_before asked_now greeted.NoMemory = (text : List ℕ) × IsReply text × GainedFront before now text × AskedAtMost asked_before asked_now request
+IsServed May request before now asked_before asked_now greeted.WriteFault = (text : List ℕ) × IsReplyTo May (Wants request) [] text × GainedFront before now text × AskedAtMost asked_before asked_now request
+IsServed May request before now asked_before asked_now greeted.NoMemory = (text : List ℕ) × IsReplyTo May (Wants request) [] text × GainedFront before now text × AskedAtMost asked_before asked_now request
 
 -- the places that are out: one more where the client was told its own
 abbrev pub HasOut : {P : Type 0} → Option ℕ → Option ℕ → Greeted P → Type 0
@@ -211,15 +216,17 @@ Ends May wish args rest left before now asked_before asked_now (greeted.Ready we
 Ends May wish args rest left before now asked_before asked_now (greeted.Refused status) = (now ≡ gained before (args ++ error_text status)) × RefusedFor May wish rest status asked_before asked_now
 Ends May wish args rest left before now asked_before asked_now greeted.Ended = (wish ≡ Unfinished) × IsUnfinished rest × AtEnd left × (now ≡ gained before args) × (asked_now ≡ asked_before)
 Ends May wish args rest left before now asked_before asked_now greeted.ReadFault = (wish ≡ Unfinished) × (now ≡ gained before args) × (asked_now ≡ asked_before)
-Ends May wish args rest left before now asked_before asked_now greeted.WriteFault = (text : List ℕ) × IsReply text × GainedFront before now (args ++ text) × AskedAsWished wish asked_before asked_now
-Ends May wish args rest left before now asked_before asked_now greeted.NoMemory = (text : List ℕ) × IsReply text × GainedFront before now (args ++ text) × AskedAsWished wish asked_before asked_now
+Ends May wish args rest left before now asked_before asked_now greeted.WriteFault = (text : List ℕ) × IsReplyTo May wish rest text × GainedFront before now (args ++ text) × AskedAsWished wish asked_before asked_now
+Ends May wish args rest left before now asked_before asked_now greeted.NoMemory = (text : List ℕ) × IsReplyTo May wish rest text × GainedFront before now (args ++ text) × AskedAsWished wish asked_before asked_now
 
--- a greeting: the bytes that it read are these instructions and then the rest; and it asked, wrote and ended by them
+-- a greeting: the bytes that it read are these instructions, none behind those that settle what is asked, and then the
+-- rest; and it asked, wrote and ended by them
 pub record IsGreeting {P : Type 0} (id_of : List ℕ → Option (List ℕ)) (sessions sessions_new : Option Sessions) (draws : Option (ℕ → List ℕ)) (left_old left_new written_old written_new : Option (List ℕ)) (asked_old asked_new : Option (List Request)) (rest : List ℕ) (result : Greeted P) : Type 0 where
   pub bytes : List ℕ
   pub instructions : List (List (List ℕ))
   pub known : Bool
   pub came_is : left_old ≡ came bytes left_new
   pub split : Splits bytes instructions rest
+  pub no_further : ReadsNoFurther (asks known) instructions
   pub looked : IsLook id_of sessions known instructions
   pub ends : Ends (MayRefuse id_of sessions draws sessions_new) (asks known instructions) (args_for (selected known instructions)) rest left_new written_old written_new asked_old asked_new result

@@ -4,9 +4,10 @@ ghost use Rattle.std.specs.Prelude.{◌≡◌, ◌≤◌, drop, IfOk, length, tr
 ghost use Rattle.std.specs.Int.{is_in_range};
 ghost use Rattle.std.specs.List.{list_all};
 ghost use Rattle.std.specs.Option.{option_map};
-ghost use Rattle.guac_handshake.specs.Asks.{ask_of, beginning, cols_of, is_read_only, is_term, joining, mode_of, port_of, role_asked, rows_of, term_of};
+ghost use Rattle.guac_handshake.specs.Asks.{ask_of, beginning, is_read_only, is_term, joining, mode_of, port_of, role_asked, term_of};
 
 use crate::Ask;
+use crate::sizes::{columns_of, rows_of};
 use gate_model::{Asked, NoMemory, Share, Text};
 use guac_framing::Frame;
 use guac_instr::number_within;
@@ -63,8 +64,8 @@ pub(crate) fn read_ask(
         term: owned(alloc, term)?,
         mode,
         read_only: read_flag(read_only),
-        cols: columns(size),
-        rows: rows(size),
+        cols: columns_of(size),
+        rows: rows_of(size),
     }))
 }
 
@@ -140,23 +141,5 @@ fn read_port(value: &str) -> Option<u16>
     } else {
         let port = number_within(value.as_bytes(), 1, 65535)?;
         Some(port as u16)
-    }
-}
-
-fn columns(size: Option<(u32, u32)>) -> u16
-    ensures { result ≡ cols_of size }
-{
-    match size {
-        Some((width, _)) => (width / 8).clamp(1, 512) as u16,
-        None => 80,
-    }
-}
-
-fn rows(size: Option<(u32, u32)>) -> u16
-    ensures { result ≡ rows_of size }
-{
-    match size {
-        Some((_, height)) => (height / 16).clamp(1, 256) as u16,
-        None => 24,
     }
 }

@@ -8,7 +8,7 @@ use Rattle.guac_handshake.specs.declared.form_refusal.FormRefusal.TheVariants as
 use Rattle.guac_handshake.specs.declared.refused.Refused.{Refused}
 use Rattle.guac_handshake.specs.declared.refused.Refused.TheVariants as door
 use Rattle.guac_handshake.specs.declared.welcome.Welcome.{Welcome}
-use Rattle.id_table.specs.Draws.{AreThere}
+use Rattle.id_table.specs.Draws.{AreNext, AreThere, IsFirstAbsent}
 use Rattle.id_table.specs.Maps.{Changed, Same, Shelved, Told}
 use Rattle.id_table.specs.Refused.{IfConflict, value_of}
 use Rattle.id_table.specs.declared.add_refusal.AddRefusal.{AddRefusal}
@@ -25,15 +25,16 @@ use Rattle.http_tunnel.proofs.Shelves.{after_told, all_changed, all_same, told_a
 
 -- ---- a tunnel that is added
 
-pub added_some : (welcome : Welcome Place) (v : Tunnel) (id : List ℕ) (a b : Option (Shelved Tunnel)) → v ≡ tunnel_of welcome → Told a b (λ m n. (m id ≡ None) × Changed id (Some (Some v)) m n) → Told a b (IsAdded IsId welcome (Ok id))
-added_some welcome v id a b e t = told_as (λ m n. (m id ≡ None) × Changed id (Some (Some v)) m n) (IsAdded IsId welcome (Ok id)) a b t (λ m n is p. (id, refl, p.0, subst (λ (x : Tunnel). Changed id (Some (Some x)) m n) e p.1))
+pub added_some : (welcome : Welcome Place) (v : Tunnel) (id : List ℕ) (drawn : Option (ℕ → List ℕ)) (a b : Option (Shelved Tunnel)) → v ≡ tunnel_of welcome → Told a b (λ m n. (m id ≡ None) × Changed id (Some (Some v)) m n) → IfSome a (λ m. IfSome drawn (λ draws. IsFirstAbsent m draws id)) → Told a b (IsAdded IsId drawn welcome (Ok id))
+added_some welcome v id drawn a b e t first =
+    told_with (λ m n. (m id ≡ None) × Changed id (Some (Some v)) m n) (IsAdded IsId drawn welcome (Ok id)) (λ m. IfSome drawn (λ draws. IsFirstAbsent m draws id)) a b t first (λ m n h p. (id, refl, p.0, h, subst (λ (x : Tunnel). Changed id (Some (Some x)) m n) e p.1))
 
-pub added_conflict : (welcome : Welcome Place) (r : AddRefusal Tunnel) (t : Tunnel) (ids : List (List ℕ)) (a b : Option (Shelved Tunnel)) → r ≡ refusal.Conflict t ids → Told a b Same → IfConflict r (λ drawn. IfSome a (λ m. AreThere m 4 drawn)) → Told a b (IsAdded IsId welcome (Err Conflict))
-added_conflict welcome r t ids a b e same there =
-    told_with Same (IsAdded IsId welcome (Err Conflict)) (λ m. AreThere m 4 ids) a b same (subst (λ (x : AddRefusal Tunnel). IfConflict x (λ drawn. IfSome a (λ m. AreThere m 4 drawn))) e there) (λ m n h p. (p, λ is. (ids, h)))
+pub added_conflict : (welcome : Welcome Place) (r : AddRefusal Tunnel) (t : Tunnel) (ids : List (List ℕ)) (drawn : Option (ℕ → List ℕ)) (a b : Option (Shelved Tunnel)) → r ≡ refusal.Conflict t ids → Told a b Same → IfConflict r (λ found. IfSome a (λ m. AreThere m 4 found)) → IfConflict r (λ found. IfSome drawn (λ draws. AreNext draws 4 found)) → Told a b (IsAdded IsId drawn welcome (Err Conflict))
+added_conflict welcome r t ids drawn a b e same there next =
+    told_with Same (IsAdded IsId drawn welcome (Err Conflict)) (λ m. AreThere m 4 ids) a b same (subst (λ (x : AddRefusal Tunnel). IfConflict x (λ found. IfSome a (λ m. AreThere m 4 found))) e there) (λ m n h p. (p, λ is. (ids, h, subst (λ (x : AddRefusal Tunnel). IfConflict x (λ found. IfSome drawn (λ draws. AreNext draws 4 found))) e next)))
 
-pub added_none : (welcome : Welcome Place) (a b : Option (Shelved Tunnel)) → Told a b Same → Told a b (IsAdded IsId welcome (Err NoMemory))
-added_none welcome a b same = told_as Same (IsAdded IsId welcome (Err NoMemory)) a b same (λ m n is p. (p, λ e. absurd (let z : NoMemory ≡ Conflict = e in cc)))
+pub added_none : (welcome : Welcome Place) (drawn : Option (ℕ → List ℕ)) (a b : Option (Shelved Tunnel)) → Told a b Same → Told a b (IsAdded IsId drawn welcome (Err NoMemory))
+added_none welcome drawn a b same = told_as Same (IsAdded IsId drawn welcome (Err NoMemory)) a b same (λ m n is p. (p, λ e. absurd (let z : NoMemory ≡ Conflict = e in cc)))
 
 -- its place goes back
 place_back : (welcome : Welcome Place) (t : Tunnel) (before now : Option ℕ) → t ≡ tunnel_of welcome → now ≡ less_one (is_some t.reader) before → now ≡ option_less before
@@ -59,19 +60,19 @@ extended {A} {E} r done old more now is fits none = is ∙ (ap (λ (x : Result A
 
 -- ---- the whole request
 
-pub text_added : (welcome : Welcome Place) (text named : List ℕ) (a b : Option (Shelved Tunnel)) → text ≡ hyphenated_text lower named → Told a b (IsAdded IsId welcome (Ok named)) → Told a b (ConnectOf (Ok welcome) (Ok text))
-text_added welcome text named a b e t = told_as (IsAdded IsId welcome (Ok named)) (ConnectOf (Ok welcome) (Ok text)) a b t (λ m n is p. (p.0, e ∙ ap (λ (bs : List ℕ). hyphenated_text lower bs) p.1, p.2, p.3))
+pub text_added : (welcome : Welcome Place) (text named : List ℕ) (drawn : Option (ℕ → List ℕ)) (a b : Option (Shelved Tunnel)) → text ≡ hyphenated_text lower named → Told a b (IsAdded IsId drawn welcome (Ok named)) → Told a b (ConnectOf drawn (Ok welcome) (Ok text))
+text_added welcome text named drawn a b e t = told_as (IsAdded IsId drawn welcome (Ok named)) (ConnectOf drawn (Ok welcome) (Ok text)) a b t (λ m n is p. (p.0, e ∙ ap (λ (bs : List ℕ). hyphenated_text lower bs) p.1, p.2, p.3, p.4))
 
-pub text_refused : (welcome : Welcome Place) (refused : Refusal) (a b : Option (Shelved Tunnel)) → Told a b (IsAdded IsId welcome (Err refused)) → Told a b (ConnectOf (Ok welcome) (Err refused))
-text_refused welcome refused a b t = told_as (IsAdded IsId welcome (Err refused)) (ConnectOf (Ok welcome) (Err refused)) a b t (λ m n is p. p)
+pub text_refused : (welcome : Welcome Place) (refused : Refusal) (drawn : Option (ℕ → List ℕ)) (a b : Option (Shelved Tunnel)) → Told a b (IsAdded IsId drawn welcome (Err refused)) → Told a b (ConnectOf drawn (Ok welcome) (Err refused))
+text_refused welcome refused drawn a b t = told_as (IsAdded IsId drawn welcome (Err refused)) (ConnectOf drawn (Ok welcome) (Err refused)) a b t (λ m n is p. p)
 
-connect_home : (opened : Result (Welcome Place) FormRefusal) (result : Result (List ℕ) Refusal) (m n : Shelved Tunnel) → ((i : List ℕ) → IsHome (m i)) → ConnectOf opened result m n → (i : List ℕ) → IsHome (n i)
-connect_home (Err refused) result m n home c = all_same IsHome m n home c
-connect_home (Ok welcome) (Ok text) m n home c = all_changed IsHome c.0 (Some (Some (tunnel_of welcome))) m n home (refl, refl) c.3
-connect_home (Ok welcome) (Err refused) m n home c = all_same IsHome m n home c.0
+connect_home : (drawn : Option (ℕ → List ℕ)) (opened : Result (Welcome Place) FormRefusal) (result : Result (List ℕ) Refusal) (m n : Shelved Tunnel) → ((i : List ℕ) → IsHome (m i)) → ConnectOf drawn opened result m n → (i : List ℕ) → IsHome (n i)
+connect_home drawn (Err refused) result m n home c = all_same IsHome m n home c
+connect_home drawn (Ok welcome) (Ok text) m n home c = all_changed IsHome c.0 (Some (Some (tunnel_of welcome))) m n home (refl, refl) c.4
+connect_home drawn (Ok welcome) (Err refused) m n home c = all_same IsHome m n home c.0
 
-pub connected_home : (opened : Result (Welcome Place) FormRefusal) (result : Result (List ℕ) Refusal) (a b : Option (Shelved Tunnel)) → AreHome a → Told a b (ConnectOf opened result) → AreHome b
-connected_home opened result a b home t = after_told (ConnectOf opened result) (λ m. (i : List ℕ) → IsHome (m i)) (λ m. (i : List ℕ) → IsHome (m i)) a b t home (λ m n h c. connect_home opened result m n h c)
+pub connected_home : (drawn : Option (ℕ → List ℕ)) (opened : Result (Welcome Place) FormRefusal) (result : Result (List ℕ) Refusal) (a b : Option (Shelved Tunnel)) → AreHome a → Told a b (ConnectOf drawn opened result) → AreHome b
+connected_home drawn opened result a b home t = after_told (ConnectOf drawn opened result) (λ m. (i : List ℕ) → IsHome (m i)) (λ m. (i : List ℕ) → IsHome (m i)) a b t home (λ m n h c. connect_home drawn opened result m n h c)
 
 pub less_more : (out mid now : Option ℕ) → mid ≡ option_map (λ n. n + 1) out → now ≡ option_less mid → now ≡ out
 less_more None mid now more less = less ∙ ap option_less more

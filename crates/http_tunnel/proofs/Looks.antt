@@ -6,7 +6,7 @@ use Rattle.std.proofs.lemmas.Bool.{eq-eqb, eqb-true}
 use Rattle.turn_lock.proofs.Elements.{contains_head, contains_tail, later_trans}
 use Rattle.gate_model.specs.declared.answer.Answer.TheVariants.{Read as was_read}
 use Rattle.gate_model.specs.declared.entry.Entry.{Entry}
-use Rattle.gate_model.specs.declared.entry.Entry.TheVariants.{Start, Feed, Join, Read, Write, Take, Leave, Close}
+use Rattle.gate_model.specs.declared.entry.Entry.TheVariants.{Start, Feed, Size, Join, Read, Write, Take, Leave, Close}
 use Rattle.gate_model.specs.declared.event.Event.TheVariants.{Read as read}
 use Rattle.gate_model.specs.declared.how.How.{How}
 use Rattle.gate_model.specs.declared.how.How.TheVariants.{Suffix, Fresh as Picture}
@@ -31,7 +31,7 @@ use Rattle.desk_core.specs.Calls.{read_answer}
 use Rattle.turn_lock.specs.declared.view.View.{View}
 use Rattle.shared_desk.specs.Called.{Answers, Gives, Turned, after_turn}
 use Rattle.shared_desk.specs.Own.{entries_at, is_place, own_entries}
-use Rattle.shared_desk.proofs.Lasting.{ReadOn, read_adds, turn_later}
+use Rattle.shared_desk.proofs.Lasting.{ReadOn, read_adds, turn_later, turn_sound}
 use Rattle.http_tunnel.specs.Reads.{GivesNothing, HasLooked, HasRead, IsOneRead, LookCause, LooksNothing, TunnelCause, end_of, look_of, second}
 use Rattle.http_tunnel.specs.declared.reading.TunnelEnd.{TunnelEnd}
 use Rattle.http_tunnel.specs.declared.reading.TunnelEnd.TheVariants.{Open, Ended}
@@ -154,6 +154,7 @@ closing_as : (g : History) (closed : Bool) → is_closed g ≡ closed → is_som
 closing_as [] closed e = e
 closing_as (Start c r m t n s f ∷ g) closed e = closing_as g closed e
 closing_as (Feed b s f ∷ g) closed e = closing_as g closed e
+closing_as (Size w c r s f ∷ g) closed e = closing_as g closed e
 closing_as (Join w role first ∷ g) closed e = closing_as g closed e
 closing_as (Read w how ∷ g) closed e = closing_as g closed e
 closing_as (Write w acts ∷ g) closed e = closing_as g closed e
@@ -273,6 +274,7 @@ module _ (v w : View Entry) (viewer : ℕ) (more : List Instr) (given_more : del
     wrote = refl;
     cause = k.cause;
     nothing = k.nothing;
+    sound = turn_sound v w did t;
   }
 
   answered : (r : Result ReadAnswer ReadRefusal) (before after : List ℕ) → Turned v w (Answers (read viewer) (Ok (was_read r)) before after) → ReadOn v w viewer r → after ≡ before ++ texts more → HasLooked viewer v w (texts more) (look_of r)
@@ -301,14 +303,14 @@ looked_as v w viewer more is r before after t wrote told same = subst (λ (x : R
 -- the first look gave something, or was refused
 module _ (viewer : ℕ) (v w : View Entry) (text : List ℕ) where
   pub read_first : (end : TunnelEnd) → HasLooked viewer v w text (Ok (Some end)) → HasRead viewer v w text (Ok end)
-  read_first end k = record { later = k.later; known = k.known; reads = k.reads; few = k.few; own = k.own; more = k.more; given = k.given; wrote = k.wrote; cause = k.cause; refused = tt }
+  read_first end k = record { later = k.later; known = k.known; reads = k.reads; few = k.few; own = k.own; more = k.more; given = k.given; wrote = k.wrote; cause = k.cause; refused = tt; sound = k.sound }
 
   pub read_refused : (refused : TunnelRefusal) → HasLooked viewer v w text (Err refused) → HasRead viewer v w text (Err refused)
-  read_refused refused k = record { later = k.later; known = k.known; reads = k.reads; few = k.few; own = k.own; more = k.more; given = k.given; wrote = k.wrote; cause = k.cause; refused = k.nothing }
+  read_refused refused k = record { later = k.later; known = k.known; reads = k.reads; few = k.few; own = k.own; more = k.more; given = k.given; wrote = k.wrote; cause = k.cause; refused = k.nothing; sound = k.sound }
 
   -- want of memory comes with any text
   pub read_unmarked : (end : TunnelEnd) → HasRead viewer v w text (Ok end) → HasRead viewer v w text (Err NoMemory)
-  read_unmarked end k = record { later = k.later; known = k.known; reads = k.reads; few = k.few; own = k.own; more = k.more; given = k.given; wrote = k.wrote; cause = tt; refused = tt }
+  read_unmarked end k = record { later = k.later; known = k.known; reads = k.reads; few = k.few; own = k.own; more = k.more; given = k.given; wrote = k.wrote; cause = tt; refused = tt; sound = k.sound }
 
 second_cause : (r : Result (Option TunnelEnd) TunnelRefusal) (viewer : ℕ) (seen : History) (first more : List Instr) (reads : List Entry) → LookCause r viewer seen more reads → TunnelCause (second r) viewer seen (first ++ more)
 second_cause (Ok None) viewer seen first more reads c = (c.1, λ none. c.2)
@@ -343,6 +345,7 @@ read_second viewer other v u w first more r same a given_b =
       wrote = ap (λ (bs : List ℕ). bs ++ more) a.wrote ∙ (ap (λ (bs : List ℕ). texts a.more ++ bs) b.wrote ∙ sym (texts-append a.more b.more));
       cause = second_cause r viewer w.seen a.more b.more b.reads b.cause;
       refused = second_nothing r first more b.reads a.nothing.1 b.nothing;
+      sound = b.sound;
     }
 
 -- .. told by its equal

@@ -49,14 +49,14 @@ cause_kind Conflict viewer seen c = c
 cause_kind Forbidden viewer seen c = c
 cause_kind TooMany viewer seen c = c
 
-refused_kind : (r : Refusal) (viewer : ℕ) (body : List ℕ) (seen : History) → IsRefusedWrite viewer body r seen → IsTunnelRefusal r
-refused_kind r viewer body seen (inl k) = subst IsTunnelRefusal (sym k.0) tt
-refused_kind r viewer body seen (inr (inl k)) = subst IsTunnelRefusal (sym k) tt
-refused_kind r viewer body seen (inr (inr k)) = cause_kind r viewer seen k.2
+refused_kind : (r : Refusal) (viewer : ℕ) (v w : View Entry) (body : List ℕ) → IsRefusedWrite viewer v w body r → IsTunnelRefusal r
+refused_kind r viewer v w body (inl k) = subst IsTunnelRefusal (sym k.1) tt
+refused_kind r viewer v w body (inr (inl k)) = subst IsTunnelRefusal (sym k.1) tt
+refused_kind r viewer v w body (inr (inr k)) = cause_kind r viewer w.seen k.2.cause
 
 done_kind : (viewer : ℕ) (v w : View Entry) (body : List ℕ) (done : Result Bool Refusal) → WritesBody viewer v w body done → IfErr (without_value done) IsTunnelRefusal
 done_kind viewer v w body (Ok ended) k = tt
-done_kind viewer v w body (Err r) k = refused_kind r viewer body w.seen k.1
+done_kind viewer v w body (Err r) k = refused_kind r viewer v w body k
 
 pub write_kind : (viewer : ℕ) (v w : View Entry) (body : List ℕ) (done : Result Bool Refusal) (result : Result (Unit {0}) Refusal) → result ≡ without_value done → WritesBody viewer v w body done → IfErr result IsTunnelRefusal
 write_kind viewer v w body done result is k = subst (λ (r : Result (Unit {0}) Refusal). IfErr r IsTunnelRefusal) (sym is) (done_kind viewer v w body done k)
@@ -126,6 +126,6 @@ busy_answered (Ok body) response r e = absurd (let z : 200 ≡ 503 = sym r.0 ∙
 busy_answered (Err refusal) response r e = ap Err (status_busy refusal (sym r.0 ∙ e))
 
 -- what was done for the same request
-pub served_as : (id_of : List ℕ → Option (List ℕ)) (s s1 : Option Sessions) (draws : Option (ℕ → List ℕ)) (asked asked1 : Option (List Request)) (out out1 : Option ℕ) (told told1 : Option (Shelved Tunnel)) (body : List ℕ) (answered : Result (List ℕ) Refusal) (r q : Route) → r ≡ q
-    → Serves id_of s s1 draws asked asked1 out out1 told told1 body answered q → Serves id_of s s1 draws asked asked1 out out1 told told1 body answered r
-served_as id_of s s1 draws asked asked1 out out1 told told1 body answered r q same k = subst (λ (x : Route). Serves id_of s s1 draws asked asked1 out out1 told told1 body answered x) (sym same) k
+pub served_as : (id_of : List ℕ → Option (List ℕ)) (s s1 : Option Sessions) (draws : Option (ℕ → List ℕ)) (asked asked1 : Option (List Request)) (out out1 : Option ℕ) (drawn : Option (ℕ → List ℕ)) (told told1 : Option (Shelved Tunnel)) (body : List ℕ) (answered : Result (List ℕ) Refusal) (r q : Route) → r ≡ q
+    → Serves id_of s s1 draws asked asked1 out out1 drawn told told1 body answered q → Serves id_of s s1 draws asked asked1 out out1 drawn told told1 body answered r
+served_as id_of s s1 draws asked asked1 out out1 drawn told told1 body answered r q same k = subst (λ (x : Route). Serves id_of s s1 draws asked asked1 out out1 drawn told told1 body answered x) (sym same) k

@@ -1,25 +1,27 @@
 -- What the steps of a write of a tunnel come to.
 use Rattle.std.proofs.Common.{◌≡◌, inl, inr, ℕ, List, [], ◌∷◌, ◌++◌, Bool, true, false, refl, ap, sym, ◌∙◌, subst}
 use Rattle.std.specs.Prelude.{Option, Some, None, IfSome, is_some, is_ok, Result, Ok, Err, if◌then◌else◌}
-use Rattle.gate_model.specs.declared.act.Act.{Act}
 use Rattle.gate_model.specs.declared.answer.Answer.TheVariants.{Leave as was_left}
 use Rattle.gate_model.specs.declared.entry.Entry.{Entry}
-use Rattle.gate_model.specs.declared.entry.Entry.TheVariants.{Write, Leave}
-use Rattle.gate_model.specs.declared.event.Event.TheVariants.{Write as write, Leave as leave}
+use Rattle.gate_model.specs.declared.entry.Entry.TheVariants.{Leave}
+use Rattle.gate_model.specs.declared.event.Event.TheVariants.{Leave as leave}
 use Rattle.gate_model.specs.declared.no_viewer.NoViewer.{NoViewer}
 use Rattle.gate_model.specs.declared.write_refusal.WriteRefusal.{WriteRefusal}
 use Rattle.gate_model.specs.declared.write_refusal.WriteRefusal.TheVariants as written
 use Rattle.gate_model.proofs.Causes.{closed_with_cause}
-use Rattle.desk_core.specs.Calls.{write_answer}
+use Rattle.gate_model.specs.session.History.{History}
 use Rattle.id_table.specs.Maps.{Changed, Shelved, Told, had}
 use Rattle.turn_lock.specs.declared.view.View.{View}
 use Rattle.shared_desk.specs.Called.{Called}
 use Rattle.shared_desk.specs.Members.{ViewerState}
 use Rattle.shared_desk.specs.Own.{own_entries}
-use Rattle.shared_desk.proofs.Lasting.{leave_gone, write_refused}
+use Rattle.shared_desk.proofs.Lasting.{leave_gone}
+use Rattle.viewer_acts.specs.Parts.{parts_of}
+use Rattle.viewer_acts.specs.Doing.{HasWritten, StopCause as PartCause, WritesSome}
+use Rattle.viewer_acts.proofs.Doings.{call_goes_on, done_on, goes_nowhere}
 use Rattle.http_tunnel.specs.Bodies.{HasRead, IsBody, IsNoBody, Wish, wish_of}
 use Rattle.http_tunnel.specs.Tunnels.{AreHome, IsHome}
-use Rattle.http_tunnel.specs.Writes.{HasLeft, HasPut, WriteOf, WritesActs, WritesBody, WritesWish, is_ended, refused_write, without_value, writes_of}
+use Rattle.http_tunnel.specs.Writes.{HasLeft, HasPut, StopsWish, WriteCause, WriteOf, WritesBody, WritesWish, is_ended, refused_write, without_value}
 use Rattle.http_tunnel.specs.declared.acts.BodyFault.{BodyFault}
 use Rattle.http_tunnel.specs.declared.acts.BodyFault.TheVariants as fault_kind
 use Rattle.http_tunnel.specs.declared.refusal.Refusal.{Refusal}
@@ -28,48 +30,42 @@ use Rattle.http_tunnel.specs.declared.tunnel.Tunnel.{Tunnel}
 use Rattle.http_tunnel.proofs.TunnelReads.{kept_both}
 use Rattle.http_tunnel.proofs.Shelves.{Lends, all_changed, all_same, changed_none, changed_twice, told_as, told_on, told_with}
 
--- ---- its acts
+-- ---- a refusal
 
-no_length : (acts : List Act) → acts ≡ [] → (viewer : ℕ) → writes_of viewer acts ≡ []
-no_length acts e viewer = ap (λ (xs : List Act). writes_of viewer xs) e
+refused_cause : (r : WriteRefusal) (viewer : ℕ) (seen : History) → PartCause r viewer seen → WriteCause (refused_write r) viewer seen
+refused_cause written.NoViewer viewer seen c = c
+refused_cause (written.Closed x) viewer seen c = inl (closed_with_cause seen x c).0
+refused_cause (written.Worn n) viewer seen c = inr c
+refused_cause written.NoMemory viewer seen c = tt
 
-pub wrote_none : (viewer : ℕ) (v : View Entry) (acts : List Act) (done : Unit {0}) → acts ≡ [] → WritesActs viewer v v acts (Ok done)
-wrote_none viewer v acts done e = ap (λ (es : List Entry). es ++ own_entries v) (sym (no_length acts e viewer))
+wish_stopped : (viewer : ℕ) (v w : View Entry) (wish : Wish) (r : WriteRefusal) → WritesSome viewer v w wish.acts r → StopsWish viewer v w wish (refused_write r)
+wish_stopped viewer v w wish r s = record { parts = s.parts; lost = s.lost; left = s.left; split = s.split; wrote = s.wrote; cause = refused_cause r viewer w.seen s.cause }
 
-pub wrote_some : (viewer : ℕ) (v w : View Entry) (acts : List Act) (done : Unit {0}) → (acts ≡ [] → ⊥) → own_entries w ≡ (Write viewer acts ∷ []) ++ own_entries v → WritesActs viewer v w acts (Ok done)
-wrote_some viewer v w [] done some own = absurd (some refl)
-wrote_some viewer v w (act ∷ acts) done some own = own
-
-refused_why : (viewer : ℕ) (v w : View Entry) (acts : List Act) (r : WriteRefusal) → Called v (write viewer acts) (write_answer (Err r)) w → WritesActs viewer v w acts (Err (refused_write r))
-refused_why viewer v w acts written.NoViewer t = let k = write_refused v w viewer acts written.NoViewer t in (k.0, k.1)
-refused_why viewer v w acts (written.Closed c) t = let k = write_refused v w viewer acts (written.Closed c) t in (k.0, inl (closed_with_cause w.seen c k.1).0)
-refused_why viewer v w acts (written.Worn n) t = let k = write_refused v w viewer acts (written.Worn n) t in (k.0, inr k.1)
-refused_why viewer v w acts written.NoMemory t = let k = write_refused v w viewer acts written.NoMemory t in (k.0, tt)
-
-pub refused_as : (viewer : ℕ) (v w : View Entry) (acts : List Act) (r : WriteRefusal) (told : Refusal) → told ≡ refused_write r → Called v (write viewer acts) (write_answer (Err r)) w → WritesActs viewer v w acts (Err told)
-refused_as viewer v w acts r told is t = subst (λ (x : Refusal). WritesActs viewer v w acts (Err x)) (sym is) (refused_why viewer v w acts r t)
+pub wish_stopped_as : (viewer : ℕ) (v w : View Entry) (inside wish : Wish) (r : WriteRefusal) (told : Refusal) → inside ≡ wish → told ≡ refused_write r → WritesSome viewer v w inside.acts r → WritesWish viewer v w wish (Err told)
+wish_stopped_as viewer v w inside wish r told is told_is s =
+    subst (λ (x : Refusal). StopsWish viewer v w wish x) (sym told_is) (subst (λ (x : Wish). StopsWish viewer v w x (refused_write r)) is (wish_stopped viewer v w inside r s))
 
 -- ---- its end
 
 pub left_not : (viewer : ℕ) (v : View Entry) (ends : Bool) → ends ≡ false → HasLeft viewer v v ends
-left_not viewer v false e = record { leaves = []; may = refl; own = refl; gone = λ is. absurd (let z : false ≡ true = is in cc) }
+left_not viewer v false e = record { goes_on = goes_nowhere v; leaves = []; may = refl; own = refl; gone = λ is. absurd (let z : false ≡ true = is in cc) }
 left_not viewer v true e = absurd (let z : true ≡ false = e in cc)
 
 left_by : (viewer : ℕ) (v w : View Entry) (r : Result (Unit {0}) NoViewer) → Called v (leave viewer) (Ok (was_left r)) w → own_entries w ≡ (if is_ok r then Leave viewer ∷ [] else []) ++ own_entries v → HasLeft viewer v w true
-left_by viewer v w (Ok d) t own = record { leaves = Leave viewer ∷ []; may = inr refl; own = own; gone = λ is. leave_gone v w viewer (Ok d) t }
-left_by viewer v w (Err e) t own = record { leaves = []; may = inl refl; own = own; gone = λ is. leave_gone v w viewer (Err e) t }
+left_by viewer v w (Ok d) t own = record { goes_on = call_goes_on v w (leave viewer) (Ok (was_left (Ok d))) t; leaves = Leave viewer ∷ []; may = inr refl; own = own; gone = λ is. leave_gone v w viewer (Ok d) t }
+left_by viewer v w (Err e) t own = record { goes_on = call_goes_on v w (leave viewer) (Ok (was_left (Err e))) t; leaves = []; may = inl refl; own = own; gone = λ is. leave_gone v w viewer (Err e) t }
 
 pub left_now : (viewer : ℕ) (v w : View Entry) (ends : Bool) (r : Result (Unit {0}) NoViewer) → ends ≡ true → Called v (leave viewer) (Ok (was_left r)) w → own_entries w ≡ (if is_ok r then Leave viewer ∷ [] else []) ++ own_entries v → HasLeft viewer v w ends
 left_now viewer v w ends r is t own = subst (λ (b : Bool). HasLeft viewer v w b) (sym is) (left_by viewer v w r t own)
 
-pub wish_done : (viewer other : ℕ) (v u w : View Entry) (wish : Wish) (done : Unit {0}) → other ≡ viewer → WritesActs viewer v u wish.acts (Ok done) → HasLeft other u w wish.ends → WritesWish viewer v w wish (Ok wish.ends)
+pub wish_done : (viewer other : ℕ) (v u w : View Entry) (wish : Wish) (done : Unit {0}) → other ≡ viewer → HasWritten viewer v u wish.acts (Ok done) → HasLeft other u w wish.ends → WritesWish viewer v w wish (Ok wish.ends)
 wish_done viewer other v u w wish done same acts left = let l : HasLeft viewer u w wish.ends = subst (λ (n : ℕ). HasLeft n u w wish.ends) same left in (
   refl,
-  record { leaves = l.leaves; may = l.may; own = l.own ∙ ap (λ (es : List Entry). l.leaves ++ es) acts; gone = l.gone },
+  record { gained = acts.gained; done = done_on viewer v u w (parts_of wish.acts) acts.gained acts.done l.goes_on; leaves = l.leaves; may = l.may; own = l.own ∙ ap (λ (es : List Entry). l.leaves ++ es) acts.own; gone = l.gone },
 )
 
 -- .. told of the same wish
-pub wish_done_as : (viewer other : ℕ) (v u w : View Entry) (inside wish : Wish) (done : Unit {0}) → inside ≡ wish → other ≡ viewer → WritesActs viewer v u inside.acts (Ok done) → HasLeft other u w inside.ends → WritesWish viewer v w wish (Ok inside.ends)
+pub wish_done_as : (viewer other : ℕ) (v u w : View Entry) (inside wish : Wish) (done : Unit {0}) → inside ≡ wish → other ≡ viewer → HasWritten viewer v u inside.acts (Ok done) → HasLeft other u w inside.ends → WritesWish viewer v w wish (Ok inside.ends)
 wish_done_as viewer other v u w inside wish done is same acts left = subst (λ (x : Wish). WritesWish viewer v w x (Ok inside.ends)) is (wish_done viewer other v u w inside done same acts left)
 
 -- ---- its body
@@ -79,7 +75,7 @@ no_body body fault is k = subst (λ (x : BodyFault). HasRead body (Err x)) is k
 
 wish_body : (viewer : ℕ) (v w : View Entry) (body : List ℕ) (instructions : List (List (List ℕ))) (r : Result Bool Refusal) → IsBody body instructions → WritesWish viewer v w (wish_of instructions) r → WritesBody viewer v w body r
 wish_body viewer v w body instructions (Ok ended) b k = (instructions, b, k.0, k.1)
-wish_body viewer v w body instructions (Err refused) b k = (k.0, inr (inr (instructions, b, k.1)))
+wish_body viewer v w body instructions (Err refused) b k = inr (inr (instructions, b, k))
 
 pub body_written : (viewer : ℕ) (v w : View Entry) (body : List ℕ) (instructions : List (List (List ℕ))) (wish : Wish) (r : Result Bool Refusal) → IsBody body instructions → wish ≡ wish_of instructions → WritesWish viewer v w wish r → WritesBody viewer v w body r
 body_written viewer v w body instructions wish r b is k = wish_body viewer v w body instructions r b (subst (λ (x : Wish). WritesWish viewer v w x r) is k)

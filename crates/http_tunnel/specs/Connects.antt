@@ -1,5 +1,5 @@
 -- What a request for a tunnel does (this project's own).
-use Rattle.std.specs.Prelude.{◌≡◌, ◌⊎◌, ℕ, ◌+◌, false, List, Option, Some, None, Result, Ok, Err}
+use Rattle.std.specs.Prelude.{◌≡◌, ◌⊎◌, ℕ, ◌+◌, false, List, Option, Some, None, IfSome, Result, Ok, Err}
 use Rattle.std.specs.Option.{option_map}
 use Rattle.guac_handshake.specs.Doors.{option_less}
 use Rattle.guac_handshake.specs.declared.form_refusal.FormRefusal.{FormRefusal}
@@ -7,7 +7,7 @@ use Rattle.guac_handshake.specs.declared.form_refusal.FormRefusal.TheVariants as
 use Rattle.guac_handshake.specs.declared.refused.Refused.{Refused}
 use Rattle.guac_handshake.specs.declared.refused.Refused.TheVariants as door
 use Rattle.guac_handshake.specs.declared.welcome.Welcome.{Welcome}
-use Rattle.id_table.specs.Draws.{AreThere}
+use Rattle.id_table.specs.Draws.{AreNext, AreThere, IsFirstAbsent}
 use Rattle.id_table.specs.Maps.{Changed, Same, Shelved}
 use Rattle.shared_desk.specs.Hosts.{IsFresh}
 use Rattle.shared_desk.specs.declared.place.Place.{Place}
@@ -36,10 +36,15 @@ refused_form form.Form = Form
 refused_form (form.Door refused) = refused_by_door refused
 refused_form form.NoMemory = NoMemory
 
--- the tunnel was added under an ID that was absent; or nothing was, since four IDs were there or memory was wanting
-abbrev pub IsAdded : {I : Type 0} → (I → List ℕ → Type 0) → Welcome Place → Result I Refusal → Shelved Tunnel → Shelved Tunnel → Type 0
-IsAdded Names welcome (Ok named) m n = (id : List ℕ) × Names named id × (m id ≡ None) × Changed id (Some (Some (tunnel_of welcome))) m n
-IsAdded Names welcome (Err refused) m n = Same m n × (refused ≡ Conflict → (ids : List (List ℕ)) × AreThere m 4 ids)
+-- four IDs are there: those of the next four draws, where the dice tell them
+abbrev pub FourAreThere : Option (ℕ → List ℕ) → Shelved Tunnel → Type 0
+FourAreThere drawn m = (ids : List (List ℕ)) × AreThere m 4 ids × IfSome drawn (λ draws. AreNext draws 4 ids)
+
+-- the tunnel was added under an ID that was absent, the first of those that are drawn where the dice tell; or nothing
+-- was, since four IDs were there or memory was wanting
+abbrev pub IsAdded : {I : Type 0} → (I → List ℕ → Type 0) → Option (ℕ → List ℕ) → Welcome Place → Result I Refusal → Shelved Tunnel → Shelved Tunnel → Type 0
+IsAdded Names drawn welcome (Ok named) m n = (id : List ℕ) × Names named id × (m id ≡ None) × IfSome drawn (λ draws. IsFirstAbsent m draws id) × Changed id (Some (Some (tunnel_of welcome))) m n
+IsAdded Names drawn welcome (Err refused) m n = Same m n × (refused ≡ Conflict → FourAreThere drawn m)
 
 abbrev pub IsText : List ℕ → List ℕ → Type 0
 IsText text id = text ≡ hyphenated_text lower id
@@ -54,9 +59,9 @@ AnswersOpened (Ok welcome) (Ok text) = IsFresh welcome.place welcome.first
 AnswersOpened (Ok welcome) (Err refused) = (refused ≡ Conflict) ⊎ (refused ≡ NoMemory)
 
 -- what is done to the tunnels
-abbrev pub ConnectOf : Result (Welcome Place) FormRefusal → Result (List ℕ) Refusal → Shelved Tunnel → Shelved Tunnel → Type 0
-ConnectOf (Err refusal) result m n = Same m n
-ConnectOf (Ok welcome) result m n = IsAdded IsText welcome result m n
+abbrev pub ConnectOf : Option (ℕ → List ℕ) → Result (Welcome Place) FormRefusal → Result (List ℕ) Refusal → Shelved Tunnel → Shelved Tunnel → Type 0
+ConnectOf drawn (Err refusal) result m n = Same m n
+ConnectOf drawn (Ok welcome) result m n = IsAdded IsText drawn welcome result m n
 
 -- a place more is out where a tunnel was added; else the place, if one was given, went back
 abbrev pub out_after : {A : Type 0} → Result A Refusal → Option ℕ → Option ℕ

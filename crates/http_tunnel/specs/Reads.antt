@@ -16,6 +16,7 @@ use Rattle.gate_model.specs.session.History.{History}
 use Rattle.gate_model.specs.text.Text.{texts}
 use Rattle.gate_model.specs.Sequences.{IsLater}
 use Rattle.turn_lock.specs.declared.view.View.{View}
+use Rattle.shared_desk.specs.Members.{IsSound}
 use Rattle.shared_desk.specs.Own.{own_entries}
 use Rattle.http_tunnel.specs.declared.reading.TunnelEnd.{TunnelEnd}
 use Rattle.http_tunnel.specs.declared.reading.TunnelEnd.TheVariants.{Open, Ended}
@@ -51,7 +52,7 @@ GivesNothing (Err (Worn entries)) reads text = (reads ≡ []) × (text ≡ [])
 GivesNothing (Err NoMemory) reads text = Unit {0}
 
 -- its pass, which knew v before and knows w now, gained none or one Read, after all that it had known, and this is
--- the text of what the viewer was given more
+-- the text of what the viewer was given more. What it has seen is sound, so what it was given draws the screen
 pub record HasRead (viewer : ℕ) (v w : View Entry) (text : List ℕ) (result : Result TunnelEnd TunnelRefusal) : Type 0 where
   pub later : IsLater v.seen w.seen
   pub known : v.known ≤ length w.seen
@@ -63,6 +64,7 @@ pub record HasRead (viewer : ℕ) (v w : View Entry) (text : List ℕ) (result :
   pub wrote : text ≡ texts more
   pub cause : TunnelCause result viewer w.seen more
   pub refused : GivesNothing result reads text
+  pub sound : IsSound w.seen
 
 -- ---- one look
 
@@ -105,6 +107,7 @@ pub record HasLooked (viewer : ℕ) (v w : View Entry) (text : List ℕ) (result
   pub wrote : text ≡ texts more
   pub cause : LookCause result viewer w.seen more reads
   pub nothing : LooksNothing result reads text
+  pub sound : IsSound w.seen
 
 -- .. how a read ends whose first look found nothing
 abbrev pub second : Result (Option TunnelEnd) TunnelRefusal → Result TunnelEnd TunnelRefusal

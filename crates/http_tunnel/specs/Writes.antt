@@ -1,8 +1,7 @@
 -- What a request that writes does (this project's own).
 use Rattle.std.specs.Prelude.{◌≡◌, ◌⊎◌, ℕ, Bool, true, false, if◌then◌else◌, List, [], ◌∷◌, ◌++◌, Some, None, Result, Ok, Err}
-use Rattle.gate_model.specs.declared.act.Act.{Act}
 use Rattle.gate_model.specs.declared.entry.Entry.{Entry}
-use Rattle.gate_model.specs.declared.entry.Entry.TheVariants.{Write, Leave}
+use Rattle.gate_model.specs.declared.entry.Entry.TheVariants.{Leave}
 use Rattle.gate_model.specs.declared.write_refusal.WriteRefusal.{WriteRefusal}
 use Rattle.gate_model.specs.declared.write_refusal.WriteRefusal.TheVariants as written
 use Rattle.gate_model.specs.session.History.{History, is_closed, is_full}
@@ -11,15 +10,12 @@ use Rattle.id_table.specs.Maps.{Changed, Same, Shelved}
 use Rattle.turn_lock.specs.declared.view.View.{View}
 use Rattle.shared_desk.specs.Members.{ViewerState}
 use Rattle.shared_desk.specs.Own.{own_entries}
+use Rattle.viewer_acts.specs.Parts.{Part, parts_of}
+use Rattle.viewer_acts.specs.Doing.{GoesOn, HasDone, WritesParts}
 use Rattle.http_tunnel.specs.Bodies.{IsBody, IsNoBody, Wish, wish_of}
 use Rattle.http_tunnel.specs.declared.refusal.Refusal.{Refusal}
 use Rattle.http_tunnel.specs.declared.refusal.Refusal.TheVariants.{NotFound, Form, Method, Dial, Busy, Conflict, Forbidden, TooMany, Closed, NoMemory}
 use Rattle.http_tunnel.specs.declared.tunnel.Tunnel.{Tunnel}
-
--- the Writes of acts: one of all of them, and none where there are none
-abbrev pub writes_of : ℕ → List Act → List Entry
-writes_of viewer [] = []
-writes_of viewer (act ∷ acts) = Write viewer (act ∷ acts) ∷ []
 
 -- none or one Leave of the viewer, which comes only at the end that a body asks for
 abbrev pub MayLeave : Bool → ℕ → List Entry → Type 0
@@ -45,36 +41,46 @@ refused_write (written.Closed cause) = Closed
 refused_write (written.Worn entries) = Closed
 refused_write written.NoMemory = NoMemory
 
--- the acts were written, or refused
-abbrev pub WritesActs : ℕ → View Entry → View Entry → List Act → Result (Unit {0}) Refusal → Type 0
-WritesActs viewer v w acts (Ok done) = own_entries w ≡ writes_of viewer acts ++ own_entries v
-WritesActs viewer v w acts (Err refused) = (own_entries w ≡ own_entries v) × WriteCause refused viewer w.seen
-
 -- where its body asks for an end, the viewer has left
 pub record HasLeft (viewer : ℕ) (v w : View Entry) (ends : Bool) : Type 0 where
+  pub goes_on : GoesOn v w
   pub leaves : List Entry
   pub may : MayLeave ends viewer leaves
   pub own : own_entries w ≡ leaves ++ own_entries v
   pub gone : ends ≡ true → is_live w.seen viewer ≡ false
 
--- what was asked was done, or refused
+-- what was asked was done: its acts, those between two sizes by one Write, and each size by a change of size, or
+-- passed over
 pub record DoesWish (viewer : ℕ) (v w : View Entry) (wish : Wish) : Type 0 where
+  pub gained : List Entry
+  pub done : HasDone viewer v w (parts_of wish.acts) gained
   pub leaves : List Entry
   pub may : MayLeave wish.ends viewer leaves
-  pub own : own_entries w ≡ leaves ++ (writes_of viewer wish.acts ++ own_entries v)
+  pub own : own_entries w ≡ leaves ++ (gained ++ own_entries v)
   pub gone : wish.ends ≡ true → is_live w.seen viewer ≡ false
+
+-- the first parts of it were done, and the next one was refused. Where no act asks for a size there is one part, so
+-- nothing was written
+pub record StopsWish (viewer : ℕ) (v w : View Entry) (wish : Wish) (refused : Refusal) : Type 0 where
+  pub parts : List Part
+  pub lost : Part
+  pub left : List Part
+  pub split : parts_of wish.acts ≡ parts ++ lost ∷ left
+  pub wrote : WritesParts viewer v w parts
+  pub cause : WriteCause refused viewer w.seen
 
 abbrev pub WritesWish : ℕ → View Entry → View Entry → Wish → Result Bool Refusal → Type 0
 WritesWish viewer v w wish (Ok ended) = (ended ≡ wish.ends) × DoesWish viewer v w wish
-WritesWish viewer v w wish (Err refused) = (own_entries w ≡ own_entries v) × WriteCause refused viewer w.seen
+WritesWish viewer v w wish (Err refused) = StopsWish viewer v w wish refused
 
--- a body that wasn't written: it is out of form, or memory was wanting, or its acts were refused
-abbrev pub IsRefusedWrite : ℕ → List ℕ → Refusal → History → Type 0
-IsRefusedWrite viewer body refused seen = ((refused ≡ Form) × IsNoBody body) ⊎ ((refused ≡ NoMemory) ⊎ ((instructions : List (List (List ℕ))) × IsBody body instructions × WriteCause refused viewer seen))
+-- a body that wasn't written whole: it is out of form, or memory was wanting, and nothing was done; or a part of it was
+-- refused
+abbrev pub IsRefusedWrite : ℕ → View Entry → View Entry → List ℕ → Refusal → Type 0
+IsRefusedWrite viewer v w body refused = ((w ≡ v) × (refused ≡ Form) × IsNoBody body) ⊎ (((w ≡ v) × (refused ≡ NoMemory)) ⊎ ((instructions : List (List (List ℕ))) × IsBody body instructions × StopsWish viewer v w (wish_of instructions) refused))
 
 abbrev pub WritesBody : ℕ → View Entry → View Entry → List ℕ → Result Bool Refusal → Type 0
 WritesBody viewer v w body (Ok ended) = (instructions : List (List (List ℕ))) × IsBody body instructions × (ended ≡ Wish.ends (wish_of instructions)) × DoesWish viewer v w (wish_of instructions)
-WritesBody viewer v w body (Err refused) = (own_entries w ≡ own_entries v) × IsRefusedWrite viewer body refused w.seen
+WritesBody viewer v w body (Err refused) = IsRefusedWrite viewer v w body refused
 
 -- whether the tunnel goes
 abbrev pub is_ended : Result Bool Refusal → Bool

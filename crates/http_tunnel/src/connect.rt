@@ -61,7 +61,7 @@ fn add_tunnel<R: Wait, T: Shelf<Tunnel>, D: Door<Place = Place>, X: Dice>(
     dice: &mut X,
     welcome: Welcome<Place>,
 ) -> Result<Uuid, Refusal>
-    ensures added { Told (T.told tunnels.old) (T.told tunnels.new) (IsAdded IsId welcome result) }
+    ensures added { Told (T.told tunnels.old) (T.told tunnels.new) (IsAdded IsId (X.draws dice.old) welcome result) }
     ensures kind { IfErr result (λ refused. (refused ≡ Conflict) ⊎ (refused ≡ NoMemory)) }
     ensures out { D.out door.new ≡ out_added result (D.out door.old) }
     ensures sessions { Told (D.sessions door.old) (D.sessions door.new) (KeepsIds (D.id_of welcome.id)) }
@@ -98,7 +98,7 @@ where
     X: Dice,
     requires { AreHome (T.told tunnels.old) }
     ensures home { AreHome (T.told tunnels.new) }
-    ensures connected { (opened : Result (Welcome Place) FormRefusal) × HasOpened D.id_of (D.sessions door.old) (D.sessions door.new) (D.draws door.old) (D.asked door.old) (D.asked door.new) body.now opened × AnswersOpened opened result × Told (D.sessions door.old) (D.sessions door.new) (HasMoved D.id_of opened) × Told (T.told tunnels.old) (T.told tunnels.new) (ConnectOf opened result) }
+    ensures connected { (opened : Result (Welcome Place) FormRefusal) × HasOpened D.id_of (D.sessions door.old) (D.sessions door.new) (D.draws door.old) (D.asked door.old) (D.asked door.new) body.now opened × AnswersOpened opened result × Told (D.sessions door.old) (D.sessions door.new) (HasMoved D.id_of opened) × Told (T.told tunnels.old) (T.told tunnels.new) (ConnectOf (X.draws dice.old) opened result) }
     ensures out { D.out door.new ≡ out_after result (D.out door.old) }
     ensures dial { result ≡ Err Dial → Rose (D.dial_faults door.old) (D.dial_faults door.new) }
     ensures busy { result ≡ Err Busy → Rose (D.start_faults door.old) (D.start_faults door.new) }

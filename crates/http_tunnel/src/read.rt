@@ -264,8 +264,7 @@ fn read_lent<R: Wait, B: Bell>(
     answer_of(alloc, end, Bytes::of(text))
 }
 
-/// Reads for the viewer of a tunnel. It rings no bell: a read has nothing new for anybody, and readers that rang would
-/// wake each other for ever.
+/// Reads for the viewer of a tunnel, and rings for a read of the same tunnel that waits until this one is done.
 pub(crate) fn read<R: Wait, T: Shelf<Tunnel>, D: Door<Place = Place>, B: Bell>(
     rt: &R,
     alloc: Global,
@@ -286,6 +285,7 @@ pub(crate) fn read<R: Wait, T: Shelf<Tunnel>, D: Door<Place = Place>, B: Bell>(
             let Lent { mut reader, kept } = lent;
             let (result, left) = read_lent(rt, alloc, &mut reader, kept, bell);
             end_read(rt, tunnels, id, door, reader, left);
+            bell.ring();
             result
         }
         None => Err(Refusal::NotFound),

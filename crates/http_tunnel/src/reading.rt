@@ -5,7 +5,7 @@ ghost use Rattle.http_tunnel.specs.Reads.{HasLooked, HasRead, end_of, mark_of, r
 ghost use Rattle.http_tunnel.specs.declared.reading.TunnelRefusal.TheVariants.{NoMemory as no_memory};
 
 use desk_core::{ReadAnswer, ReadRefusal};
-use gate_outside::Bell;
+use gate_outside::{Bell, wait_for_news};
 use shared_desk::ReaderPass;
 use std::sync::Wait;
 
@@ -58,18 +58,27 @@ fn end_of(answer: ReadAnswer) -> Option<TunnelEnd>
     }
 }
 
-// Reads once.
+// Whether the viewer is to catch up first.
+fn is_held(answer: ReadAnswer) -> bool {
+    matches!(&answer, ReadAnswer::Hold { .. })
+}
+
+// Reads once. `held` tells whether the viewer is to catch up first.
 fn look<R: Wait>(
     rt: &R,
     pass: &mut ReaderPass,
     into: &mut Vec<u8>,
+    held: &mut bool,
 ) -> Result<Option<TunnelEnd>, TunnelRefusal>
     ensures session { pass.new.session ≡ pass.old.session }
     ensures viewer { pass.new.viewer ≡ pass.old.viewer }
     ensures looked { (text : List ℕ) × (into.new.items ≡ into.old.items ++ text) × HasLooked pass.old.viewer pass.old.view pass.new.view text result }
 {
     match pass.read(rt, into) {
-        Ok(answer) => Ok(end_of(answer)),
+        Ok(answer) => {
+            *held = is_held(answer);
+            Ok(end_of(answer))
+        }
         Err(refused) => Err(TunnelRefusal::from(refused)),
     }
 }
@@ -85,11 +94,13 @@ fn look_twice<R: Wait, B: Bell>(
     ensures viewer { pass.new.viewer ≡ pass.old.viewer }
     ensures read { (text : List ℕ) × (into.new.items ≡ into.old.items ++ text) × HasRead pass.old.viewer pass.old.view pass.new.view text result }
 {
-    match look(rt, pass, into) {
+    let mut held = false;
+    let rings = pass.spots().rings(pass.viewer());
+    match look(rt, pass, into, &mut held) {
         Ok(Some(end)) => Ok(end),
         Ok(None) => {
-            bell.wait(rt);
-            settled(look(rt, pass, into))
+            wait_for_news(rt, bell, pass.spots(), pass.viewer(), held, rings);
+            settled(look(rt, pass, into, &mut held))
         }
         Err(refused) => Err(refused),
     }

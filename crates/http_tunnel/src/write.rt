@@ -6,21 +6,21 @@ ghost use Rattle.id_table.specs.Maps.{Changed, IsLent, Told};
 ghost use Rattle.http_tunnel.specs.Places.{HasGiven, IsOfTunnel};
 ghost use Rattle.http_tunnel.specs.Requests.{IsTunnelRefusal};
 ghost use Rattle.http_tunnel.specs.Tunnels.{AreHome, less_one};
-ghost use Rattle.http_tunnel.specs.Writes.{HasLeft, HasPut, WriteOf, WritesActs, WritesBody, WritesWish, is_ended, refused_write, without_value};
+ghost use Rattle.http_tunnel.specs.Writes.{HasLeft, HasPut, WriteOf, WritesBody, WritesWish, is_ended, refused_write, without_value};
 
 use crate::acts::{BodyFault, Wanted, read_body};
 use crate::giving::give_back;
 use crate::refusal::Refusal;
 use crate::tunnel::Tunnel;
 use desk_core::WriteRefusal;
-use gate_model::Act;
-use gate_outside::Bell;
+use gate_outside::{Bell, ring_after_leave};
 use guac_handshake::Door;
 use id_table::Shelf;
 use shared_desk::{Place, WriterPass};
 use std::alloc::Global;
 use std::sync::Wait;
 use uuid::Uuid;
+use viewer_acts::write_acts;
 
 fn refused_write(refusal: WriteRefusal) -> Refusal
     ensures { result ≡ refused_write refusal }
@@ -32,31 +32,6 @@ fn refused_write(refusal: WriteRefusal) -> Refusal
     }
 }
 
-// Writes the acts of a body at once, if it has any.
-fn write_acts<R: Wait, B: Bell>(
-    rt: &R,
-    alloc: Global,
-    writer: &mut WriterPass,
-    acts: &[Act],
-    bell: &B,
-) -> Result<(), Refusal>
-    requires { length acts.now ≤ most_acts }
-    ensures session { writer.new.session ≡ writer.old.session }
-    ensures viewer { writer.new.viewer ≡ writer.old.viewer }
-    ensures wrote { WritesActs writer.old.viewer writer.old.view writer.new.view acts.now result }
-{
-    if acts.is_empty() {
-        return Ok(());
-    }
-    match writer.write(rt, alloc, acts) {
-        Ok(_) => {
-            bell.ring();
-            Ok(())
-        }
-        Err(refusal) => Err(refused_write(refusal)),
-    }
-}
-
 // The viewer leaves, where its body asks for an end.
 fn leave_at<R: Wait, B: Bell>(rt: &R, writer: &mut WriterPass, ends: bool, bell: &B)
     ensures session { writer.new.session ≡ writer.old.session }
@@ -65,11 +40,12 @@ fn leave_at<R: Wait, B: Bell>(rt: &R, writer: &mut WriterPass, ends: bool, bell:
 {
     if ends {
         let _ = writer.leave(rt);
-        bell.ring();
+        ring_after_leave(bell, writer.spots(), writer.viewer());
     }
 }
 
-// Does what a body asks, and answers whether it asks for an end. Where the acts are refused the viewer doesn't leave.
+// Does what a body asks, and answers whether it asks for an end. Where one of its acts is refused the viewer doesn't
+// leave.
 fn write_wish<R: Wait, B: Bell>(
     rt: &R,
     alloc: Global,
@@ -87,7 +63,7 @@ fn write_wish<R: Wait, B: Bell>(
             leave_at(rt, writer, wanted.ends, bell);
             Ok(wanted.ends)
         }
-        Err(refusal) => Err(refusal),
+        Err(refusal) => Err(refused_write(refusal)),
     }
 }
 
@@ -177,7 +153,7 @@ fn end_write<R: Wait, T: Shelf<Tunnel>, D: Door<Place = Place>>(
     }
 }
 
-/// Writes the acts of a body for the viewer of a tunnel. A `disconnect` leaves for the viewer and removes the tunnel.
+/// Writes the acts of a body for the viewer of a tunnel, those that ask for a size by a change of size. A `disconnect` leaves for the viewer and removes the tunnel.
 pub(crate) fn write<R: Wait, T: Shelf<Tunnel>, D: Door<Place = Place>, B: Bell>(
     rt: &R,
     alloc: Global,

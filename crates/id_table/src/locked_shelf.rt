@@ -55,6 +55,14 @@ impl<V: Drop> LockedShelf<V> {
         let behind = self.behind.as_ref()?;
         behind.shelf.lock(rt).sweep(done)
     }
+
+    /// The least ID whose value isn't lent and for which `done` answers true: `PlainShelf::least_done` under the lock.
+    pub fn least_done<R: Wait, F: Fn(&V) -> bool>(&self, rt: &R, done: F) -> Option<Uuid>
+        requires { F.IsAlwaysCallable done }
+    {
+        let behind = self.behind.as_ref()?;
+        behind.shelf.lock(rt).least_done(&done)
+    }
 }
 
 impl<V: Drop> Shelf<V> for LockedShelf<V> {

@@ -60,8 +60,8 @@ impl<V: Drop> PlainShelf<V> {
         }
     }
 
-    // The least ID whose value isn't lent and is done.
-    fn least_done<F: Fn(&V) -> bool>(&self, done: &F) -> Option<Uuid>
+    /// The least ID whose value isn't lent and for which `done` answers true. None comes exactly where there is none.
+    pub fn least_done<F: Fn(&V) -> bool>(&self, done: &F) -> Option<Uuid>
         requires { F.IsAlwaysCallable done.now }
         ensures has { IfSome result (λ id. Has id (λ v. FnReturnsAt F.Fn done.now v true) (shelved self.now)) }
         ensures least { IfSome result (λ id. EachBelow id (λ v. FnReturnsAt F.Fn done.now v false) (shelved self.now)) }

@@ -7,6 +7,7 @@ mod door;
 mod links;
 mod nines;
 mod recordings;
+mod sizes;
 mod users;
 mod visits;
 
@@ -26,6 +27,7 @@ where
     let alloc = rt.alloc();
     tell_links(rt, alloc)?;
     tell_users(rt, alloc)?;
+    tell_sizes(rt, alloc)?;
     println!(rt;
         "a recording of three feeds: {}",
         recordings::three_feeds(rt, alloc)?
@@ -64,6 +66,17 @@ where
     println!(rt;
         "a visit whose write k fails: {}",
         visits::failing_writes(rt, alloc)?
+    )?;
+    Ok(())
+}
+
+// What came of sizes that a viewer asks for.
+fn tell_sizes<R: Print + Wait>(rt: &R, alloc: Global) -> Result<()> {
+    println!(rt; "another size: {}", sizes::another(rt, alloc)?)?;
+    println!(rt; "the size in force: {}", sizes::same(rt, alloc)?)?;
+    println!(rt;
+        "a size of a viewer that looks on: {}",
+        sizes::denied(rt, alloc)?
     )?;
     Ok(())
 }

@@ -7,7 +7,7 @@ use Rattle.id_table.specs.Refused.{IfConflict}
 use Rattle.id_table.specs.declared.add_refusal.AddRefusal.{AddRefusal}
 use Rattle.id_table.specs.declared.add_refusal.AddRefusal.TheVariants.{Conflict as conflict}
 use Rattle.guac_handshake.specs.Doors.{AddedOne, HasConflict, RemovedOne, TellsConflict}
-use Rattle.guac_handshake.specs.declared.refused.Refused.TheVariants.{Conflict}
+use Rattle.guac_handshake.specs.declared.refused.Refused.TheVariants.{Conflict, NoMemory}
 use Rattle.service_door.specs.Sessions.{NoneLent, SessionState, histories, history_of, sessions_of}
 use Rattle.guac_handshake.specs.Names.{id_of_name}
 use Rattle.guac_handshake.specs.declared.ask.Ask.{Ask}
@@ -65,7 +65,18 @@ pub none_gone : (told : Option Table) (name : Option (List ℕ)) → name ≡ No
 none_gone None name is = tt
 none_gone (Some m) name is = λ k. ((λ e. absurd (none_some k (sym is ∙ e))), λ ne. refl)
 
+-- nothing was done
+pub untouched : (told : Option Table) → Told (sessions_of told) (sessions_of told) Same
+untouched None = tt
+untouched (Some m) = λ k. refl
+
 -- ---- draws
+
+-- want of memory comes whatever is drawn
+pub free_memory : (A : Type 0) (told : Option Table) (draws : Option (ℕ → List ℕ)) → TellsConflict {A = A} (sessions_of told) draws (Err NoMemory)
+free_memory A None draws = tt
+free_memory A (Some m) None = tt
+free_memory A (Some m) (Some draws) = tt
 
 history_some : (o : Option (Option SessionState)) → IsSome o → IsSome (history_of o)
 history_some None h = absurd (true≢false (sym h))

@@ -23,7 +23,7 @@ marks_send : IsSend marks.the_row
 marks_send = search (sendable, crosses) depth 20
 
 marks_sync : IsSync marks.the_row
-marks_sync = declared_sync marks.the_type (search (sendable, crosses), (search (sendable, crosses), tt))
+marks_sync = declared_sync marks.the_type (search (sendable, crosses), (search (sendable, crosses), (search (sendable, crosses), (search (sendable, crosses), (search (sendable, crosses) depth 20, tt)))))
 
 shared_marks_send : IsSend shared_marks.the_row
 shared_marks_send = declared_send shared_marks.the_type (Arc-send marks.the_row marks_send marks_sync, tt)
@@ -45,4 +45,4 @@ bytes_send : IsSend bytes.the_row
 bytes_send = search (sendable, crosses) depth 30
 
 pub recorder_send : (K B : RattleType) → IsSend K → IsSend B → IsSend (recorder.the_row K B)
-recorder_send K B k b = declared_send (recorder.the_type K B) (search (sendable, crosses), (place_send, (bytes_send, (field_send K k, (field_send B b, tt)))))
+recorder_send K B k b = declared_send (recorder.the_type K B) (search (sendable, crosses), (place_send, (bytes_send, (field_send K k, (field_send B b, (shared_marks_send, tt))))))

@@ -21,6 +21,8 @@ use Rattle.shared_desk.specs.Called.{Gives, Turned}
 use Rattle.shared_desk.specs.Hosts.{HasJoined, HostState, JoinEnds}
 use Rattle.shared_desk.specs.declared.place.Place.{Place}
 use Rattle.service_door.specs.Begun.{HasJoinedLast}
+use Rattle.service_door.specs.Doors.{GoesOn}
+use Rattle.service_door.specs.Sessions.{SessionState}
 use Rattle.service_door.proofs.Owned.{join_adds}
 
 -- a turn finds a history after what was seen, and what is seen then begins with that
@@ -59,10 +61,13 @@ joined_later v w asked place before after j =
 pub meets_joined : {A : Type 0} (v w : View Entry) (asked : Asked) (place : Place) (before after : List ℕ) (a : A) → HasJoined v asked place w before after → MeetsTold w.seen asked (Ok a)
 meets_joined v w asked place before after a j =
     let adds = join_adds j.called.before asked j.answer j.called.added j.called.did_it.0 in (
-      Join j.answer.viewer j.answer.role adds.first,
+      j.answer.viewer,
+      j.answer.role,
+      adds.first,
       j.called.before,
       ap (λ (u : View Entry). u.seen) j.view ∙ (ap (λ (u : View Entry). u.seen) j.called.after ∙ ap (λ (es : List Entry). es ++ j.called.before) adds.adds),
       adds.unstopped,
+      adds.granted,
     )
 
 -- ---- refused
@@ -99,6 +104,10 @@ meets_refused A v w asked (TooMany l j) before after e = told_rule w asked (TooM
 meets_refused A v w asked (Worn n) before after e = told_rule w asked (Worn n) (ruled v w asked (Worn n) before after e)
 meets_refused A v w asked NoMemory before after e = tt
 
+-- a session to which nothing was done goes on
+pub stays : (s : SessionState) → GoesOn s s
+stays s = record { session = refl; seen = ([], refl) }
+
 same_later : (v w : View Entry) → w ≡ v → IsLater v.seen w.seen
 same_later v w is = ([], ap (λ (u : View Entry). u.seen) is)
 
@@ -118,7 +127,7 @@ there A (Closed c) = refl
 there A Forbidden = refl
 there A (TooMany l j) = refl
 there A (Worn n) = refl
-there A NoMemory = tt
+there A NoMemory = refl
 
 pub refusal_there : (A : Type 0) (r : JoinRefusal) (x : Refused) → x ≡ refused_of r → IsAbsent {A = A} (Err x) true
 refusal_there A r x is = subst (λ (y : Refused). IsAbsent {A = A} (Err y) true) (sym is) (there A r)

@@ -1,11 +1,15 @@
 -- What a table is after a session was lent and put back.
 use Rattle.std.proofs.Common.{◌≡◌, ℕ, List, Bool, true, false, Option, Some, None, refl, ap, sym, ◌∙◌, subst}
-use Rattle.std.specs.Prelude.{IfSome, is_some, Result}
+use Rattle.std.specs.Prelude.{IfOk, IfSome, is_some, Result, Ok, Err}
 use Rattle.gate_model.specs.session.History.{History}
 use Rattle.gate_model.specs.declared.sharing.Asked.{Asked}
 use Rattle.id_table.specs.Maps.{Changed, IsLent, Same, Told, had, lent_as}
-use Rattle.guac_handshake.specs.Doors.{IsAbsent, KeepsIds, MeetsHistory, MeetsTold, SameId, at_name}
+use Rattle.guac_handshake.specs.Doors.{IsAbsent, KeepsIds, MeetsHistory, MeetsTold, SameId, at_name, logged, one_more_out}
+use Rattle.guac_handshake.specs.Names.{id_of_name}
 use Rattle.guac_handshake.specs.declared.refused.Refused.{Refused}
+use Rattle.guac_handshake.specs.declared.refused.Refused.TheVariants.{Absent, Conflict, Dial, Busy, Closed, Forbidden, TooMany, Worn, NoMemory}
+use Rattle.guac_handshake.specs.declared.request.Request.{Request}
+use Rattle.guac_handshake.specs.declared.welcome.Welcome.{Welcome}
 use Rattle.service_door.specs.Sessions.{NoneLent, SessionState, histories, history_of, sessions_of}
 use Rattle.service_door.specs.Doors.{Both, OthersStay, Table}
 use Rattle.service_door.proofs.Tables.{after_call, after_so, by_id, changed_unlent, none_some, same_some, sessions_so, told_same, told_so, told_then}
@@ -111,6 +115,29 @@ meets_free (Some (Some h)) role answer f = f h
 pub free_history : {A : Type 0} (r : Option Table) (name : Option (List ℕ)) (role : Asked) (answer : Result A Refused) → ((h : History) → MeetsTold h role answer) → IfSome (sessions_of r) (λ n. MeetsHistory (at_name name n) role answer)
 free_history None name role answer f = tt
 free_history (Some m) name role answer f = meets_free (at_name name (histories m)) role answer f
+
+-- ---- this door tells neither its places nor what it was asked
+
+pub untold_out : {A : Type 0} (r : Result A Refused) → None ≡ one_more_out r None
+untold_out (Ok a) = refl
+untold_out (Err refused) = refl
+
+pub untold_asked : {A : Type 0} (request : Request) (r : Result A Refused) → None ≡ logged None request r
+untold_asked request (Ok a) = refl
+untold_asked request (Err Absent) = refl
+untold_asked request (Err Conflict) = refl
+untold_asked request (Err Dial) = refl
+untold_asked request (Err Busy) = refl
+untold_asked request (Err Closed) = refl
+untold_asked request (Err Forbidden) = refl
+untold_asked request (Err TooMany) = refl
+untold_asked request (Err Worn) = refl
+untold_asked request (Err NoMemory) = refl
+
+-- the ID of a welcome is that of the name by which it was found
+pub same_name : {P : Type 0} (name : Option (List ℕ)) (id : List ℕ) (r : Result (Welcome P) Refused) → Some id ≡ name → IfOk r (λ welcome. id_of_name welcome.id ≡ Some id) → IfOk r (λ welcome. id_of_name welcome.id ≡ name)
+same_name name id (Ok welcome) is named = named ∙ is
+same_name name id (Err refused) is named = tt
 
 -- ---- what the calls of this door alone tell
 

@@ -28,7 +28,7 @@ use Rattle.desk_core.specs.Desk.{DeskState, Stands}
 use Rattle.turn_lock.specs.declared.view.View.{View}
 use Rattle.shared_desk.specs.Hosts.{HasBegun, HostState, IsFresh, IsOpening}
 use Rattle.shared_desk.specs.declared.place.Place.{Place}
-use Rattle.service_door.specs.Begun.{HasOpened, HasSetup}
+use Rattle.service_door.specs.Begun.{HasOpened, HasSetup, most_entries}
 
 -- ---- a join that is answered with a viewer
 
@@ -126,7 +126,6 @@ same_role role first given e f is = cc
 pub opened : (ask : Ask) (setup : Setup) (h : History) (host : HostState) (place : Place) (text : List ℕ) → HasSetup ask setup → IsOwned setup h text → HasBegun h host (Some place) → HasOpened ask host place text
 opened ask setup h host place text s o b = record {
   started = record {
-    entries = setup.entries;
     stamp = o.stamp;
     frame = o.frame;
     first = o.first;
@@ -141,8 +140,9 @@ opened ask setup h host place text s o b = record {
   fresh = subst (IsFresh place) (sym o.gave) b.7;
 }
   where
-    named : Join 1 Control o.first ∷ starts setup o.stamp o.frame ∷ [] ≡ Join 1 Control o.first ∷ Start ask.cols ask.rows ask.mode ask.term setup.entries o.stamp o.frame ∷ []
+    named : Join 1 Control o.first ∷ starts setup o.stamp o.frame ∷ [] ≡ Join 1 Control o.first ∷ Start ask.cols ask.rows ask.mode ask.term most_entries o.stamp o.frame ∷ []
     named = ap (λ (c : ℕ). Join 1 Control o.first ∷ Start c setup.rows setup.mode setup.term setup.entries o.stamp o.frame ∷ []) s.cols
         ∙ (ap (λ (r : ℕ). Join 1 Control o.first ∷ Start ask.cols r setup.mode setup.term setup.entries o.stamp o.frame ∷ []) s.rows
         ∙ (ap (λ (m : _). Join 1 Control o.first ∷ Start ask.cols ask.rows m setup.term setup.entries o.stamp o.frame ∷ []) s.mode
-        ∙ ap (λ (t : List ℕ). Join 1 Control o.first ∷ Start ask.cols ask.rows ask.mode t setup.entries o.stamp o.frame ∷ []) s.term))
+        ∙ (ap (λ (t : List ℕ). Join 1 Control o.first ∷ Start ask.cols ask.rows ask.mode t setup.entries o.stamp o.frame ∷ []) s.term
+        ∙ ap (λ (n : ℕ). Join 1 Control o.first ∷ Start ask.cols ask.rows ask.mode ask.term n o.stamp o.frame ∷ []) s.entries)))

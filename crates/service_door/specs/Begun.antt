@@ -1,5 +1,5 @@
 -- What a session begins with, and a viewer's place in it (this project's own).
-use Rattle.std.specs.Prelude.{◌≡◌, ℕ, Bool, List, [], ◌∷◌, Option, Some, None, false, Ok}
+use Rattle.std.specs.Prelude.{◌≡◌, ℕ, ◌^◌, Bool, List, [], ◌∷◌, Option, Some, None, false, Ok}
 use Rattle.gate_model.specs.session.History.{History, share_mode}
 use Rattle.gate_model.specs.session.Roles.{grant_of}
 use Rattle.gate_model.specs.declared.entry.Entry.TheVariants.{Join, Start}
@@ -16,12 +16,17 @@ use Rattle.shared_desk.specs.declared.place.Place.{Place}
 use Rattle.service_door.specs.Recorders.{HasSeen}
 use Rattle.service_door.specs.Sessions.{SessionState}
 
--- the session is opened as it was asked
+-- the most entries of a session
+abbrev pub most_entries : ℕ
+most_entries = 2 ^ 40
+
+-- the session is opened as it was asked, for as many entries as a session may have
 pub record HasSetup (ask : Ask) (setup : Setup) : Type 0 where
   pub cols : setup.cols ≡ ask.cols
   pub rows : setup.rows ≡ ask.rows
   pub mode : setup.mode ≡ ask.mode
   pub term : setup.term ≡ ask.term
+  pub entries : setup.entries ≡ most_entries
 
 -- the place is that of this viewer of the host's session
 pub record IsSeated (viewer : ℕ) (place : Place) (host : HostState) : Type 0 where
@@ -31,11 +36,10 @@ pub record IsSeated (viewer : ℕ) (place : Place) (host : HostState) : Type 0 w
 -- the host has seen a Start as it was asked, and the Join of viewer 1, who may type; the place is its. Where no
 -- recorder is wanted it has seen just these
 pub record HasStarted (wanted : Bool) (ask : Ask) (place : Place) (host : HostState) : Type 0 where
-  pub entries : ℕ
   pub stamp : ℕ
   pub frame : List Instr
   pub first : List Instr
-  pub seen : HasSeen wanted (Join 1 Control first ∷ Start ask.cols ask.rows ask.mode ask.term entries stamp frame ∷ []) host.view.seen
+  pub seen : HasSeen wanted (Join 1 Control first ∷ Start ask.cols ask.rows ask.mode ask.term most_entries stamp frame ∷ []) host.view.seen
   pub role : place.role ≡ Control
   pub seat : IsSeated 1 place host
 

@@ -1,5 +1,10 @@
 //! The service's door.
 
+ghost use Rattle.std.specs.Prelude.{◌≡◌, IfErr, IfOk, Some, true};
+ghost use Rattle.guac_handshake.specs.Doors.{IsAbsent, IsJoinRefusal, MeetsTold};
+ghost use Rattle.guac_handshake.specs.Names.{id_of_name};
+ghost use Rattle.shared_desk.specs.Hosts.{IsFresh};
+ghost use Rattle.service_door.specs.Doors.{JoinLeaves};
 ghost use Rattle.service_door.specs.Sessions.{NoneLent};
 
 use crate::jobs::{PumpJob, SenderJob};
@@ -14,6 +19,7 @@ use id_table::{AddRefusal, Shelf};
 use shared_desk::Place;
 use std::alloc::Global;
 use std::sync::Wait;
+use uuid::Uuid;
 
 /// The door of the service, over a table of sessions (this project's own). A new session is dialed, made, joined
 /// by its owner, shared, joined by its recorder and added to the table, in this order, and then its jobs are started.
@@ -169,7 +175,7 @@ impl<'a, T: Shelf<Session>, H: Helper, B: Bell + Send + 'static> Door for Servic
         };
         if let Some(mut session) = self.sessions.remove(rt, &key) {
             let _ = session.close(rt, Cause::Stopped);
-            self.bell.ring();
+            self.bell.ring_all(session.spots());
         }
     }
 
@@ -197,23 +203,12 @@ impl<'a, T: Shelf<Session>, H: Helper, B: Bell + Send + 'static> Door for Servic
         let Some(key) = id_named(name) else {
             return Err(Refused::Absent);
         };
-        let Ok(id) = name_of(alloc, key) else {
-            return Err(Refused::NoMemory);
-        };
         let Some(mut session) = self.sessions.lend(rt, &key) else {
             return Err(Refused::Absent);
         };
-        let mut first = Vec::new(alloc);
-        let joined = session.join(rt, role, &mut first);
+        let joined = welcome(rt, alloc, &mut session, key, role);
         self.sessions.back(rt, &key, session);
-        match joined {
-            Ok(place) => Ok(Welcome {
-                id,
-                place,
-                first: Bytes::of(first),
-            }),
-            Err(refusal) => Err(refused_of(refusal)),
-        }
+        joined
     }
 
     fn give<R: Wait>(&mut self, rt: &R, id: &str, place: Place)
@@ -233,6 +228,36 @@ impl<'a, T: Shelf<Session>, H: Helper, B: Bell + Send + 'static> Door for Servic
             session.count_back();
             self.sessions.back(rt, &key, session);
         }
+    }
+}
+
+// Lets a viewer join a session that is there under the key. The text of its ID is taken before the viewer joins, so
+// that one who joined can be told of it.
+fn welcome<R: Wait>(
+    rt: &R,
+    alloc: Global,
+    session: &mut Session,
+    key: Uuid,
+    role: Asked,
+) -> Result<Welcome<Place>, Refused>
+    ensures kind { IfErr result IsJoinRefusal }
+    ensures there { IsAbsent result true }
+    ensures fresh { IfOk result (λ welcome. IsFresh welcome.place welcome.first) }
+    ensures id { IfOk result (λ welcome. id_of_name welcome.id ≡ Some key) }
+    ensures history { MeetsTold session.new.host.view.seen role result }
+    ensures leaves { JoinLeaves role result session.old session.new }
+{
+    let Ok(id) = name_of(alloc, key) else {
+        return Err(Refused::NoMemory);
+    };
+    let mut first = Vec::new(alloc);
+    match session.join(rt, role, &mut first) {
+        Ok(place) => Ok(Welcome {
+            id,
+            place,
+            first: Bytes::of(first),
+        }),
+        Err(refusal) => Err(refused_of(refusal)),
     }
 }
 

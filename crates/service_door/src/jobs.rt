@@ -43,7 +43,7 @@ impl<S: Source + Send + 'static, C: Clock + Send + 'static, B: Bell + Send + 'st
 // Closes the session with Stopped where it is open, and then rings.
 fn stop<R: Wait, B: Bell>(rt: &R, pass: &mut LinkPass, bell: &B) {
     if pass.close(rt, Cause::Stopped).is_ok() {
-        bell.ring();
+        bell.ring_all(pass.spots());
     }
 }
 

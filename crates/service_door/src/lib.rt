@@ -20,4 +20,4 @@ mod session;
 pub use door::ServiceDoor;
 pub use jobs::{PumpJob, SenderJob};
 pub use recorder::RecorderJob;
-pub use session::{Session, sweep};
+pub use session::{Session, close_backlogged, find_unrecorded, look, sweep, sweep_deserted};

@@ -5,11 +5,12 @@ ghost use Rattle.shared_desk.specs.Hosts.{IsFresh};
 ghost use Rattle.service_door.specs.Begun.{HasStarted};
 
 use crate::jobs::{PumpJob, SenderJob};
+use crate::marks::SharedMarks;
 use crate::opening::{Opened, Prepared, open_session, prepare};
 use crate::recorder::RecorderJob;
 use crate::recording::recorder_of;
 use crate::session::Session;
-use gate_model::{Bytes, NoMemory};
+use gate_model::{Bytes, NoMemory, Share};
 use gate_outside::Bell;
 use guac_handshake::{Ask, Recorder};
 use shared_desk::Place;
@@ -62,12 +63,13 @@ pub(crate) fn make<R: Wait, S: Drop, K: Drop, C: Drop, B: Bell>(
         place,
         first,
     } = open_session(alloc, now, ask)?;
-    let recorder = recorder_of(rt, alloc, wanted, recorder, bell, &mut host);
+    let marks = SharedMarks::new(alloc, ask.mode != Share::Nobody)?;
+    let recorder = recorder_of(rt, alloc, wanted, recorder, bell, &marks, &mut host);
     let Prepared {
         session,
         pump,
         sender,
-    } = prepare(alloc, clock, bell, host, link)?;
+    } = prepare(alloc, clock, bell, host, link, marks)?;
     Ok(Made {
         session,
         place,

@@ -1,15 +1,21 @@
-//! The marks that a session's jobs set when they end.
+//! The marks that a session's jobs set when they end, and how long nobody has been in it.
 
 use gate_model::NoMemory;
 use std::alloc::Global;
 use std::sync::Arc;
-use std::sync::atomic::AtomicBool;
 use std::sync::atomic::Ordering::SeqCst;
+use std::sync::atomic::{AtomicBool, AtomicU64};
 
 #[derive(Drop)]
 struct Marks {
     pump: AtomicBool,
     sender: AtomicBool,
+    // Whether the recorder has ended before its session, and it wasn't asked for since.
+    recorder: AtomicBool,
+    // At how many looks in a row nobody was there.
+    deserted: AtomicU64,
+    // Whether somebody may join.
+    joinable: bool,
 }
 
 /// The marks of one session, shared by its table and its jobs. Contracts tell nothing of them.
@@ -19,11 +25,14 @@ pub(crate) struct SharedMarks {
 }
 
 impl SharedMarks {
-    /// Marks that nobody has set.
-    pub(crate) fn new(alloc: Global) -> Result<SharedMarks, NoMemory> {
+    /// Marks that nobody has set, of a session that others may join or not.
+    pub(crate) fn new(alloc: Global, joinable: bool) -> Result<SharedMarks, NoMemory> {
         let marks = Marks {
             pump: AtomicBool::new(false),
             sender: AtomicBool::new(false),
+            recorder: AtomicBool::new(false),
+            deserted: AtomicU64::new(0),
+            joinable,
         };
         Ok(SharedMarks {
             marks: Arc::new(alloc, marks)?,
@@ -47,8 +56,37 @@ impl SharedMarks {
         self.marks.sender.store(true, SeqCst);
     }
 
+    /// Says that the recorder has ended before its session.
+    pub(crate) fn recorder_failed(&self) {
+        self.marks.recorder.store(true, SeqCst);
+    }
+
+    /// Whether the recorder has ended before its session, and it wasn't asked for since.
+    pub(crate) fn take_recorder_failed(&self) -> bool {
+        self.marks.recorder.swap(false, SeqCst)
+    }
+
     /// Whether both have ended.
     pub(crate) fn have_both_ended(&self) -> bool {
         self.marks.pump.load(SeqCst) && self.marks.sender.load(SeqCst)
+    }
+
+    /// Counts a look, at which somebody was there or not.
+    pub(crate) fn count_look(&self, deserted: bool) {
+        if deserted {
+            self.marks.deserted.fetch_add(1, SeqCst);
+        } else {
+            self.marks.deserted.store(0, SeqCst);
+        }
+    }
+
+    /// Whether nobody was there at more than `most` looks in a row, or at one where nobody may join.
+    pub(crate) fn is_deserted(&self, most: u32) -> bool {
+        let most = if self.marks.joinable {
+            u64::from(most)
+        } else {
+            0
+        };
+        self.marks.deserted.load(SeqCst) > most
     }
 }

@@ -92,14 +92,15 @@ pub(crate) struct Prepared<S, K, C, B> {
     pub(crate) sender: SenderJob<K, B>,
 }
 
-/// Prepares the session of the host for the table, with one place out, and its jobs over the two ends of its
-/// link. All memory that they need is taken here.
+/// Prepares the session of the host, with its marks, for the table, with one place out, and its jobs over the two ends of
+/// its link. All memory that they need is taken here.
 pub(crate) fn prepare<S: Drop, K: Drop, C: Drop, B: Bell>(
     alloc: Global,
     clock: C,
     bell: &B,
     mut host: HostPass,
     link: (S, K),
+    marks: SharedMarks,
 ) -> Result<Prepared<S, K, C, B>, NoMemory>
     ensures session { IfOk result (λ made. HasPrepared host made.session) }
 {
@@ -107,7 +108,6 @@ pub(crate) fn prepare<S: Drop, K: Drop, C: Drop, B: Bell>(
         return Err(NoMemory);
     };
     let (source, sink) = link;
-    let marks = SharedMarks::new(alloc)?;
     let pump = PumpJob {
         alloc,
         pass: link_pass,

@@ -2,6 +2,7 @@
 
 ghost use Rattle.service_door.specs.Recorders.{IsKeeper};
 
+use crate::marks::SharedMarks;
 use gate_model::Bytes;
 use gate_outside::{Bell, Sink};
 use guac_handshake::Job;
@@ -9,8 +10,10 @@ use session_record::keep;
 use shared_desk::Place;
 use std::alloc::Global;
 use std::sync::Wait;
+use user_serve::OutletEnd;
 
-/// Records a session, by `session_record::keep`, for a viewer that joined to keep it. At the end the viewer leaves.
+/// Records a session, by `session_record::keep`, for a viewer that joined to keep it. At the end the viewer leaves. Where
+/// that comes before the session's it is marked.
 #[derive(Drop)]
 pub struct RecorderJob<K, B> {
     pub(crate) alloc: Global,
@@ -18,6 +21,7 @@ pub struct RecorderJob<K, B> {
     pub(crate) first: Bytes,
     pub(crate) sink: K,
     pub(crate) bell: B,
+    pub(crate) marks: SharedMarks,
     ghost keeper: { IsKeeper place first },
 }
 
@@ -29,13 +33,17 @@ impl<K: Sink + Send + 'static, B: Bell + Send + 'static> Job for RecorderJob<K, 
             first,
             mut sink,
             bell,
+            marks,
         } = self;
         let Place {
             mut reader,
             writer,
             role: _,
         } = place;
-        let _end = keep(rt, alloc, &mut reader, &first, &mut sink, &bell);
+        let end = keep(rt, alloc, &mut reader, &first, &mut sink, &bell);
+        if end != OutletEnd::Ended {
+            marks.recorder_failed();
+        }
         let _ = reader.leave(rt);
         drop(writer);
     }

@@ -3,6 +3,7 @@
 ghost use Rattle.std.specs.Prelude.{◌≡◌};
 ghost use Rattle.service_door.specs.Recorders.{HasSeen};
 
+use crate::marks::SharedMarks;
 use crate::recorder::RecorderJob;
 use gate_model::{Asked, Bytes};
 use gate_outside::Bell;
@@ -19,6 +20,7 @@ pub(crate) fn recorder_of<R: Wait, S: Drop, K: Drop, B: Bell>(
     wanted: bool,
     link: Option<(S, K)>,
     bell: &B,
+    marks: &SharedMarks,
     host: &mut HostPass,
 ) -> Recorder<RecorderJob<K, B>>
     ensures session { host.new.session ≡ host.old.session }
@@ -30,7 +32,7 @@ pub(crate) fn recorder_of<R: Wait, S: Drop, K: Drop, B: Bell>(
     let Some((_source, sink)) = link else {
         return Recorder::Failed;
     };
-    let Ok(bell) = bell.another(alloc) else {
+    let (Ok(bell), Ok(marks)) = (bell.another(alloc), marks.another()) else {
         return Recorder::Failed;
     };
     let mut first = Vec::new(alloc);
@@ -43,5 +45,6 @@ pub(crate) fn recorder_of<R: Wait, S: Drop, K: Drop, B: Bell>(
         first: Bytes::of(first),
         sink,
         bell,
+        marks,
     })
 }

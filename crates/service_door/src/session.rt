@@ -4,11 +4,16 @@ ghost use Rattle.std.specs.Prelude.{◌≡◌, ◌≤◌, IfOk, IfSome, IsTrue, 
 
 use crate::marks::SharedMarks;
 use gate_model::{Asked, Cause};
-use id_table::LockedShelf;
+use gate_outside::Bell;
+use id_table::{LockedShelf, Shelf};
 use shared_desk::{Closed, HostPass, JoinRefusal, Place};
 use std::marker::Model;
 use std::sync::Wait;
 use uuid::Uuid;
+use wake_spot::Spots;
+
+// How many bytes may wait for the host of a session: what its viewers type and its host asks for, where it takes nothing.
+const MOST_OUTPUT: u64 = 4_194_304;
 
 /// A session in the table: its host's pass, how many of its places are out, and the marks that its jobs set when
 /// they end. Contracts see the first two. The number of places ends at 2^64 - 1.
@@ -61,11 +66,48 @@ impl Session {
         self.host.close(rt, cause)
     }
 
+    /// The spots at which those sleep who wait for news of the session.
+    pub(crate) fn spots(&self) -> &Spots {
+        self.host.spots()
+    }
+
     /// Whether the session may leave the table: its jobs have ended and no place of it is out.
     pub fn is_over(&self) -> bool
         ensures { IsTrue result → self.now.places ≡ 0 }
     {
         self.places == 0 && self.marks.have_both_ended()
+    }
+
+    /// Closes the session with Stopped, where it is open, and rings for all who wait for news of it.
+    pub fn stop<R: Wait, B: Bell>(&mut self, rt: &R, bell: &B) {
+        let _ = self.close(rt, Cause::Stopped);
+        bell.ring_all(self.spots());
+    }
+
+    /// Whether its recorder has ended before it, and this wasn't asked for since.
+    pub fn take_recorder_failed(&self) -> bool {
+        self.marks.take_recorder_failed()
+    }
+
+    // Counts a look at the session, and where `wakes` lets all look again who wait for news of it.
+    fn look<B: Bell>(&self, bell: &B, wakes: bool) {
+        self.marks.count_look(self.places == 0);
+        if wakes {
+            bell.ring_all(self.spots());
+        }
+    }
+
+    // Whether it is open, and more bytes wait for its host than may.
+    fn is_backlogged(&self) -> bool {
+        let spots = self.spots();
+        !spots.is_closed() && spots.output() > MOST_OUTPUT
+    }
+
+    // Whether nobody has been in the session at more than `most` looks in a row.
+    fn is_deserted(&self, most: u32) -> bool
+        ensures { IsTrue result → self.now.places ≡ 0 }
+    {
+        self.places == 0 && self.marks.is_deserted(most)
     }
 
     /// The number of entries that the session has.
@@ -82,4 +124,45 @@ pub fn sweep<R: Wait>(rt: &R, sessions: &LockedShelf<Session>) -> Option<(Uuid, 
     ensures { IfSome result (λ r. r.1.places ≡ 0) }
 {
     sessions.sweep(rt, |session| session.is_over())
+}
+
+/// Counts a look at each session, at which somebody is in it or not, and where `wakes` lets all look again who wait for
+/// news of one.
+pub fn look<R: Wait, B: Bell>(rt: &R, sessions: &LockedShelf<Session>, bell: &B, wakes: bool) {
+    let _ = sessions.sweep(rt, |session| {
+        session.look(bell, wakes);
+        false
+    });
+}
+
+/// Closes the session with the least ID among those that are open and for whose host more than 4,194,304 bytes wait, with
+/// LinkFault, and rings for all who wait for news of it: its ID.
+pub fn close_backlogged<R: Wait, B: Bell>(
+    rt: &R,
+    sessions: &mut LockedShelf<Session>,
+    bell: &B,
+) -> Option<Uuid> {
+    let id = sessions.least_done(rt, |session| session.is_backlogged())?;
+    let mut session = sessions.lend(rt, &id)?;
+    let _ = session.close(rt, Cause::LinkFault);
+    bell.ring_all(session.spots());
+    sessions.back(rt, &id, session);
+    Some(id)
+}
+
+/// Takes out the session with the least ID among those in which nobody has been at more than `most` looks in a row, or
+/// at one where nobody may join it.
+pub fn sweep_deserted<R: Wait>(
+    rt: &R,
+    sessions: &LockedShelf<Session>,
+    most: u32,
+) -> Option<(Uuid, Session)>
+    ensures { IfSome result (λ r. r.1.places ≡ 0) }
+{
+    sessions.sweep(rt, |session| session.is_deserted(most))
+}
+
+/// The least ID of a session whose recorder has ended before it, which is told once of each.
+pub fn find_unrecorded<R: Wait>(rt: &R, sessions: &LockedShelf<Session>) -> Option<Uuid> {
+    sessions.least_done(rt, |session| session.take_recorder_failed())
 }

@@ -5,6 +5,7 @@
 mod canvases;
 mod load;
 mod rows;
+mod sizes;
 mod workers;
 
 use anyhow::Result;
@@ -24,6 +25,8 @@ where
     println!(rt; "a pass still out: {}", rows::a_pass_still_out(rt, alloc)?)?;
     println!(rt; "a second link: {}", rows::a_second_link(alloc)?)?;
     println!(rt; "a second close: {}", rows::a_second_close(rt, alloc)?)?;
+    println!(rt; "sizes in turn: {}", sizes::in_turn(rt, alloc)?)?;
+    println!(rt; "sizes at once: {}", sizes::at_once(rt, alloc)?)?;
     println!(rt; "mixed load: {}", load::eight_threads(rt, alloc)?)?;
     Ok(())
 }

@@ -5,7 +5,7 @@ use Rattle.std.specs.Prelude.{Option, Some, None, Ok, ◌==◌, if◌then◌else
 use Rattle.std.proofs.lemmas.Bool.{ne_eqb}
 use Rattle.gate_model.specs.declared.answer.Answer.{Answer}
 use Rattle.gate_model.specs.declared.entry.Entry.{Entry}
-use Rattle.gate_model.specs.declared.entry.Entry.TheVariants.{Start, Feed, Join, Read, Write, Take, Leave, Close}
+use Rattle.gate_model.specs.declared.entry.Entry.TheVariants.{Start, Feed, Size, Join, Read, Write, Take, Leave, Close}
 use Rattle.gate_model.specs.declared.cause.Cause.{Cause}
 use Rattle.gate_model.specs.declared.event.Event.{Event}
 use Rattle.gate_model.specs.declared.event.Event.TheVariants.{Close as Closes}
@@ -24,7 +24,7 @@ use Rattle.turn_lock.specs.declared.view.View.{View}
 use Rattle.turn_lock.specs.Places.{IsAt}
 use Rattle.shared_desk.specs.Called.{Answers, Turned}
 use Rattle.shared_desk.specs.Marks.{mark_of, mark_for, reader_mark}
-use Rattle.shared_desk.specs.Members.{IsViewers}
+use Rattle.shared_desk.specs.Members.{IsViewers, KnowsViewer}
 use Rattle.shared_desk.proofs.Turns.{keeps_pass_mark, mark_added, seen_is}
 
 pub longer_than : (more g : History) → length g ≤ length (more ++ g)
@@ -62,6 +62,7 @@ module _ {X : Type 0} (f : History → X) (m : ℕ) (by : Measures f m) where
 pub bytes_measure : Measures bytes 1
 bytes_measure (Start c r m t n s f) g apart = append-nil (bytes g)
 bytes_measure (Feed b s f) g apart = absurd (apart refl)
+bytes_measure (Size w c r s f) g apart = append-nil (bytes g)
 bytes_measure (Join w role first) g apart = append-nil (bytes g)
 bytes_measure (Read w how) g apart = append-nil (bytes g)
 bytes_measure (Write w acts) g apart = append-nil (bytes g)
@@ -72,6 +73,7 @@ bytes_measure (Close c) g apart = append-nil (bytes g)
 pub taken_measure : Measures taken 2
 taken_measure (Start c r m t n s f) g apart = omega arith
 taken_measure (Feed b s f) g apart = omega arith
+taken_measure (Size w c r s f) g apart = omega arith
 taken_measure (Join w role first) g apart = omega arith
 taken_measure (Read w how) g apart = omega arith
 taken_measure (Write w acts) g apart = omega arith
@@ -108,6 +110,7 @@ joined_grows (e ∷ more) g = omega (arith, joined_grows more g, joined_more (is
 gives_none : (g : History) (before : List Instr) (v : ℕ) (e : Entry) → (mark_of e ≡ Some (reader_mark v) → ⊥) → ((w : ℕ) (role : Role) (first : List Instr) → e ≡ Join w role first → (w == v) ≡ false) → given g before v e ≡ []
 gives_none g before v (Start c r m t n s f) apart new = refl
 gives_none g before v (Feed b s f) apart new = refl
+gives_none g before v (Size w c r s f) apart new = refl
 gives_none g before v (Join w role first) apart new = ap (λ (b : Bool). (if b then first else []) ++ []) (new w role first refl)
 gives_none g before v (Read w how) apart new = let no : (w == v) ≡ false = not_same w v (λ is. apart (ap (λ (n : ℕ). Some (reader_mark n)) is)) in
     ap (λ (b : Bool). (if b then handed g (last_sync before) how else []) ++ (if b then closing g else [])) no
@@ -162,11 +165,11 @@ begun_turn v w did t some =
     let d : length w.seen ≡ length (t.added ++ t.before) = ap length (seen_is v w did t) in
     omega (arith, a, b, c, d, some)
 
+pub keeps_knowing : (viewer : ℕ) (v w : View Entry) (did : History → List Entry → Type 0) → Turned v w did → KnowsViewer viewer v → KnowsViewer viewer w
+keeps_knowing viewer v w did t k = record { first = k.first; joined = omega (arith, joined_turn v w did t, k.joined); begun = begun_turn v w did t k.begun }
+
 pub keeps_viewers : (m viewer : ℕ) (v w : View Entry) (did : History → List Entry → Type 0) → Turned v w did → IsViewers m viewer v → IsViewers m viewer w
-keeps_viewers m viewer v w did t h = record {
-  mark = keeps_pass_mark m v w did t h.mark;
-  knows = record { joined = omega (arith, joined_turn v w did t, h.knows.joined); begun = begun_turn v w did t h.knows.begun };
-}
+keeps_viewers m viewer v w did t h = record { mark = keeps_pass_mark m v w did t h.mark; knows = keeps_knowing viewer v w did t h.knows }
 
 -- ---- a call whose entry has no mark leaves what only entries of one mark change
 

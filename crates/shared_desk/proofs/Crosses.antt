@@ -93,10 +93,10 @@ option_send V s = search (sendable, crosses, variants_send, s) depth 20
 
 -- a lock over whatever may go to another thread
 lock_sync : (V E : RattleType) (K : Ghosts V.Denot E.Denot) → IsSend V → IsSync (lock.the_row V E K)
-lock_sync V E K s = declared_sync (lock.the_type V E K) (table_sync (option.the_row V) (view.the_row E) (list.the_row E) (lock_rule.the_row V) Heap.the_row (ghosts V E K (given 0)) _ (option_send V s) send sync frees, (search (sendable, crosses) depth 20, tt))
+lock_sync V E K s = declared_sync (lock.the_type V E K) (table_sync (option.the_row V) (view.the_row E) (list.the_row E) (lock_rule.the_row V) Heap.the_row (ghosts V E K (given 0)) _ (option_send V s) send sync frees, (search (sendable, crosses) depth 20, (search (sendable, crosses) depth 20, tt)))
 
 lock_send : (V E : RattleType) (K : Ghosts V.Denot E.Denot) → IsSend V → IsSend (lock.the_row V E K)
-lock_send V E K s = declared_send (lock.the_type V E K) (table_send (option.the_row V) (view.the_row E) (list.the_row E) (lock_rule.the_row V) Heap.the_row (ghosts V E K (given 0)) _ (option_send V s) send frees, (search (sendable, crosses) depth 20, tt))
+lock_send V E K s = declared_send (lock.the_type V E K) (table_send (option.the_row V) (view.the_row E) (list.the_row E) (lock_rule.the_row V) Heap.the_row (ghosts V E K (given 0)) _ (option_send V s) send frees, (search (sendable, crosses) depth 20, (search (sendable, crosses) depth 20, tt)))
 
 pass_send : (V E : RattleType) → IsSend V → IsSend (pass.the_row V E)
 pass_send V E s = declared_send (pass.the_type V E) (seat.the_send (option.the_row V) (view.the_row E) (option_send V s), tt)

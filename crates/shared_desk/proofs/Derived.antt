@@ -7,30 +7,32 @@ use Rattle.std.proofs.lemmas.Bool.{ne_eqb, eq-eqb}
 use Rattle.std.proofs.lemmas.Bool.Decides.{eqb_tells}
 use Rattle.gate_model.specs.declared.act.Act.{Act}
 use Rattle.gate_model.specs.declared.answer.Answer.{Answer}
-use Rattle.gate_model.specs.declared.answer.Answer.TheVariants.{Feed as fed, Write as was_written, Take as was_taken, Leave as was_left}
+use Rattle.gate_model.specs.declared.answer.Answer.TheVariants.{Feed as fed, Write as was_written, Resize as was_resized, Take as was_taken, Leave as was_left}
 use Rattle.gate_model.specs.declared.cause.Cause.{Cause}
 use Rattle.gate_model.specs.declared.entry.Entry.{Entry}
-use Rattle.gate_model.specs.declared.entry.Entry.TheVariants.{Feed, Write, Take, Leave}
+use Rattle.gate_model.specs.declared.entry.Entry.TheVariants.{Feed, Size, Write, Take, Leave}
 use Rattle.gate_model.specs.declared.event.Event.{Event}
-use Rattle.gate_model.specs.declared.event.Event.TheVariants.{Feed as feed, Read as read, Write as write, Take as take_most, Leave as leave}
+use Rattle.gate_model.specs.declared.event.Event.TheVariants.{Feed as feed, Read as read, Write as write, Resize as resize, Take as take_most, Leave as leave}
 use Rattle.gate_model.specs.declared.feed_refusal.FeedRefusal.{FeedRefusal}
 use Rattle.gate_model.specs.declared.feed_refusal.FeedRefusal.TheVariants.{Closed as feed_closed, Worn as feed_worn, NoMemory as feed_no_memory}
 use Rattle.gate_model.specs.declared.instr.Instr.{Instr}
 use Rattle.gate_model.specs.declared.memory.NoMemory.{NoMemory}
 use Rattle.gate_model.specs.declared.no_viewer.NoViewer.{NoViewer}
+use Rattle.gate_model.specs.declared.resize_refusal.ResizeRefusal.{ResizeRefusal}
+use Rattle.gate_model.specs.declared.resize_refusal.ResizeRefusal.TheVariants as resize_stop
 use Rattle.gate_model.specs.declared.taken.Taken.{Taken}
 use Rattle.gate_model.specs.declared.write_refusal.WriteRefusal.{WriteRefusal}
 use Rattle.gate_model.specs.declared.write_refusal.WriteRefusal.TheVariants.{NoViewer as write_no_viewer, Closed as write_closed, Worn as write_worn, NoMemory as write_no_memory}
 use Rattle.gate_model.specs.declared.written.Written.{Written}
-use Rattle.gate_model.specs.session.Calls.{Step, take_entry}
+use Rattle.gate_model.specs.session.Calls.{Adds, Step, take_entry}
 use Rattle.gate_model.specs.session.Delivered.{delivered, given}
 use Rattle.gate_model.specs.session.Entries as entries
-use Rattle.gate_model.specs.session.History.{History, bytes}
+use Rattle.gate_model.specs.session.History.{History, bytes, newest}
 use Rattle.gate_model.specs.session.Output.{out, taken, untaken}
-use Rattle.gate_model.specs.session.Refusals.{feed_refusal, write_refusal, leave_refusal}
+use Rattle.gate_model.specs.session.Refusals.{feed_refusal, write_refusal, resize_refusal, leave_refusal}
 use Rattle.gate_model.specs.session.Runs.{handed_out}
 use Rattle.gate_model.specs.text.Text.{texts}
-use Rattle.desk_core.specs.Calls.{feed_answer, write_answer}
+use Rattle.desk_core.specs.Calls.{feed_answer, resize_answer, write_answer}
 use Rattle.desk_core.proofs.Adding.{TakeTold, take_told}
 use Rattle.turn_lock.specs.declared.view.View.{View}
 use Rattle.turn_lock.specs.Places.{ArePlaces}
@@ -38,7 +40,7 @@ use Rattle.turn_lock.proofs.Elements.{contains_head, contains_tail}
 use Rattle.shared_desk.specs.Called.{after_turn, Answers, Turned, take_answer}
 use Rattle.shared_desk.specs.Marks.{reader_mark}
 use Rattle.shared_desk.specs.Members.{IsViewers}
-use Rattle.shared_desk.specs.Own.{is_place, entries_at, own_entries}
+use Rattle.shared_desk.specs.Own.{AreSized, is_place, entries_at, own_entries}
 use Rattle.shared_desk.proofs.Turns.{seen_is}
 use Rattle.shared_desk.proofs.Alone.{bytes_measure, taken_measure, found, found_viewer, unmarked, longer_than}
 
@@ -135,7 +137,7 @@ past_places ps (e ∷ more) g below =
     rw no (past_places ps more g below)
 
 -- a place past a history names no entry of it
-past_history : (n : ℕ) (ps : List ℕ) (g : History) → length g ≤ n → entries_at (n ∷ ps) g ≡ entries_at ps g
+pub past_history : (n : ℕ) (ps : List ℕ) (g : History) → length g ≤ n → entries_at (n ∷ ps) g ≡ entries_at ps g
 past_history n ps [] le = refl
 past_history n ps (e ∷ g) le =
     let no : (n == length g) ≡ false = ne_eqb n (length g) (λ is. omega (arith, le, is)) in
@@ -183,6 +185,35 @@ writes v w viewer acts (Err write_no_viewer) t = wrote_turn v w viewer acts (Err
 writes v w viewer acts (Err (write_closed c)) t = wrote_turn v w viewer acts (Err (write_closed c)) t
 writes v w viewer acts (Err (write_worn n)) t = wrote_turn v w viewer acts (Err (write_worn n)) t
 writes v w viewer acts (Err write_no_memory) t = own_turn v w _ t (subst AreFew (sym t.did_it.1) tt) ∙ ap (λ (es : List Entry). es ++ own_entries v) t.did_it.1
+
+-- .. and of its sizes
+sized_added : (g : History) (viewer cols rows : ℕ) (r : Result ℕ ResizeRefusal) (added : List Entry) → Step g (resize viewer cols rows) (was_resized r) added → AreSized viewer cols rows r added
+sized_added g viewer cols rows (Ok stamp) [] s = absurd (not_ok (λ (e : ResizeRefusal). was_resized (Err e)) (λ (t : ℕ). was_resized (Ok t)) (resize_refusal g viewer cols rows) stamp (λ e t is. cc) s.1)
+sized_added g viewer cols rows (Ok stamp) (e ∷ []) s = sized_as g viewer cols rows stamp e s.1.1
+  where
+    sized_as : (g : History) (viewer cols rows stamp : ℕ) (e : Entry) → Adds g (resize viewer cols rows) (was_resized (Ok stamp)) e → AreSized viewer cols rows (Ok stamp) (e ∷ [])
+    sized_as g viewer cols rows stamp e a =
+        let same : newest g + 1 ≡ stamp = (let z = a.3 in cc) in
+        (a.0, ap (λ (x : Entry). x ∷ []) (a.4 ∙ ap (λ (t : ℕ). Size viewer cols rows t a.0) same))
+sized_added g viewer cols rows (Err r) [] s = refl
+sized_added g viewer cols rows (Err r) (e ∷ []) s = absurd (let w = s.1.1.3 in cc)
+sized_added g viewer cols rows r (e ∷ x ∷ es) s = absurd s.1
+
+-- a change of size adds to a pass's own entries what it adds
+abbrev pub SizesOwn : View Entry → View Entry → ℕ → ℕ → ℕ → Result ℕ ResizeRefusal → Type 0
+SizesOwn v w viewer cols rows r = (sized : List Entry) × AreSized viewer cols rows r sized × (own_entries w ≡ sized ++ own_entries v)
+
+sized_turn : (v w : View Entry) (viewer cols rows : ℕ) (r : Result ℕ ResizeRefusal) → Turned v w (Answers (resize viewer cols rows) (Ok (was_resized r)) [] []) → SizesOwn v w viewer cols rows r
+sized_turn v w viewer cols rows r t = (t.added, sized_added t.before viewer cols rows r t.added t.did_it.0, own_turn v w _ t (step_few t.before (resize viewer cols rows) (was_resized r) t.added t.did_it.0))
+
+pub sizes : (v w : View Entry) (viewer cols rows : ℕ) (r : Result ℕ ResizeRefusal) → Turned v w (Answers (resize viewer cols rows) (resize_answer r) [] []) → SizesOwn v w viewer cols rows r
+sizes v w viewer cols rows (Ok stamp) t = sized_turn v w viewer cols rows (Ok stamp) t
+sizes v w viewer cols rows (Err resize_stop.NoViewer) t = sized_turn v w viewer cols rows (Err resize_stop.NoViewer) t
+sizes v w viewer cols rows (Err (resize_stop.Closed c)) t = sized_turn v w viewer cols rows (Err (resize_stop.Closed c)) t
+sizes v w viewer cols rows (Err resize_stop.Denied) t = sized_turn v w viewer cols rows (Err resize_stop.Denied) t
+sizes v w viewer cols rows (Err resize_stop.Same) t = sized_turn v w viewer cols rows (Err resize_stop.Same) t
+sizes v w viewer cols rows (Err (resize_stop.Worn n)) t = sized_turn v w viewer cols rows (Err (resize_stop.Worn n)) t
+sizes v w viewer cols rows (Err resize_stop.NoMemory) t = (t.added, t.did_it.1, own_turn v w _ t (subst AreFew (sym t.did_it.1) tt))
 
 left_added : (g : History) (viewer : ℕ) (r : Result (Unit {0}) NoViewer) (added : List Entry) → Step g (leave viewer) (was_left r) added → added ≡ (if is_ok r then Leave viewer ∷ [] else [])
 left_added g viewer (Ok u) [] s = absurd (not_ok (λ (e : NoViewer). was_left (Err e)) (λ (x : Unit {0}). was_left (Ok x)) (leave_refusal g viewer) u (λ e x is. cc) s.1)

@@ -31,8 +31,8 @@ use Rattle.shared_desk.specs.Called.{Gives, Turned}
 use Rattle.shared_desk.specs.HostParts.{host_state, AreSpare, KeepsHost}
 use Rattle.shared_desk.specs.Hosts.{HasJoined, HostState, IsFresh, IsHost, IsPlaceOf, JoinEnds, unlinked, with_place}
 use Rattle.shared_desk.specs.Marks.{reader_mark, writer_mark}
-use Rattle.shared_desk.specs.Members.{PassState}
-use Rattle.shared_desk.proofs.Turns.{at_old, keeps_mark, keeps_given, seen_is}
+use Rattle.shared_desk.specs.Members.{IsSound, PassState}
+use Rattle.shared_desk.proofs.Turns.{at_old, keeps_mark, keeps_given, seen_is, sound_after}
 use Rattle.shared_desk.proofs.Alone.{joined_grows, joined_turn, begun_turn, longer_than}
 
 -- ---- what each call keeps
@@ -185,8 +185,8 @@ join_leaves v w asked j b0 b1 t =
 
 -- a host that has seen the Join last gives a place that is fresh
 pub fresh_of : (h : HostState) (viewer : ℕ) (role : Role) (place : Place) (first : List Instr) (before : History) (text : List ℕ) → IsPlaceOf h viewer role place → h.view.seen ≡ Joins viewer role first ∷ before
-    → text ≡ texts (delivered h.view.seen viewer) → IsFresh place text
-fresh_of h viewer role place first before text p seen is =
+    → IsSound h.view.seen → text ≡ texts (delivered h.view.seen viewer) → IsFresh place text
+fresh_of h viewer role place first before text p seen sound is =
     let named : Joins viewer role first ∷ before ≡ Joins place.reader.viewer place.role first ∷ before = ap (λ (x : ℕ). Joins x role first ∷ before) (sym p.viewers.0) ∙ ap (λ (r : Role). Joins place.reader.viewer r first ∷ before) (sym p.role) in
     let read : place.reader.view.seen ≡ h.view.seen = ap (λ (v : View Entry). v.seen) p.reader in
     record {
@@ -196,6 +196,7 @@ fresh_of h viewer role place first before text p seen is =
       first = first;
       reader = read ∙ (seen ∙ named);
       writer = ap (λ (v : View Entry). v.seen) p.writer.2 ∙ (p.writer.1 ∙ (seen ∙ named));
+      sound = subst IsSound (sym read) sound;
       none = (ap (λ (v : View Entry). v.mine) p.reader, ap (λ (v : View Entry). v.mine) p.writer.2);
       text = is ∙ (ap (λ (g : History). texts (delivered g viewer)) (sym read) ∙ ap (λ (x : ℕ). texts (delivered place.reader.view.seen x)) (sym p.viewers.0));
     }
@@ -233,5 +234,5 @@ has_joined v0 v now asked j old new place b0 b1 is t same p view =
       role = p.role;
       text = texts (delivered now.seen j.viewer);
       appended = l.gained;
-      fresh = fresh_of old j.viewer j.role place l.first l.before (texts (delivered now.seen j.viewer)) p (ap (λ (u : View Entry). u.seen) same ∙ l.seen) (ap (λ (u : View Entry). texts (delivered u.seen j.viewer)) (sym same));
+      fresh = fresh_of old j.viewer j.role place l.first l.before (texts (delivered now.seen j.viewer)) p (ap (λ (u : View Entry). u.seen) same ∙ l.seen) (subst (λ (u : View Entry). IsSound u.seen) (sym same) (sound_after _ _ _ t)) (ap (λ (u : View Entry). texts (delivered u.seen j.viewer)) (sym same));
     }

@@ -8,13 +8,13 @@ use Rattle.std.proofs.lemmas.Bool.Decides.{eqb_tells}
 use Rattle.std.proofs.lemmas.List.Elements.{Contains-append_right}
 use Rattle.gate_model.specs.declared.act.Act.{Act}
 use Rattle.gate_model.specs.declared.answer.Answer.{Answer}
-use Rattle.gate_model.specs.declared.answer.Answer.TheVariants.{Feed as fed, Read as was_read, Write as was_written, Take as was_taken, Leave as was_left, Close as was_closed}
+use Rattle.gate_model.specs.declared.answer.Answer.TheVariants.{Feed as fed, Read as was_read, Write as was_written, Resize as was_resized, Take as was_taken, Leave as was_left, Close as was_closed}
 use Rattle.gate_model.specs.declared.cause.Cause.{Cause}
 use Rattle.gate_model.specs.declared.closed.Closed.{Closed}
 use Rattle.gate_model.specs.declared.entry.Entry.{Entry}
-use Rattle.gate_model.specs.declared.entry.Entry.TheVariants.{Start, Feed, Join, Read, Write, Take, Leave, Close}
+use Rattle.gate_model.specs.declared.entry.Entry.TheVariants.{Start, Feed, Size, Join, Read, Write, Take, Leave, Close}
 use Rattle.gate_model.specs.declared.event.Event.{Event}
-use Rattle.gate_model.specs.declared.event.Event.TheVariants.{Feed as feed, Read as read, Write as write, Take as take_most, Leave as leave, Close as close}
+use Rattle.gate_model.specs.declared.event.Event.TheVariants.{Feed as feed, Read as read, Write as write, Resize as resize, Take as take_most, Leave as leave, Close as close}
 use Rattle.gate_model.specs.declared.feed_refusal.FeedRefusal.{FeedRefusal}
 use Rattle.gate_model.specs.declared.feed_refusal.FeedRefusal.TheVariants.{Closed as feed_closed, Worn as feed_worn, NoMemory as feed_no_memory}
 use Rattle.gate_model.specs.declared.how.How.{How}
@@ -26,13 +26,15 @@ use Rattle.gate_model.specs.declared.read_answer.ReadAnswer.{ReadAnswer}
 use Rattle.gate_model.specs.declared.read_answer.ReadAnswer.TheVariants.{Frames, Fresh, Ended, Empty, Hold}
 use Rattle.gate_model.specs.declared.read_refusal.ReadRefusal.{ReadRefusal}
 use Rattle.gate_model.specs.declared.read_refusal.ReadRefusal.TheVariants.{NoViewer as read_no_viewer, Worn as read_worn, NoMemory as read_no_memory}
+use Rattle.gate_model.specs.declared.resize_refusal.ResizeRefusal.{ResizeRefusal}
+use Rattle.gate_model.specs.declared.resize_refusal.ResizeRefusal.TheVariants as resize_stop
 use Rattle.gate_model.specs.declared.taken.Taken.{Taken}
 use Rattle.gate_model.specs.declared.write_refusal.WriteRefusal.{WriteRefusal}
 use Rattle.gate_model.specs.declared.write_refusal.WriteRefusal.TheVariants.{NoViewer as write_no_viewer, Closed as write_closed, Worn as write_worn, NoMemory as write_no_memory}
 use Rattle.gate_model.specs.session.Calls.{Step, lacked, take_entry, updated_as}
 use Rattle.gate_model.specs.session.History.{History, capacity, is_closed, is_full, joined, newest}
-use Rattle.gate_model.specs.session.Refusals.{first_of, only_if, close_cause, feed_refusal, read_stop, write_refusal, leave_refusal, close_refusal}
-use Rattle.gate_model.specs.session.Rights.{is_live}
+use Rattle.gate_model.specs.session.Refusals.{first_of, only_if, close_cause, has_size, feed_refusal, read_stop, write_refusal, resize_refusal, leave_refusal, close_refusal}
+use Rattle.gate_model.specs.session.Rights.{is_control, is_live, role_in}
 use Rattle.gate_model.specs.session.Waiting.{waiting}
 use Rattle.gate_model.specs.Limits.{most_waiting}
 use Rattle.gate_model.specs.session.Delivered.{closed_by, closing, ended, farewell_to, is_some_list, position}
@@ -40,14 +42,15 @@ use Rattle.gate_model.specs.session.Steps.{Legal}
 use Rattle.gate_model.specs.Sequences.{IsLater}
 use Rattle.gate_model.proofs.Added.{IsNext, next}
 use Rattle.gate_model.proofs.Causes.{closed_with_cause}
-use Rattle.desk_core.specs.Calls.{feed_answer, read_answer, write_answer}
+use Rattle.desk_core.specs.Calls.{feed_answer, read_answer, resize_answer, write_answer}
 use Rattle.desk_core.proofs.Adding.{TakeTold, take_told}
 use Rattle.turn_lock.specs.declared.view.View.{View}
 use Rattle.turn_lock.proofs.Elements.{contains_head, contains_tail}
 use Rattle.shared_desk.specs.Called.{Answers, Turned, take_answer}
+use Rattle.shared_desk.specs.Members.{IsSound, KnowsViewer}
 use Rattle.shared_desk.specs.Own.{own_entries}
-use Rattle.shared_desk.proofs.Turns.{seen_is, legal_after}
-use Rattle.shared_desk.proofs.Alone.{longer_than}
+use Rattle.shared_desk.proofs.Turns.{seen_is, sound_after}
+use Rattle.shared_desk.proofs.Alone.{keeps_knowing, longer_than}
 use Rattle.shared_desk.proofs.Derived.{AreFew, not_ok, own_turn, step_few}
 
 -- ---- what stays once it was seen
@@ -55,8 +58,14 @@ use Rattle.shared_desk.proofs.Derived.{AreFew, not_ok, own_turn, step_few}
 pub turn_later : (v w : View Entry) (did : History → List Entry → Type 0) → Turned v w did → IsLater v.seen w.seen
 turn_later v w did t = (t.added ++ t.later.0, seen_is v w did t ∙ (ap (λ (h : History). t.added ++ h) t.later.1 ∙ sym (append_assoc t.added t.later.0 v.seen)))
 
+pub turn_sound : (v w : View Entry) (did : History → List Entry → Type 0) → Turned v w did → IsSound w.seen
+turn_sound v w did t = sound_after v w did t
+
 pub turn_legal : (v w : View Entry) (did : History → List Entry → Type 0) → Turned v w did → Legal w.seen
-turn_legal v w did t = legal_after v w did t
+turn_legal v w did t = (turn_sound v w did t).legal
+
+pub turn_knows : (viewer : ℕ) (v w : View Entry) (did : History → List Entry → Type 0) → Turned v w did → KnowsViewer viewer v → KnowsViewer viewer w
+turn_knows viewer v w did t k = keeps_knowing viewer v w did t k
 
 pub later_contains : (g h : History) (e : Entry) → IsLater g h → Contains g e → Contains h e
 later_contains g h e l c = subst (λ (x : History). Contains x e) (sym l.1) (Contains-append_right l.0 g e c)
@@ -69,6 +78,7 @@ some_seen (e ∷ g) l = omega arith
 capacity_next : (e f : Entry) (g : History) → Legal (e ∷ f ∷ g) → capacity (e ∷ f ∷ g) ≡ capacity (f ∷ g)
 capacity_next (Start c r m t n s x) f g l = absurd (next (Start c r m t n s x) f g l)
 capacity_next (Feed b s x) f g l = refl
+capacity_next (Size v c r s x) f g l = refl
 capacity_next (Join v r x) f g l = refl
 capacity_next (Read v how) f g l = refl
 capacity_next (Write v acts) f g l = refl
@@ -96,6 +106,7 @@ pub closes_seen : (g : History) (c : Cause) → close_cause g ≡ Some c → Con
 closes_seen [] c e = absurd (let w : None ≡ Some c = e in cc)
 closes_seen (Start a b m t n s f ∷ g) c e = contains_tail (Start a b m t n s f) (Close c) g (closes_seen g c e)
 closes_seen (Feed b s f ∷ g) c e = contains_tail (Feed b s f) (Close c) g (closes_seen g c e)
+closes_seen (Size v cols rows s f ∷ g) c e = contains_tail (Size v cols rows s f) (Close c) g (closes_seen g c e)
 closes_seen (Join v r f ∷ g) c e = contains_tail (Join v r f) (Close c) g (closes_seen g c e)
 closes_seen (Read v how ∷ g) c e = contains_tail (Read v how) (Close c) g (closes_seen g c e)
 closes_seen (Write v acts ∷ g) c e = contains_tail (Write v acts) (Close c) g (closes_seen g c e)
@@ -289,6 +300,84 @@ write_refused v w viewer acts (write_closed c) t = let k = write_turned v w view
 write_refused v w viewer acts (write_worn n) t = let k = write_turned v w viewer acts (write_worn n) t in (k.0, k.1.worn n refl)
 write_refused v w viewer acts write_no_memory t = ((stays_own v w _ t t.did_it.1).0, tt)
 
+-- why a change of size was refused
+abbrev pub ResizeCause : ResizeRefusal → ℕ → ℕ → ℕ → History → Type 0
+ResizeCause resize_stop.NoMemory viewer cols rows g = Unit {0}
+ResizeCause r viewer cols rows g = resize_refusal g viewer cols rows ≡ Some r
+
+resize_inj : (x y : ResizeRefusal) → was_resized (Err x) ≡ was_resized (Err y) → x ≡ y
+resize_inj x y e = cc
+
+resize_none : (g : History) (viewer cols rows : ℕ) (r : ResizeRefusal) (e : Entry) → Step g (resize viewer cols rows) (was_resized (Err r)) (e ∷ []) → ⊥
+resize_none g viewer cols rows r e s = let w = s.1.1.3 in cc
+
+resize_turned : (v w : View Entry) (viewer cols rows : ℕ) (r : ResizeRefusal) → Turned v w (Answers (resize viewer cols rows) (Ok (was_resized (Err r))) [] []) → (own_entries w ≡ own_entries v) × (resize_refusal w.seen viewer cols rows ≡ Some r)
+resize_turned v w viewer cols rows r t =
+    let none : t.added ≡ [] = none_added (λ (x : ResizeRefusal). was_resized (Err x)) t.before (resize viewer cols rows) r t.added (λ e s. resize_none t.before viewer cols rows r e s) t.did_it.0 in
+    let k = stays_own v w _ t none in
+    let stop : resize_refusal t.before viewer cols rows ≡ Some r = unmapped (λ (x : ResizeRefusal). was_resized (Err x)) resize_inj (resize_refusal t.before viewer cols rows) r (subst (λ (es : List Entry). Step t.before (resize viewer cols rows) (was_resized (Err r)) es) none t.did_it.0).1 in
+    (k.0, ap (λ (h : History). resize_refusal h viewer cols rows) (sym k.1) ∙ stop)
+
+pub resize_refused : (v w : View Entry) (viewer cols rows : ℕ) (r : ResizeRefusal) → Turned v w (Answers (resize viewer cols rows) (resize_answer (Err r)) [] []) → (own_entries w ≡ own_entries v) × ResizeCause r viewer cols rows w.seen
+resize_refused v w viewer cols rows resize_stop.NoViewer t = resize_turned v w viewer cols rows resize_stop.NoViewer t
+resize_refused v w viewer cols rows (resize_stop.Closed c) t = resize_turned v w viewer cols rows (resize_stop.Closed c) t
+resize_refused v w viewer cols rows resize_stop.Denied t = resize_turned v w viewer cols rows resize_stop.Denied t
+resize_refused v w viewer cols rows resize_stop.Same t = resize_turned v w viewer cols rows resize_stop.Same t
+resize_refused v w viewer cols rows (resize_stop.Worn n) t = resize_turned v w viewer cols rows (resize_stop.Worn n) t
+resize_refused v w viewer cols rows resize_stop.NoMemory t = ((stays_own v w _ t t.did_it.1).0, tt)
+
+-- .. in words of the history: its viewer isn't there, it is closed, or it is full
+record ResizeWhy (away full : Bool) (o : Option Cause) (r : ResizeRefusal) : Type 0 where
+  gone : r ≡ resize_stop.NoViewer → away ≡ true
+  closed : (c : Cause) → r ≡ resize_stop.Closed c → o ≡ Some c
+  worn : (m : ℕ) → r ≡ resize_stop.Worn m → full ≡ true
+
+resize_why : (away : Bool) (o : Option Cause) (denied same full : Bool) (n : ℕ) (r : ResizeRefusal)
+    → first_of (only_if away resize_stop.NoViewer ∷ option_map resize_stop.Closed o ∷ only_if denied resize_stop.Denied ∷ only_if same resize_stop.Same ∷ only_if full (resize_stop.Worn n) ∷ []) ≡ Some r → ResizeWhy away full o r
+resize_why true o denied same full n r e =
+    let w : resize_stop.NoViewer ≡ r = (let z : Some resize_stop.NoViewer ≡ Some r = e in cc) in record {
+      gone = λ is. refl;
+      closed = λ c is. absurd (let z : resize_stop.NoViewer ≡ resize_stop.Closed c = w ∙ is in cc);
+      worn = λ m is. absurd (let z : resize_stop.NoViewer ≡ resize_stop.Worn m = w ∙ is in cc);
+    }
+resize_why false (Some x) denied same full n r e =
+    let w : resize_stop.Closed x ≡ r = (let z : Some (resize_stop.Closed x) ≡ Some r = e in cc) in record {
+      gone = λ is. absurd (let z : resize_stop.Closed x ≡ resize_stop.NoViewer = w ∙ is in cc);
+      closed = λ c is. ap Some (let z : resize_stop.Closed x ≡ resize_stop.Closed c = w ∙ is in cc);
+      worn = λ m is. absurd (let z : resize_stop.Closed x ≡ resize_stop.Worn m = w ∙ is in cc);
+    }
+resize_why false None true same full n r e =
+    let w : resize_stop.Denied ≡ r = (let z : Some resize_stop.Denied ≡ Some r = e in cc) in record {
+      gone = λ is. absurd (let z : resize_stop.Denied ≡ resize_stop.NoViewer = w ∙ is in cc);
+      closed = λ c is. absurd (let z : resize_stop.Denied ≡ resize_stop.Closed c = w ∙ is in cc);
+      worn = λ m is. absurd (let z : resize_stop.Denied ≡ resize_stop.Worn m = w ∙ is in cc);
+    }
+resize_why false None false true full n r e =
+    let w : resize_stop.Same ≡ r = (let z : Some resize_stop.Same ≡ Some r = e in cc) in record {
+      gone = λ is. absurd (let z : resize_stop.Same ≡ resize_stop.NoViewer = w ∙ is in cc);
+      closed = λ c is. absurd (let z : resize_stop.Same ≡ resize_stop.Closed c = w ∙ is in cc);
+      worn = λ m is. absurd (let z : resize_stop.Same ≡ resize_stop.Worn m = w ∙ is in cc);
+    }
+resize_why false None false false true n r e =
+    let w : resize_stop.Worn n ≡ r = (let z : Some (resize_stop.Worn n) ≡ Some r = e in cc) in record {
+      gone = λ is. absurd (let z : resize_stop.Worn n ≡ resize_stop.NoViewer = w ∙ is in cc);
+      closed = λ c is. absurd (let z : resize_stop.Worn n ≡ resize_stop.Closed c = w ∙ is in cc);
+      worn = λ m is. refl;
+    }
+resize_why false None false false false n r e = absurd (let z : None ≡ Some r = e in cc)
+
+why_refused : (g : History) (viewer cols rows : ℕ) (r : ResizeRefusal) → resize_refusal g viewer cols rows ≡ Some r → ResizeWhy (not (is_live g viewer)) (is_full g) (close_cause g) r
+why_refused g viewer cols rows r e = resize_why (not (is_live g viewer)) (close_cause g) (not (is_control (role_in g viewer))) (has_size g cols rows) (is_full g) (length g) r e
+
+pub resize_gone : (g : History) (viewer cols rows : ℕ) → resize_refusal g viewer cols rows ≡ Some resize_stop.NoViewer → is_live g viewer ≡ false
+resize_gone g viewer cols rows e = not_true (is_live g viewer) ((why_refused g viewer cols rows resize_stop.NoViewer e).gone refl)
+
+pub resize_closed : (g : History) (viewer cols rows : ℕ) (c : Cause) → resize_refusal g viewer cols rows ≡ Some (resize_stop.Closed c) → close_cause g ≡ Some c
+resize_closed g viewer cols rows c e = (why_refused g viewer cols rows (resize_stop.Closed c) e).closed c refl
+
+pub resize_worn : (g : History) (viewer cols rows n : ℕ) → resize_refusal g viewer cols rows ≡ Some (resize_stop.Worn n) → is_full g ≡ true
+resize_worn g viewer cols rows n e = (why_refused g viewer cols rows (resize_stop.Worn n) e).worn n refl
+
 -- ---- a viewer that has left
 
 leave_inj : (x y : NoViewer) → was_left (Err x) ≡ was_left (Err y) → x ≡ y
@@ -328,6 +417,7 @@ module _ (v : ℕ) (some : 1 ≤ v) where
   left_next : (e : Entry) (h : History) → IsNext h e → (v ≤ joined h → is_live h v ≡ false → Contains h (Leave v)) → v ≤ joined (e ∷ h) → is_live (e ∷ h) v ≡ false → Contains (e ∷ h) (Leave v)
   left_next (Start c r m t n s f) h is ih few gone = absurd is
   left_next (Feed b s f) h is ih few gone = contains_tail (Feed b s f) (Leave v) h (ih few (and_false (is_live h v) gone))
+  left_next (Size w c r s f) h is ih few gone = contains_tail (Size w c r s f) (Leave v) h (ih few (and_false (is_live h v) gone))
   left_next (Join w role first) h is ih few gone =
       let parts = or_false (w == v) (is_live h v && true) gone in
       let apart : w ≡ v → ⊥ = λ same. let z : true ≡ false = sym (eq-eqb w v same) ∙ parts.0 in cc in
@@ -393,6 +483,7 @@ closing_some : (g : History) → is_closed g ≡ true → is_some_list (closing 
 closing_some [] e = absurd (let w : false ≡ true = e in cc)
 closing_some (Start c r m t n s f ∷ g) e = closing_some g e
 closing_some (Feed b s f ∷ g) e = closing_some g e
+closing_some (Size w c r s f ∷ g) e = closing_some g e
 closing_some (Join w role first ∷ g) e = closing_some g e
 closing_some (Read w how ∷ g) e = closing_some g e
 closing_some (Write w acts ∷ g) e = closing_some g e

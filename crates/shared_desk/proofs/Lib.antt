@@ -4,7 +4,7 @@
 mod Passes
 mod Turns
 mod Alone
-mod Derived
+pub mod Derived
 mod Hosts
 mod Openings
 pub mod Sends

@@ -11,15 +11,18 @@ use Rattle.gate_model.specs.declared.entry.Entry.{Entry}
 use Rattle.gate_model.specs.declared.entry.Entry.TheVariants.{Join}
 use Rattle.gate_model.specs.declared.instr.Instr.{Instr}
 use Rattle.gate_model.specs.declared.sharing.Role.{Role}
+use Rattle.desk_core.specs.Desk.{DeskState, Stands}
+use Rattle.desk_core.specs.Laws.{DesksAreWhole}
 use Rattle.turn_lock.specs.declared.view.View.{View}
 use Rattle.turn_lock.specs.Places.{IsAt, IsUnmarked}
-use Rattle.turn_lock.specs.Views.{beginning}
+use Rattle.turn_lock.specs.Views.{beginning, HasPlaces}
 use Rattle.turn_lock.proofs.Elements.{contains_none}
 use Rattle.shared_desk.specs.declared.place.Place.{Place}
 use Rattle.shared_desk.specs.HostParts.{KeepsHost}
 use Rattle.shared_desk.specs.Hosts.{HasBegun, HasOwner, HostState, IsOpening, IsPlaceOf, with_place}
 use Rattle.shared_desk.specs.Marks.{mark_of}
-use Rattle.shared_desk.specs.Members.{PassState}
+use Rattle.shared_desk.specs.Members.{IsPass, IsSound, PassState}
+use Rattle.shared_desk.proofs.Turns.{sound_of}
 use Rattle.shared_desk.proofs.Hosts.{fresh_of}
 
 none_is : {A : Type 0} (m : A) (P : Type 0) → None ≡ Some m → P
@@ -43,6 +46,10 @@ at_opening role first e p m x l (inr at) is = at_start e p m x l.0 at is
 pub opens_unmarked : (h : History) → Legal h → IsOpening h → IsUnmarked mark_of h
 opens_unmarked h l (inl o) = λ p m x at is. at_start o.0 p m x (subst Legal o.1 l) (subst (λ (g : History). IsAt g p x) o.1 at) is
 opens_unmarked h l (inr o) = λ p m x at is. at_opening o.1 o.2 o.0 p m x (subst Legal o.3 l) (subst (λ (g : History). IsAt g p x) o.3 at) is
+
+-- the first pass has seen what the desk stands for, which is sound
+pub opens_pass : DesksAreWhole → (d : DeskState) (h : History) (v : View Entry) → Stands d h → v ≡ beginning mark_of h → HasPlaces mark_of v → IsPass v
+opens_pass whole d h v stands is places = record { places = places; sound = subst (λ (z : View Entry). IsSound z.seen) (sym is) (sound_of whole d h stands) }
 
 -- ---- the owner
 
@@ -79,15 +86,15 @@ owner_joined h role l o = subst (λ (g : History). joined g ≡ 1) (sym o.2) (ap
 
 -- ---- how sharing begins
 
-pub begun_with : (h : History) (old new : HostState) (role : Role) (place : Place) → Legal h → HasOwner h (Some role) → old.view ≡ beginning mark_of h → old.linked ≡ false → old.out ≡ 0 → IsPlaceOf old 1 role place
+pub begun_with : (h : History) (old new : HostState) (role : Role) (place : Place) → IsSound h → HasOwner h (Some role) → old.view ≡ beginning mark_of h → old.linked ≡ false → old.out ≡ 0 → IsPlaceOf old 1 role place
     → new.session ≡ old.session → new.linked ≡ old.linked → new.out ≡ old.out + 2 → new.view ≡ with_place 1 old.view → HasBegun h new (Some place)
-begun_with h old new role place l o view linked out p session same more given = (
-  owner_joined h role l o,
+begun_with h old new role place sound o view linked out p session same more given = (
+  owner_joined h role sound.legal o,
   given ∙ ap (with_place 1) view,
   same ∙ linked,
   more ∙ ap (λ (n : ℕ). n + 2) out,
   p.sessions.0 ∙ sym session,
   p.viewers.0,
   (o.0, o.1, o.2 ∙ ap (λ (r : Role). Join 1 r o.1 ∷ o.0 ∷ []) (sym p.role)),
-  fresh_of old 1 role place o.1 (o.0 ∷ []) (texts (delivered h 1)) p (ap (λ (v : View Entry). v.seen) view ∙ o.2) (ap (λ (v : View Entry). texts (delivered v.seen 1)) (sym view)),
+  fresh_of old 1 role place o.1 (o.0 ∷ []) (texts (delivered h 1)) p (ap (λ (v : View Entry). v.seen) view ∙ o.2) (subst (λ (v : View Entry). IsSound v.seen) (sym view) sound) (ap (λ (v : View Entry). texts (delivered v.seen 1)) (sym view)),
 )

@@ -6,7 +6,7 @@ use Rattle.std.proofs.Math.Seq.{take-append_seam, take-length}
 use Rattle.gate_model.specs.declared.answer.Answer.{Answer}
 use Rattle.gate_model.specs.declared.entry.Entry.{Entry}
 use Rattle.gate_model.specs.declared.event.Event.{Event}
-use Rattle.gate_model.specs.declared.event.Event.TheVariants.{Feed, Join, Read, Write, Take, Leave, Close}
+use Rattle.gate_model.specs.declared.event.Event.TheVariants.{Feed, Join, Read, Write, Resize, Take, Leave, Close}
 use Rattle.gate_model.specs.declared.memory.NoMemory.{NoMemory}
 use Rattle.gate_model.specs.session.Calls.{Step, Adds}
 use Rattle.gate_model.specs.session.History.{History}
@@ -17,6 +17,7 @@ use Rattle.gate_model.specs.session.Steps.{Legal}
 use Rattle.gate_model.specs.text.Text.{texts}
 use Rattle.desk_core.specs.Calls.{Ended}
 use Rattle.desk_core.specs.Desk.{DeskState, Stands}
+use Rattle.desk_core.specs.Laws.{DesksAreWhole}
 use Rattle.turn_lock.specs.declared.view.View.{View}
 use Rattle.turn_lock.specs.Passes.{IsNext}
 use Rattle.turn_lock.specs.Places.{ArePlaces}
@@ -24,7 +25,11 @@ use Rattle.turn_lock.specs.Views.{with_ticket, entered, gained, passed, HasPlace
 use Rattle.shared_desk.specs.declared.held.Held.{Held}
 use Rattle.shared_desk.specs.Marks.{mark_of, mark_for}
 use Rattle.shared_desk.specs.Called.{after_turn, Answers, Turned}
-use Rattle.shared_desk.specs.Members.{HasMark}
+use Rattle.shared_desk.specs.Members.{HasMark, IsSound}
+
+-- what a desk stands for is sound
+pub sound_of : DesksAreWhole → (d : DeskState) (h : History) → Stands d h → IsSound h
+sound_of whole d h s = record { legal = s.legal; whole = whole d h s; frugal = s.frugal }
 
 -- ---- what a call of the desk adds
 
@@ -33,6 +38,7 @@ mark_added g (Feed bytes now) answer e a = ap mark_of a.4
 mark_added g (Join asked) answer e a = ap mark_of a.5
 mark_added g (Read viewer) answer e a = ap mark_of a.3
 mark_added g (Write viewer acts) answer e a = ap mark_of a.1
+mark_added g (Resize viewer cols rows) answer e a = ap mark_of a.4
 mark_added g (Take most) answer e a = ap mark_of a.1
 mark_added g (Leave viewer) answer e a = ap mark_of a.1
 mark_added g (Close cause) answer e a = ap mark_of a.1
@@ -133,38 +139,43 @@ pub record Ends (u w : View Entry) (event : Event) (answer : Result Answer NoMem
   pub added : appended ≡ true → (e : Entry) × IsNext (λ (x : Held) h. Stands x.desk h) mark_of (λ e. Answers event answer before after g (e ∷ [])) held u e × (w ≡ passed (gained e u))
   pub same : appended ≡ false → w ≡ passed u
   pub places : HasPlaces mark_of w
+  pub sound : IsSound w.seen
 
 turned_by : (v w u : View Entry) (g : History) (event : Event) (answer : Result Answer NoMemory) (held : Held) (before after : List ℕ) (appended : Bool) → Begins v u g → Ends u w event answer before after g held appended
     → (appended ≡ false → Answers event answer before after g []) → (b : Bool) → appended ≡ b → Turned v w (Answers event answer before after)
 turned_by v w u g event answer held before after appended i o none true is =
     let y = o.added is in
     let e : Entry = y.0 in
-    let next = y.1 in record {
+    let next = y.1 in
+    let ended : w ≡ after_turn g (e ∷ []) v = y.2 ∙ (ap (λ z. passed (gained e z)) i.entered ∙ outside_again v (e ∷ g) (length g ∷ v.mine) i.ticket i.outside) in
+    record {
       before = g;
       added = e ∷ [];
       later = i.later;
       known = i.known;
       legal_before = i.legal;
-      legal = subst (λ (z : View Entry). Legal (e ∷ z.seen)) i.entered next.stood.legal;
+      sound = subst (λ (z : View Entry). IsSound z.seen) ended o.sound;
       within = i.within;
       owns = i.owns;
       did_it = next.named;
-      after = y.2 ∙ (ap (λ z. passed (gained e z)) i.entered ∙ outside_again v (e ∷ g) (length g ∷ v.mine) i.ticket i.outside);
+      after = ended;
       places = o.places;
     }
-turned_by v w u g event answer held before after appended i o none false is = record {
-  before = g;
-  added = [];
-  later = i.later;
-  known = i.known;
-  legal_before = i.legal;
-  legal = i.legal;
-  within = i.within;
-  owns = i.owns;
-  did_it = none is;
-  after = o.same is ∙ (ap (λ z. passed z) i.entered ∙ outside_again v g v.mine i.ticket i.outside);
-  places = o.places;
-}
+turned_by v w u g event answer held before after appended i o none false is =
+    let ended : w ≡ after_turn g [] v = o.same is ∙ (ap (λ z. passed z) i.entered ∙ outside_again v g v.mine i.ticket i.outside) in
+    record {
+      before = g;
+      added = [];
+      later = i.later;
+      known = i.known;
+      legal_before = i.legal;
+      sound = subst (λ (z : View Entry). IsSound z.seen) ended o.sound;
+      within = i.within;
+      owns = i.owns;
+      did_it = none is;
+      after = ended;
+      places = o.places;
+    }
 
 pub turned : (v0 v w u : View Entry) (g : History) (event : Event) (answer : Result Answer NoMemory) (held : Held) (before after : List ℕ) (old : DeskState) (n m : ℕ) → v ≡ v0 → Begins v u g → Stands old g → AreCounts old held.desk n m
     → Leaves event answer before after g held.desk → Ends u w event answer before after g held (nat_lt n m) → Turned v0 w (Answers event answer before after)
@@ -180,8 +191,8 @@ gave v w event answer b before after is t = subst (λ (x : List ℕ). Turned v w
 pub at_old : (v v0 w : View Entry) (did : History → List Entry → Type 0) → v ≡ v0 → Turned v w did → Turned v0 w did
 at_old v v0 w did is t = subst (λ (z : View Entry). Turned z w did) is t
 
-pub legal_after : (v w : View Entry) (did : History → List Entry → Type 0) → Turned v w did → Legal w.seen
-legal_after v w did t = subst (λ (z : View Entry). Legal z.seen) (sym t.after) t.legal
+pub sound_after : (v w : View Entry) (did : History → List Entry → Type 0) → Turned v w did → IsSound w.seen
+sound_after v w did t = subst (λ (z : View Entry). IsSound z.seen) (sym t.after) t.sound
 
 pub keeps_mark : (v w : View Entry) (did : History → List Entry → Type 0) → Turned v w did → w.mark ≡ v.mark
 keeps_mark v w did t = ap (λ (z : View Entry). z.mark) t.after
@@ -191,6 +202,15 @@ keeps_given v w did t = ap (λ (z : View Entry). z.given) t.after
 
 pub seen_is : (v w : View Entry) (did : History → List Entry → Type 0) (t : Turned v w did) → w.seen ≡ t.added ++ t.before
 seen_is v w did t = ap (λ (z : View Entry). z.seen) t.after
+
+-- ---- what is left is sound
+
+-- since the desk stands for it, with the entry that was added or without
+pub ends_sound : DesksAreWhole → (adds : Entry → Type 0) (appended : Bool) (w : Held) (v u : View Entry)
+    → (appended ≡ true → (e : Entry) × IsNext (λ (x : Held) h. Stands x.desk h × (length h < 2 ^ 62)) mark_of adds w v e × (u ≡ passed (gained e v)))
+    → (appended ≡ false → u ≡ passed v) → (appended ≡ false → Stands w.desk v.seen) → IsSound u.seen
+ends_sound whole adds true w v u added same stays = let y = added refl in subst (λ (z : View Entry). IsSound z.seen) (sym y.2) (sound_of whole w.desk (y.0 ∷ v.seen) y.1.stood.0)
+ends_sound whole adds false w v u added same stays = subst (λ (z : View Entry). IsSound z.seen) (sym (same refl)) (sound_of whole w.desk v.seen (stays refl))
 
 -- ---- the number of entries, which is few
 

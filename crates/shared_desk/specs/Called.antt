@@ -17,6 +17,7 @@ use Rattle.turn_lock.specs.Places.{ArePlaces}
 use Rattle.turn_lock.specs.Views.{Owns, HasPlaces}
 use Rattle.turn_lock.specs.declared.view.View.{View}
 use Rattle.shared_desk.specs.Marks.{mark_of}
+use Rattle.shared_desk.specs.Members.{IsSound}
 
 -- the call was answered so after a history by its rule, and added these entries, none or one; a buffer gained
 -- the text of what they hand out. Memory ran short where nothing else stopped the call: it added none
@@ -46,7 +47,8 @@ pub record Turned (v w : View Entry) (did : History → List Entry → Type 0) :
   pub later : IsLater v.seen before
   pub known : v.known ≤ length before
   pub legal_before : Legal before
-  pub legal : Legal (added ++ before)
+  -- it left a sound history
+  pub sound : IsSound (added ++ before)
   -- every entry of the pass's mark that was found stood at one of its own places
   pub within : ArePlaces (length v.seen) v.mine
   pub owns : Owns mark_of before v

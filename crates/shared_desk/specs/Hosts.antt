@@ -18,7 +18,7 @@ use Rattle.turn_lock.specs.declared.view.View.{View}
 use Rattle.turn_lock.specs.Views.{giving, part_of, beginning}
 use Rattle.shared_desk.specs.Called.{Gives}
 use Rattle.shared_desk.specs.Marks.{mark_of, reader_mark, writer_mark}
-use Rattle.shared_desk.specs.Members.{PassState, ViewerState}
+use Rattle.shared_desk.specs.Members.{IsSound, PassState, ViewerState}
 use Rattle.shared_desk.specs.declared.place.Place.{Place}
 
 -- of which session it is, what it knows, whether it gave the passes of the link, and how many of the passes
@@ -57,7 +57,8 @@ pub record IsPlaceOf (h : HostState) (number : ℕ) (granted : Role) (place : Pl
   pub role : place.role ≡ granted
 
 -- the place is fresh for a text: its passes are of one session and of the viewer of one Join, after which
--- neither has seen anything nor added an entry, and the text is that of what the Join gave
+-- neither has seen anything nor added an entry, the history up to it is sound, and the text is that of what the Join
+-- gave
 pub record IsFresh (place : Place) (given : List ℕ) : Type 0 where
   pub session : place.reader.session ≡ place.writer.session
   pub viewer : place.reader.viewer ≡ place.writer.viewer
@@ -65,6 +66,7 @@ pub record IsFresh (place : Place) (given : List ℕ) : Type 0 where
   pub first : List Instr
   pub reader : place.reader.view.seen ≡ Join place.reader.viewer place.role first ∷ before
   pub writer : place.writer.view.seen ≡ Join place.reader.viewer place.role first ∷ before
+  pub sound : IsSound place.reader.view.seen
   pub none : (place.reader.view.mine ≡ []) × (place.writer.view.mine ≡ [])
   pub text : given ≡ texts (delivered place.reader.view.seen place.reader.viewer)
 

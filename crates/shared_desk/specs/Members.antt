@@ -2,8 +2,10 @@
 use Rattle.std.specs.Prelude.{◌≡◌, ℕ, ◌≤◌, Some, None, length}
 use Rattle.atomic_table.specs.Seated.{TableId}
 use Rattle.gate_model.specs.declared.entry.Entry.{Entry}
-use Rattle.gate_model.specs.session.History.{joined}
+use Rattle.gate_model.specs.session.Cost.{AllFrugal}
+use Rattle.gate_model.specs.session.History.{History, joined}
 use Rattle.gate_model.specs.session.Steps.{Legal}
+use Rattle.gate_model.specs.session.Whole.{Whole}
 use Rattle.turn_lock.specs.Views.{HasPlaces}
 use Rattle.turn_lock.specs.declared.view.View.{View}
 use Rattle.shared_desk.specs.Marks.{mark_of, reader_mark, writer_mark}
@@ -19,10 +21,18 @@ pub record ViewerState : Type 0 where
   pub view : View Entry
   pub viewer : ℕ
 
--- what is true of every pass: it has seen a legal history, and its own places are all those of its mark
+-- what a history is that a pass has seen: each entry was added by its rule; what any viewer was given up to a sync
+-- leaves what all frames up to it leave, and these show the screen; and each frame, and each picture that a Join or a
+-- Read gave, is within its bound
+pub record IsSound (h : History) : Type 0 where
+  pub legal : Legal h
+  pub whole : Whole h
+  pub frugal : AllFrugal h
+
+-- what is true of every pass: it has seen a sound history, and its own places are all those of its mark
 pub record IsPass (v : View Entry) : Type 0 where
   pub places : HasPlaces mark_of v
-  pub legal : Legal v.seen
+  pub sound : IsSound v.seen
 
 -- a pass of this mark that isn't the host's
 pub record HasMark (number : ℕ) (v : View Entry) : Type 0 where
@@ -31,6 +41,7 @@ pub record HasMark (number : ℕ) (v : View Entry) : Type 0 where
 
 -- it has seen that the viewer joined
 pub record KnowsViewer (viewer : ℕ) (v : View Entry) : Type 0 where
+  pub first : 1 ≤ viewer
   pub joined : viewer ≤ joined v.seen
   pub begun : 1 ≤ length v.seen
 

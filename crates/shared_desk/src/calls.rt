@@ -8,12 +8,14 @@ ghost use Rattle.turn_lock.specs.Views.{passed, gained, HasPlaces};
 ghost use Rattle.shared_desk.specs.declared.held.Held.{Held};
 ghost use Rattle.desk_core.specs.Desk.{Stands};
 ghost use Rattle.shared_desk.specs.Marks.{mark_of};
+ghost use Rattle.shared_desk.specs.Members.{IsSound};
 
 use crate::held::Held;
 use crate::member::Member;
+use desk_core::laws::desks_are_whole;
 use desk_core::{
-    Closed, FeedRefusal, JoinRefusal, Joined, NoViewer, ReadAnswer, ReadRefusal, Taken,
-    WriteRefusal, Written,
+    Closed, FeedRefusal, JoinRefusal, Joined, NoViewer, ReadAnswer, ReadRefusal, ResizeRefusal,
+    Taken, WriteRefusal, Written,
 };
 use gate_model::laws::entries_are_few;
 use gate_model::{Act, Asked, Cause, Entry};
@@ -24,9 +26,10 @@ use turn_lock::{Adds, Turn};
 
 impl Member {
     ghost use Rattle.gate_model.specs.session.Calls.{IsPiece, IsWrite};
+    ghost use Rattle.gate_model.specs.terminal.Sizes.{IsScreenSize};
     ghost use Rattle.gate_model.specs.declared.answer.Answer.TheVariants.{Leave as left, Close as closed};
-    ghost use Rattle.gate_model.specs.declared.event.Event.TheVariants.{Feed, Join, Read, Write, Take, Leave, Close};
-    ghost use Rattle.desk_core.specs.Calls.{feed_answer, join_answer, read_answer, write_answer};
+    ghost use Rattle.gate_model.specs.declared.event.Event.TheVariants.{Feed, Join, Read, Write, Resize, Take, Leave, Close};
+    ghost use Rattle.desk_core.specs.Calls.{feed_answer, join_answer, read_answer, resize_answer, write_answer};
     ghost use Rattle.shared_desk.specs.Marks.{reader_mark, writer_mark};
     ghost use Rattle.shared_desk.specs.Called.{Called, Gives, take_answer};
 
@@ -48,6 +51,7 @@ impl Member {
         let entries = desk.entries();
         let result = desk.feed(alloc, bytes, now);
         let appended = desk.entries() > entries;
+        self.lock.spots().tell_output(desk.pending());
         end_turn::<Brand, _>(turn, appended, &(bytes, now, &result));
         result
     }
@@ -112,7 +116,32 @@ impl Member {
         let entries = desk.entries();
         let result = desk.write(alloc, viewer, acts);
         let appended = desk.entries() > entries;
+        self.lock.spots().tell_output(desk.pending());
         end_turn::<Brand, _>(turn, appended, &(viewer, acts, &result));
+        result
+    }
+
+    /// `Desk::resize`, in a turn.
+    pub(crate) fn resize<R: Wait>(
+        &mut self,
+        rt: &R,
+        alloc: Global,
+        viewer: u32,
+        cols: u16,
+        rows: u16,
+    ) -> Result<u64, ResizeRefusal>
+        requires size { IsScreenSize cols rows }
+        requires mark { self.old.view.mark ≡ Some (writer_mark viewer) }
+        ensures session { self.new.session ≡ self.old.session }
+        ensures called { Called self.old.view (Resize viewer cols rows) (resize_answer result) self.new.view }
+    {
+        let mut turn = self.lock.turn(rt, &mut self.pass);
+        let desk = &mut turn.value().desk;
+        let entries = desk.entries();
+        let result = desk.resize(alloc, viewer, cols, rows);
+        let appended = desk.entries() > entries;
+        self.lock.spots().tell_output(desk.pending());
+        end_turn::<Brand, _>(turn, appended, &(viewer, cols, rows, &result));
         result
     }
 
@@ -130,6 +159,7 @@ impl Member {
         let entries = desk.entries();
         let result = desk.take(into);
         let appended = desk.entries() > entries;
+        self.lock.spots().tell_output(desk.pending());
         end_turn::<Brand, _>(turn, appended, &(most, &*into, &result));
         result
     }
@@ -158,6 +188,7 @@ impl Member {
         let entries = desk.entries();
         let result = desk.close(cause);
         let appended = desk.entries() > entries;
+        self.lock.spots().tell_closed();
         end_turn::<Brand, _>(turn, appended, &(cause, &result));
         result
     }
@@ -173,9 +204,12 @@ pub(crate) fn end_turn<N: Adds<Entry>, A>(turn: Turn<'_, Held>, appended: bool, 
     ensures added { appended ≡ true → (e : Entry) × IsNext (λ (w : Held) h. Stands w.desk h) mark_of N.adds (value_in turn.entry) (view_in turn.entry) e × (view_of turn.exit.1.0.now ≡ passed (gained e (view_in turn.entry))) }
     ensures same { appended ≡ false → view_of turn.exit.1.0.now ≡ passed (view_in turn.entry) }
     ensures places { HasPlaces mark_of (view_of turn.exit.1.0.now) }
+    ensures sound { IsSound (view_of turn.exit.1.0.now).seen }
 {
     let _ = told;
     // So the number of entries doesn't overflow.
     entries_are_few();
+    // So the history that is left is sound.
+    desks_are_whole();
     turn.pass_on::<N>(appended);
 }

@@ -15,6 +15,7 @@ use desk_core::{Closed, JoinRefusal};
 use gate_model::{Asked, Cause, Role};
 use std::marker::Model;
 use std::sync::Wait;
+use wake_spot::Spots;
 
 /// The first pass of a session, which lets viewers join and gives out the other passes: every Join is its own.
 /// It counts the passes that are out (this project's own rule).
@@ -125,6 +126,11 @@ impl HostPass {
         ensures out { self.new.out ≡ self.old.out }
     {
         self.member.close(rt, cause)
+    }
+
+    /// The spots at which those sleep who wait for news of the session. No clause speaks of them.
+    pub fn spots(&self) -> &Spots {
+        self.member.spots()
     }
 
     /// The number of entries that the session has, by one load.

@@ -25,8 +25,8 @@ mod writer;
 
 pub use any_pass::AnyPass;
 pub use desk_core::{
-    Closed, Desk, FeedRefusal, JoinRefusal, NoMemory, NoViewer, ReadAnswer, ReadRefusal, Taken,
-    WriteRefusal, Written,
+    Closed, Desk, FeedRefusal, JoinRefusal, NoMemory, NoViewer, ReadAnswer, ReadRefusal,
+    ResizeRefusal, Taken, WriteRefusal, Written,
 };
 pub use host::HostPass;
 pub use link::LinkPass;

@@ -8,6 +8,7 @@ use gate_model::Cause;
 use std::alloc::Global;
 use std::marker::Model;
 use std::sync::Wait;
+use wake_spot::Spots;
 
 /// The pass that feeds what the Telnet host sends: every Feed of the session is its own (this project's own
 /// rule).
@@ -58,6 +59,11 @@ impl LinkPass {
         ensures heard { heard self.new.view.seen ≡ heard self.old.view.seen }
     {
         self.member.close(rt, cause)
+    }
+
+    /// The spots at which those sleep who wait for news of the session. No clause speaks of them.
+    pub fn spots(&self) -> &Spots {
+        self.member.spots()
     }
 
     /// The number of entries that the session has, by one load.

@@ -8,6 +8,7 @@ use std::alloc::Global;
 use std::marker::Model;
 use std::sync::{Arc, Wait};
 use turn_lock::{Pass, TurnLock};
+use wake_spot::Spots;
 
 /// What each kind of pass holds: a pass outside any turn, and the lock that it belongs to.
 #[derive(Drop)]
@@ -37,6 +38,7 @@ impl Member {
     ghost use Rattle.gate_model.specs.Sequences.{IsLater};
     ghost use Rattle.gate_model.specs.declared.entry.Entry.{Entry};
     ghost use Rattle.desk_core.specs.Desk.{Stands};
+    ghost use Rattle.shared_desk.specs.Members.{IsSound};
 
     /// The number of entries that the history has, by one load.
     pub(crate) fn newest(&mut self) -> u64
@@ -46,6 +48,11 @@ impl Member {
         ensures view { self.new.view ≡ knowing result self.old.view }
     {
         self.lock.newest(&mut self.pass)
+    }
+
+    /// The spots at which those sleep who wait for news of the session.
+    pub(crate) fn spots(&self) -> &Spots {
+        self.lock.spots()
     }
 
     /// A new pass of the mark, which has seen what this has. The lock is this one's.
@@ -76,6 +83,13 @@ impl Member {
     /// The viewers that have joined are at most 1,000,000, so that the number of passes doesn't overflow.
     pub(crate) fn viewers_are_few(&self)
         ensures { viewers self.now.view.seen ≤ most_joined }
+    {
+        let _ = &self.pass;
+    }
+
+    /// What the pass has seen is sound.
+    pub(crate) fn history_is_sound(&self)
+        ensures { IsSound self.now.view.seen }
     {
         let _ = &self.pass;
     }

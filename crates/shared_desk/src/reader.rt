@@ -7,6 +7,7 @@ use crate::member::Member;
 use desk_core::{NoViewer, ReadAnswer, ReadRefusal};
 use std::marker::Model;
 use std::sync::Wait;
+use wake_spot::Spots;
 
 /// The pass that reads for a viewer: every Read of the viewer is its own (this project's own rule).
 #[derive(Drop)]
@@ -33,6 +34,7 @@ impl ReaderPass {
     ghost use Rattle.gate_model.specs.declared.event.Event.TheVariants.{Read, Leave};
     ghost use Rattle.desk_core.specs.Calls.{read_answer};
     ghost use Rattle.shared_desk.specs.Called.{Called, Gives};
+    ghost use Rattle.shared_desk.specs.Members.{IsSound, KnowsViewer};
     ghost use Rattle.turn_lock.specs.Views.{knowing};
 
     /// The viewer's number.
@@ -40,6 +42,14 @@ impl ReaderPass {
         ensures { result ≡ self.now.viewer }
     {
         self.viewer
+    }
+
+    /// What this pass has seen is a sound history, in which its viewer has joined. It tells so, and does nothing.
+    pub fn history_is_sound(&self)
+        ensures sound { IsSound self.now.view.seen }
+        ensures knows { KnowsViewer self.now.viewer self.now.view }
+    {
+        self.member.history_is_sound();
     }
 
     /// `Desk::read`, in a turn. It appends the text of what the viewer was given by it.
@@ -60,6 +70,11 @@ impl ReaderPass {
         ensures delivered { delivered self.new.view.seen self.old.viewer ≡ delivered self.old.view.seen self.old.viewer }
     {
         self.member.leave(rt, self.viewer)
+    }
+
+    /// The spots at which those sleep who wait for news of the session. No clause speaks of them.
+    pub fn spots(&self) -> &Spots {
+        self.member.spots()
     }
 
     /// The number of entries that the session has, by one load.

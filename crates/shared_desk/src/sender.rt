@@ -7,6 +7,7 @@ use desk_core::{Closed, Taken};
 use gate_model::Cause;
 use std::marker::Model;
 use std::sync::Wait;
+use wake_spot::Spots;
 
 /// The pass that takes what goes to the Telnet host: every Take of the session is its own (this project's own
 /// rule).
@@ -55,6 +56,11 @@ impl SenderPass {
         ensures sent { BeginsWith (out self.new.view.seen) (out self.old.view.seen) }
     {
         self.member.close(rt, cause)
+    }
+
+    /// The spots at which those sleep who wait for news of the session. No clause speaks of them.
+    pub fn spots(&self) -> &Spots {
+        self.member.spots()
     }
 
     /// The number of entries that the session has, by one load.

@@ -12,6 +12,7 @@ use crate::host::HostPass;
 use crate::member::Member;
 use crate::owners::Owners;
 use crate::place::Place;
+use desk_core::laws::desks_are_whole;
 use desk_core::{Desk, NoMemory};
 use gate_model::laws::entries_are_few;
 use gate_model::{Entry, Role};
@@ -40,6 +41,8 @@ pub fn share<L: Lists<Entry>>(
     let owner = role_of_owner(&desk);
     // So the number of entries doesn't overflow.
     entries_are_few();
+    // So the history that the host has seen is sound.
+    desks_are_whole();
     let (lock, pass) = TurnLock::new::<L>(alloc, Held { desk })?;
     let lock = Arc::new(alloc, lock)?;
     let spare = Owners::of(&lock)?;

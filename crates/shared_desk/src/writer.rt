@@ -1,15 +1,16 @@
 //! The pass that writes for a viewer.
 
-ghost use Rattle.std.specs.Prelude.{◌≡◌, ◌≤◌, ◌++◌, [], ◌∷◌, Ok, length, is_ok, if◌then◌else◌};
+ghost use Rattle.std.specs.Prelude.{◌≡◌, ◌≤◌, ◌++◌, List, [], ◌∷◌, Ok, length, is_ok, if◌then◌else◌};
 
 use crate::member::Member;
-use desk_core::{NoViewer, WriteRefusal, Written};
+use desk_core::{NoViewer, ResizeRefusal, WriteRefusal, Written};
 use gate_model::Act;
 use std::alloc::Global;
 use std::marker::Model;
 use std::sync::Wait;
+use wake_spot::Spots;
 
-/// The pass that writes for a viewer: every Write of the viewer is its own (this project's own rule).
+/// The pass that writes for a viewer: every Write and every Size of the viewer is its own (this project's own rule).
 #[derive(Drop)]
 pub struct WriterPass {
     pub(crate) member: Member,
@@ -29,12 +30,15 @@ impl Model for WriterPass {
 
 impl WriterPass {
     ghost use Rattle.gate_model.specs.session.Calls.{IsWrite};
+    ghost use Rattle.gate_model.specs.terminal.Sizes.{IsScreenSize};
+    ghost use Rattle.gate_model.specs.declared.entry.Entry.{Entry};
     ghost use Rattle.gate_model.specs.declared.answer.Answer.TheVariants.{Leave as left};
     ghost use Rattle.gate_model.specs.declared.entry.Entry.TheVariants.{Write as Wrote, Leave as Left};
-    ghost use Rattle.gate_model.specs.declared.event.Event.TheVariants.{Write, Leave};
-    ghost use Rattle.desk_core.specs.Calls.{write_answer};
+    ghost use Rattle.gate_model.specs.declared.event.Event.TheVariants.{Write, Resize, Leave};
+    ghost use Rattle.desk_core.specs.Calls.{resize_answer, write_answer};
     ghost use Rattle.shared_desk.specs.Called.{Called};
-    ghost use Rattle.shared_desk.specs.Own.{own_entries};
+    ghost use Rattle.shared_desk.specs.Members.{IsSound, KnowsViewer};
+    ghost use Rattle.shared_desk.specs.Own.{AreSized, own_entries};
     ghost use Rattle.turn_lock.specs.Views.{knowing};
 
     /// The viewer's number.
@@ -42,6 +46,14 @@ impl WriterPass {
         ensures { result ≡ self.now.viewer }
     {
         self.viewer
+    }
+
+    /// What this pass has seen is a sound history, in which its viewer has joined. It tells so, and does nothing.
+    pub fn history_is_sound(&self)
+        ensures sound { IsSound self.now.view.seen }
+        ensures knows { KnowsViewer self.now.viewer self.now.view }
+    {
+        self.member.history_is_sound();
     }
 
     /// `Desk::write` for the viewer, in a turn. It is the last entry of this pass's own.
@@ -60,6 +72,24 @@ impl WriterPass {
         self.member.write(rt, alloc, self.viewer, acts)
     }
 
+    /// `Desk::resize` for the viewer, in a turn: 1 to 512 columns and 1 to 256 rows. It is the last entry of this pass's
+    /// own.
+    pub fn resize<R: Wait>(
+        &mut self,
+        rt: &R,
+        alloc: Global,
+        cols: u16,
+        rows: u16,
+    ) -> Result<u64, ResizeRefusal>
+        requires { IsScreenSize cols rows }
+        ensures session { self.new.session ≡ self.old.session }
+        ensures viewer { self.new.viewer ≡ self.old.viewer }
+        ensures called { Called self.old.view (Resize self.old.viewer cols rows) (resize_answer result) self.new.view }
+        ensures own { (sized : List Entry) × AreSized self.old.viewer cols rows result sized × (own_entries self.new.view ≡ sized ++ own_entries self.old.view) }
+    {
+        self.member.resize(rt, alloc, self.viewer, cols, rows)
+    }
+
     /// `Desk::leave` for the viewer, in a turn.
     pub fn leave<R: Wait>(&mut self, rt: &R) -> Result<(), NoViewer>
         ensures session { self.new.session ≡ self.old.session }
@@ -68,6 +98,11 @@ impl WriterPass {
         ensures own { own_entries self.new.view ≡ (if is_ok result then Left self.old.viewer ∷ [] else []) ++ own_entries self.old.view }
     {
         self.member.leave(rt, self.viewer)
+    }
+
+    /// The spots at which those sleep who wait for news of the session. No clause speaks of them.
+    pub fn spots(&self) -> &Spots {
+        self.member.spots()
     }
 
     /// The number of entries that the session has, by one load.

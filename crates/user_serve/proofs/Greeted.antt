@@ -5,7 +5,7 @@ use Rattle.gate_model.specs.Sequences.{BeginsWith}
 use Rattle.gate_outside.specs.Edge.{GainedFront, came, gained}
 use Rattle.guac_handshake.specs.Asks.{Wish, asks, selected}
 use Rattle.guac_handshake.specs.Doors.{MayRefuse, Sessions}
-use Rattle.guac_handshake.specs.Greetings.{Ends, IsGreeting}
+use Rattle.guac_handshake.specs.Greetings.{EarlyReply, Ends, IsGreeting, IsReplyTo, NoReply, ReadyReply, RefusalReply}
 use Rattle.guac_handshake.specs.Texts.{args_for}
 use Rattle.guac_handshake.specs.declared.greeted.Greeted.{Greeted}
 use Rattle.guac_handshake.specs.declared.greeted.Greeted.TheVariants.{Ready, Refused, Ended, ReadFault, WriteFault, NoMemory}
@@ -20,14 +20,20 @@ Gains old new told = (written : List ℕ) × (new ≡ gained old written) × tol
 front_gained : (old new : Option (List ℕ)) (text : List ℕ) → GainedFront old new text → Gains old new (λ written. BeginsWith text written)
 front_gained old new text front = (take front.0 text, front.2, (drop front.0 text, sym (take-append-drop front.0 text)))
 
+reply_free : (May : Request → door.Refused → Type 0) (wish : Wish) (rest text : List ℕ) → IsReplyTo May wish rest text → IsReplyTo (λ request refusal. Unit {0}) wish rest text
+reply_free May wish rest text (NoReply waits e) = NoReply waits e
+reply_free May wish rest text (EarlyReply status early e) = EarlyReply status early e
+reply_free May wish rest text (RefusalReply q r is may e) = RefusalReply q r is tt e
+reply_free May wish rest text (ReadyReply q id is e) = ReadyReply q id is e
+
 module _ {P : Type 0} (May : Request → door.Refused → Type 0) (wish : Wish) (args rest : List ℕ) (left before now : Option (List ℕ)) (asked_before asked_now : Option (List Request)) where
   replied : (end : Greeted P) → Ends May wish args rest left before now asked_before asked_now end → Gains before now (HasReplied wish args rest end)
   replied (Ready welcome) e = (_, e.2, (e.0, e.1, refl))
   replied (Refused status) e = (_, e.0, refl)
   replied Ended e = (args, e.3, (e.0, e.1, refl))
   replied ReadFault e = (args, e.1, (e.0, refl))
-  replied WriteFault e = let f = front_gained before now (args ++ e.0) e.2 in (f.0, f.1, (e.0, e.1, f.2))
-  replied NoMemory e = let f = front_gained before now (args ++ e.0) e.2 in (f.0, f.1, (e.0, e.1, f.2))
+  replied WriteFault e = let f = front_gained before now (args ++ e.0) e.2 in (f.0, f.1, (e.0, reply_free May wish rest e.0 e.1, f.2))
+  replied NoMemory e = let f = front_gained before now (args ++ e.0) e.2 in (f.0, f.1, (e.0, reply_free May wish rest e.0 e.1, f.2))
 
 -- the bytes of a greeting
 pub record Greeted_by {P : Type 0} (left_old left_new written_old written_new : Option (List ℕ)) (rest : List ℕ) (end : Greeted P) : Type 0 where
@@ -45,5 +51,5 @@ greeted id_of sessions sessions_new draws left_old left_new written_old written_
       written = r.0;
       came_is = g.came_is;
       gained_is = r.1;
-      ran = record { instructions = g.instructions; known = g.known; splits = g.split; replied = r.2 };
+      ran = record { instructions = g.instructions; known = g.known; splits = g.split; no_further = g.no_further; replied = r.2 };
     }

@@ -1,20 +1,18 @@
 -- What an intake hears and writes, step by step.
-use Rattle.std.proofs.Common.{◌≡◌, ℕ, ◌+◌, ◌⊎◌, inl, inr, ⊎_elim, List, [], ◌∷◌, ◌++◌, Bool, true, false, Option, Some, None, refl, ap, sym, ◌∙◌, subst, take, drop, append_assoc, append-nil, arith}
+use Rattle.std.proofs.Common.{◌≡◌, ℕ, ◌+◌, ◌⊎◌, inl, inr, ⊎_elim, List, [], ◌∷◌, ◌++◌, Bool, true, false, Option, Some, None, refl, ap, sym, ◌∙◌, subst, take, drop, append_assoc, append-nil, length, length-append, arith}
 use Rattle.std.specs.Prelude.{Result, Ok, Err, ◌||◌, is_ok, if◌then◌else◌}
 use Rattle.std.proofs.lemmas.List.{drop-drop, take-append-drop}
 use Rattle.gate_model.specs.declared.act.Act.{Act}
 use Rattle.gate_model.specs.declared.act.Act.TheVariants.{Key, Mouse, Sync, Size, Nop, Disconnect}
 use Rattle.gate_model.specs.declared.answer.Answer.TheVariants.{Leave as was_left}
-use Rattle.gate_model.specs.declared.cause.Cause.{Cause}
 use Rattle.gate_model.specs.declared.entry.Entry.{Entry}
-use Rattle.gate_model.specs.declared.entry.Entry.TheVariants.{Write, Leave, Close}
-use Rattle.gate_model.specs.declared.event.Event.TheVariants.{Write as write, Leave as leave}
+use Rattle.gate_model.specs.declared.entry.Entry.TheVariants.{Leave, Close}
+use Rattle.gate_model.specs.declared.event.Event.TheVariants.{Leave as leave}
 use Rattle.gate_model.specs.declared.no_viewer.NoViewer.{NoViewer}
 use Rattle.gate_model.specs.declared.write_refusal.WriteRefusal.{WriteRefusal}
-use Rattle.gate_model.specs.declared.write_refusal.WriteRefusal.TheVariants.{NoViewer as write_no_viewer, Closed as write_closed, Worn as write_worn}
+use Rattle.gate_model.specs.declared.write_refusal.WriteRefusal.TheVariants.{NoViewer as write_no_viewer, Closed as write_closed, Worn as write_worn, NoMemory as write_no_memory}
 use Rattle.gate_model.specs.session.History.{History}
 use Rattle.gate_model.specs.session.Rights.{is_live}
-use Rattle.gate_model.specs.session.Steps.{Legal}
 use Rattle.gate_model.specs.text.ClientMeaning.{act_of}
 use Rattle.gate_outside.specs.Edge.{AtEnd, came}
 use Rattle.gate_outside.proofs.Moved.{came-came, came-none}
@@ -22,33 +20,55 @@ use Rattle.guac_framing.specs.Answers.{IsWhole}
 use Rattle.guac_framing.specs.Found.{IsUnfinished, IsBadAt}
 use Rattle.guac_framing.specs.declared.next.BadAt.{BadAt}
 use Rattle.guac_handshake.specs.Splits.{IsInstruction, Splits}
-use Rattle.desk_core.specs.Calls.{write_answer}
-use Rattle.turn_lock.proofs.Elements.{later_refl, later_trans}
 use Rattle.turn_lock.specs.declared.view.View.{View}
-use Rattle.shared_desk.specs.Called.{Called}
+use Rattle.shared_desk.specs.Called.{Called, Turned}
+use Rattle.shared_desk.specs.Members.{IsSound, KnowsViewer}
 use Rattle.shared_desk.specs.Own.{own_entries}
-use Rattle.shared_desk.proofs.Lasting.{WriteCause, closes_seen, full_stays, later_contains, leave_gone, left_seen, some_seen, turn_later, turn_legal, write_refused}
-use Rattle.user_serve.specs.Intakes.{HasHeard, HasLeft, HasRead, HasTaken, HasWritten, HasWrittenAll, HearStop, Hears, IntakeCause, IntakeRun, IsRefused, IsWritten, Leaves, LeftNow, MayEnd, MayLose, ReadStop, RefusalCause, StopCause, Whole, More, Broken, acts_in, acts_of, acts_written, ends_in, is_disconnect}
+use Rattle.shared_desk.proofs.Lasting.{closes_seen, full_stays, later_contains, leave_gone, left_seen, some_seen, turn_knows, turn_legal}
+use Rattle.viewer_acts.specs.Parts.{Others, Part, Sized, joined, parts_of, size_in, with_first}
+use Rattle.viewer_acts.specs.Doing.{StopCause as PartCause, WritesParts, WritesSome}
+use Rattle.viewer_acts.proofs.Cuts.{are_parts, joined_more, joined_of, parts_more}
+use Rattle.viewer_acts.proofs.Doings.{call_goes_on, done_on, none_done, parts_done, parts_stay}
+use Rattle.user_serve.specs.Intakes.{HasHeard, HasLeft, HasRead, HasTaken, HasWritten, HasDoneAll, HearStop, Hears, IntakeCause, IntakeRun, IsRefused, Leaves, LeftNow, MayEnd, MayLose, ReadStop, RefusalCause, StopCause, Whole, More, Broken, acts_in, acts_of, end_of, ends_in, is_disconnect}
 use Rattle.user_serve.specs.declared.ends.IntakeEnd.{IntakeEnd}
 use Rattle.user_serve.specs.declared.ends.IntakeEnd.TheVariants.{Disconnected, ReadFault, Bad, Left, Closed, Worn, NoMemory}
 
 -- ---- one write
 
-pub has_left : (viewer : ℕ) (h : History) → Legal h → is_live h viewer ≡ false → HasLeft viewer h
-has_left viewer h legal gone = record { gone = gone; left = λ some few. left_seen viewer some h legal few gone }
+pub has_left : (viewer : ℕ) (v w : View Entry) (did : History → List Entry → Type 0) → KnowsViewer viewer v → Turned v w did → is_live w.seen viewer ≡ false → HasLeft viewer w.seen
+has_left viewer v w did knows t gone = let k = turn_knows viewer v w did t knows in record { gone = gone; left = left_seen viewer k.first w.seen (turn_legal v w did t) k.joined gone }
 
-module _ (viewer : ℕ) (acts : List Act) (v w : View Entry) (r : WriteRefusal) (t : Called v (write viewer acts) (write_answer (Err r)) w) where
-  pub refused_left : r ≡ write_no_viewer → IsRefused viewer v w Left
-  refused_left e = let k = write_refused v w viewer acts r t in record { later = turn_later v w _ t; own = k.0; cause = has_left viewer w.seen (turn_legal v w _ t) (subst (λ (x : WriteRefusal). WriteCause x viewer w.seen) e k.1) }
+-- one act is one part
+single : (act : Act) → (part : Part) × (parts_of (act ∷ []) ≡ part ∷ [])
+single act = by (size_in act) refl
+  where
+    by : (o : Option (ℕ × ℕ)) → size_in act ≡ o → (part : Part) × (parts_of (act ∷ []) ≡ part ∷ [])
+    by None is = (Others (act ∷ []), ap (λ (x : Option (ℕ × ℕ)). with_first x act []) is)
+    by (Some size) is = (Sized size, ap (λ (x : Option (ℕ × ℕ)). with_first x act []) is)
 
-  pub refused_closed : (c : Cause) → r ≡ write_closed c → IsRefused viewer v w (Closed c)
-  refused_closed c e = let k = write_refused v w viewer acts r t in record { later = turn_later v w _ t; own = k.0; cause = closes_seen w.seen c (subst (λ (x : WriteRefusal). WriteCause x viewer w.seen) e k.1) }
+-- .. so where it was refused none was done before
+none_before : (part lost : Part) (parts left : List Part) → part ∷ [] ≡ parts ++ lost ∷ left → parts ≡ []
+none_before part lost [] left e = refl
+none_before part lost (x ∷ parts) left e = absurd (omega (arith, ap length e, length-append parts (lost ∷ left)))
 
-  pub refused_worn : (n : ℕ) → r ≡ write_worn n → IsRefused viewer v w Worn
-  refused_worn n e = let k = write_refused v w viewer acts r t in record { later = turn_later v w _ t; own = k.0; cause = (subst (λ (x : WriteRefusal). WriteCause x viewer w.seen) e k.1, turn_legal v w _ t) }
+refused_none : (viewer : ℕ) (v w : View Entry) (act : Act) (r : WriteRefusal) → (s : WritesSome viewer v w (act ∷ []) r) → own_entries w ≡ own_entries v
+refused_none viewer v w act r s =
+    let k = single act in
+    let none : s.parts ≡ [] = none_before k.0 s.lost s.parts s.left (sym k.1 ∙ s.split) in
+    let wrote : WritesParts viewer v w [] = subst (λ (ps : List Part). WritesParts viewer v w ps) none s.wrote in
+    wrote.own ∙ ap (λ (es : List Entry). es ++ own_entries v) wrote.done.did.0
 
-  pub refused_memory : IsRefused viewer v w NoMemory
-  refused_memory = let k = write_refused v w viewer acts r t in record { later = turn_later v w _ t; own = k.0; cause = tt }
+refusal_cause : (viewer : ℕ) (w : View Entry) (r : WriteRefusal) → IsSound w.seen → KnowsViewer viewer w → PartCause r viewer w.seen → RefusalCause (end_of r) viewer w.seen
+refusal_cause viewer w write_no_viewer sound k c = record { gone = c; left = left_seen viewer k.first w.seen sound.legal k.joined c }
+refusal_cause viewer w (write_closed x) sound k c = closes_seen w.seen x c
+refusal_cause viewer w (write_worn n) sound k c = (c, sound.legal)
+refusal_cause viewer w write_no_memory sound k c = tt
+
+refused : (viewer : ℕ) (act : Act) (v w : View Entry) (r : WriteRefusal) → IsSound w.seen → KnowsViewer viewer w → WritesSome viewer v w (act ∷ []) r → IsRefused viewer v w (end_of r)
+refused viewer act v w r sound k s = record { goes_on = s.wrote.done.goes_on; own = refused_none viewer v w act r s; cause = refusal_cause viewer w r sound k s.cause }
+
+pub refused_as : (viewer other : ℕ) (act : Act) (v w : View Entry) (r : WriteRefusal) (end : IntakeEnd) → other ≡ viewer → end ≡ end_of r → IsSound w.seen → KnowsViewer other w → WritesSome viewer v w (act ∷ []) r → IsRefused viewer v w end
+refused_as viewer other act v w r end same is sound k s = subst (λ (x : IntakeEnd). IsRefused viewer v w x) (sym is) (refused viewer act v w r sound (subst (λ (n : ℕ). KnowsViewer n w) same k) s)
 
 -- ---- the act of one instruction
 
@@ -154,46 +174,43 @@ ends_more (x ∷ heard) values none = or_more (is_disconnect (act_of x)) (ends_i
 
 -- ---- so far
 
-pub heard_none : (viewer : ℕ) (v : View Entry) (bytes : List ℕ) → HasWrittenAll viewer v v bytes bytes
-heard_none viewer v bytes = record { later = later_refl v.seen; heard = []; splits = refl; no_end = refl; writes = []; wrote = tt; own = refl; acts = refl }
+pub heard_none : (viewer : ℕ) (v : View Entry) (bytes : List ℕ) → HasDoneAll viewer v v bytes bytes
+heard_none viewer v bytes = record { heard = []; splits = refl; no_end = refl; parts = []; are_parts = tt; wrote = none_done viewer v; acts = refl }
 
 -- bytes came
-all_longer : (viewer : ℕ) (v u w : View Entry) (bytes rest more : List ℕ) → w ≡ u → HasWrittenAll viewer v u bytes rest → HasWrittenAll viewer v w (bytes ++ more) (rest ++ more)
-all_longer viewer v u w bytes rest more is s = subst (λ (z : View Entry). HasWrittenAll viewer v z (bytes ++ more) (rest ++ more)) (sym is) record {
-  later = s.later;
+all_longer : (viewer : ℕ) (v u w : View Entry) (bytes rest more : List ℕ) → w ≡ u → HasDoneAll viewer v u bytes rest → HasDoneAll viewer v w (bytes ++ more) (rest ++ more)
+all_longer viewer v u w bytes rest more is s = subst (λ (z : View Entry). HasDoneAll viewer v z (bytes ++ more) (rest ++ more)) (sym is) record {
   heard = s.heard;
   splits = splits_longer bytes s.heard rest more s.splits;
   no_end = s.no_end;
-  writes = s.writes;
+  parts = s.parts;
+  are_parts = s.are_parts;
   wrote = s.wrote;
-  own = s.own;
   acts = s.acts;
 }
 
 -- an instruction was taken up
-module _ (viewer : ℕ) (v u w : View Entry) (bytes rest after : List ℕ) (s : HasWrittenAll viewer v u bytes rest) (own : List ℕ) (values : List (List ℕ)) (is : IsInstruction own values) (split : rest ≡ own ++ after) where
-  all_silent : act_of values ≡ None → w ≡ u → HasWrittenAll viewer v w bytes after
-  all_silent none same = subst (λ (z : View Entry). HasWrittenAll viewer v z bytes after) (sym same) record {
-    later = s.later;
+module _ (viewer : ℕ) (v u w : View Entry) (bytes rest after : List ℕ) (s : HasDoneAll viewer v u bytes rest) (own : List ℕ) (values : List (List ℕ)) (is : IsInstruction own values) (split : rest ≡ own ++ after) where
+  all_silent : act_of values ≡ None → w ≡ u → HasDoneAll viewer v w bytes after
+  all_silent none same = subst (λ (z : View Entry). HasDoneAll viewer v z bytes after) (sym same) record {
     heard = s.heard ++ values ∷ [];
     splits = splits_more bytes s.heard rest own after values s.splits is split;
     no_end = ends_more s.heard values s.no_end ∙ ap is_disconnect none;
-    writes = s.writes;
+    parts = s.parts;
+    are_parts = s.are_parts;
     wrote = s.wrote;
-    own = s.own;
     acts = acts_more s.heard values ∙ (ap (λ (o : Option Act). acts_of s.heard ++ acts_in o) none ∙ (append-nil (acts_of s.heard) ∙ s.acts));
   }
 
-  all_written : (k : IsOther viewer (act_of values)) → IsWritten viewer k.act u w → HasWrittenAll viewer v w bytes after
-  all_written k done = record {
-    later = later_trans v.seen u.seen w.seen s.later done.later;
+  all_written : (k : IsOther viewer (act_of values)) → WritesParts viewer u w (parts_of (k.act ∷ [])) → HasDoneAll viewer v w bytes after
+  all_written k done = let more = parts_of (k.act ∷ []) in record {
     heard = s.heard ++ values ∷ [];
     splits = splits_more bytes s.heard rest own after values s.splits is split;
     no_end = ends_more s.heard values s.no_end ∙ k.no_end;
-    writes = Write viewer (k.act ∷ []) ∷ s.writes;
-    wrote = (refl, omega arith, s.wrote);
-    own = done.own ∙ ap (λ (es : List Entry). Write viewer (k.act ∷ []) ∷ es) s.own;
-    acts = acts_more s.heard values ∙ (ap (λ (x : List Act). acts_of s.heard ++ x) k.acts ∙ ap (λ (x : List Act). x ++ k.act ∷ []) s.acts);
+    parts = s.parts ++ more;
+    are_parts = parts_more s.parts more s.are_parts (are_parts (k.act ∷ []));
+    wrote = parts_done viewer v u w s.parts more s.wrote done;
+    acts = acts_more s.heard values ∙ (ap (λ (x : List Act). acts_of s.heard ++ x) k.acts ∙ (ap (λ (x : List Act). x ++ k.act ∷ []) s.acts ∙ sym (joined_more s.parts more ∙ ap (λ (x : List Act). joined s.parts ++ x) (joined_of (k.act ∷ [])))));
   }
 
   hears_last : Hears bytes after (s.heard ++ values ∷ [])
@@ -201,12 +218,11 @@ module _ (viewer : ℕ) (v u w : View Entry) (bytes rest after : List ℕ) (s : 
 
   stop_end : (left : Option (List ℕ)) → act_of values ≡ Some Disconnect → w ≡ u → HearStop viewer v w bytes after left Disconnected
   stop_end left end same = subst (λ (z : View Entry). HearStop viewer v z bytes after left Disconnected) (sym same) record {
-    later = s.later;
     heard = s.heard ++ values ∷ [];
     hears = hears_last;
-    writes = s.writes;
+    parts = s.parts;
+    are_parts = s.are_parts;
     wrote = s.wrote;
-    own = s.own;
     lost = [];
     acts = acts_more s.heard values ∙ (ap (λ (o : Option Act). acts_of s.heard ++ acts_in o) end ∙ ap (λ (x : List Act). x ++ []) s.acts);
     loses = refl;
@@ -233,12 +249,11 @@ module _ (viewer : ℕ) (v u w : View Entry) (bytes rest after : List ℕ) (s : 
 
   stop_refused : (left : Option (List ℕ)) (end : IntakeEnd) (k : IsOther viewer (act_of values)) → IsRefused viewer u w end → HearStop viewer v w bytes after left end
   stop_refused left end k r = record {
-    later = later_trans v.seen u.seen w.seen s.later r.later;
     heard = s.heard ++ values ∷ [];
     hears = hears_last;
-    writes = s.writes;
-    wrote = s.wrote;
-    own = r.own ∙ s.own;
+    parts = s.parts;
+    are_parts = s.are_parts;
+    wrote = parts_stay viewer v u w s.parts s.wrote r.goes_on r.own;
     lost = k.act ∷ [];
     acts = acts_more s.heard values ∙ (ap (λ (x : List Act). acts_of s.heard ++ x) k.acts ∙ ap (λ (x : List Act). x ++ k.act ∷ []) s.acts);
     loses = one_lost k.act end r.cause;
@@ -246,7 +261,7 @@ module _ (viewer : ℕ) (v u w : View Entry) (bytes rest after : List ℕ) (s : 
   }
 
   -- by what the instruction asks for
-  pub took_on : (d : Unit {0}) → HasTaken viewer (act_of values) u w (Ok d) → HasWrittenAll viewer v w bytes after
+  pub took_on : (d : Unit {0}) → HasTaken viewer (act_of values) u w (Ok d) → HasDoneAll viewer v w bytes after
   took_on d t = ⊎_elim (λ none. let k = subst (λ (o : Option Act). HasTaken viewer o u w (Ok d)) none t in all_silent none k.0)
       (λ some. ⊎_elim (λ end. let k = subst (λ (o : Option Act). HasTaken viewer o u w (Ok d)) end t in absurd (let z : Ok d ≡ Err Disconnected = k.1 in cc)) (λ k. all_written k (k.taken u w (Ok d) t)) some) (kind viewer (act_of values))
 
@@ -256,17 +271,16 @@ module _ (viewer : ℕ) (v u w : View Entry) (bytes rest after : List ℕ) (s : 
       let is_end : Disconnected ≡ end = (let z : Err end ≡ Err Disconnected = k.1 in cc) in subst (λ (x : IntakeEnd). HearStop viewer v w bytes after left x) is_end (stop_end left ends k.0)) (λ k. stop_refused left end k (k.taken u w (Err end) t)) some) (kind viewer (act_of values))
 
 -- nothing more came
-stop_plain : (viewer : ℕ) (v u w : View Entry) (bytes rest after : List ℕ) (left : Option (List ℕ)) (end : IntakeEnd) → HasWrittenAll viewer v u bytes rest → w ≡ u → after ≡ rest → MayLose end [] → ((heard : List (List (List ℕ))) → StopCause end viewer heard rest left u.seen) → HearStop viewer v w bytes after left end
+stop_plain : (viewer : ℕ) (v u w : View Entry) (bytes rest after : List ℕ) (left : Option (List ℕ)) (end : IntakeEnd) → HasDoneAll viewer v u bytes rest → w ≡ u → after ≡ rest → MayLose end [] → ((heard : List (List (List ℕ))) → StopCause end viewer heard rest left u.seen) → HearStop viewer v w bytes after left end
 stop_plain viewer v u w bytes rest after left end s same is loses why =
     subst (λ (z : View Entry). HearStop viewer v z bytes after left end) (sym same) (subst (λ (bs : List ℕ). HearStop viewer v u bytes bs left end) (sym is) record {
-      later = s.later;
       heard = s.heard;
       hears = record { splits = s.splits; before = s.heard; last = inl refl; open_before = s.no_end };
-      writes = s.writes;
+      parts = s.parts;
+      are_parts = s.are_parts;
       wrote = s.wrote;
-      own = s.own;
       lost = [];
-      acts = s.acts ∙ sym (append-nil (acts_written s.writes));
+      acts = s.acts ∙ sym (append-nil (joined s.parts));
       loses = loses;
       cause = why s.heard;
     })
@@ -277,10 +291,10 @@ stop_plain viewer v u w bytes rest after left end s same is loses why =
 pub record SoFar (viewer : ℕ) (v u : View Entry) (start now : Option (List ℕ)) (first rest : List ℕ) : Type 0 where
   pub read : List ℕ
   pub came_is : start ≡ came read now
-  pub all : HasWrittenAll viewer v u (first ++ read) rest
+  pub all : HasDoneAll viewer v u (first ++ read) rest
 
 pub far_none : (viewer : ℕ) (v : View Entry) (start : Option (List ℕ)) (first : List ℕ) → SoFar viewer v v start start first first
-far_none viewer v start first = record { read = []; came_is = sym (came-none start); all = subst (λ (bs : List ℕ). HasWrittenAll viewer v v bs first) (sym (append-nil first)) (heard_none viewer v first) }
+far_none viewer v start first = record { read = []; came_is = sym (came-none start); all = subst (λ (bs : List ℕ). HasDoneAll viewer v v bs first) (sym (append-nil first)) (heard_none viewer v first) }
 
 module _ (viewer : ℕ) (v u w : View Entry) (start old new : Option (List ℕ)) (first rest after : List ℕ) (s : SoFar viewer v u start old first rest) where
   far_on : (d : Unit {0}) → HasHeard viewer u w old new rest after (Ok d) → SoFar viewer v w start new first after
@@ -288,7 +302,7 @@ module _ (viewer : ℕ) (v u w : View Entry) (start old new : Option (List ℕ))
   far_on d (More k) = record {
     read = s.read ++ k.read.0;
     came_is = s.came_is ∙ (ap (came s.read) k.read.1 ∙ came-came s.read k.read.0 new);
-    all = subst (λ (bs : List ℕ). HasWrittenAll viewer v w bs after) (append_assoc first s.read k.read.0) (subst (λ (bs : List ℕ). HasWrittenAll viewer v w ((first ++ s.read) ++ k.read.0) bs) (sym k.read.2) (all_longer viewer v u w (first ++ s.read) rest k.read.0 k.same s.all));
+    all = subst (λ (bs : List ℕ). HasDoneAll viewer v w bs after) (append_assoc first s.read k.read.0) (subst (λ (bs : List ℕ). HasDoneAll viewer v w ((first ++ s.read) ++ k.read.0) bs) (sym k.read.2) (all_longer viewer v u w (first ++ s.read) rest k.read.0 k.same s.all));
   }
   far_on d (Broken same k) = absurd (let z : Ok d ≡ Err (Bad k.at) = k.is in cc)
 
@@ -322,20 +336,21 @@ module _ (viewer : ℕ) (v u w : View Entry) (start old new : Option (List ℕ))
 
 -- ---- the end
 
-pub left_now : (viewer : ℕ) (v w : View Entry) (r : Result (Unit {0}) NoViewer) → Called v (leave viewer) (Ok (was_left r)) w → own_entries w ≡ (if is_ok r then Leave viewer ∷ [] else []) ++ own_entries v → LeftNow viewer v w
-left_now viewer v w (Ok d) t own = record { later = turn_later v w _ t; leaves = Leave viewer ∷ []; few = inr refl; own = own; legal = turn_legal v w _ t; gone = has_left viewer w.seen (turn_legal v w _ t) (leave_gone v w viewer (Ok d) t) }
-left_now viewer v w (Err e) t own = record { later = turn_later v w _ t; leaves = []; few = inl refl; own = own; legal = turn_legal v w _ t; gone = has_left viewer w.seen (turn_legal v w _ t) (leave_gone v w viewer (Err e) t) }
+pub left_now : (viewer : ℕ) (v w : View Entry) (r : Result (Unit {0}) NoViewer) → KnowsViewer viewer v → Called v (leave viewer) (Ok (was_left r)) w → own_entries w ≡ (if is_ok r then Leave viewer ∷ [] else []) ++ own_entries v → LeftNow viewer v w
+left_now viewer v w (Ok d) knows t own = record { goes_on = call_goes_on v w (leave viewer) (Ok (was_left (Ok d))) t; leaves = Leave viewer ∷ []; few = inr refl; own = own; legal = turn_legal v w _ t; gone = has_left viewer v w _ knows t (leave_gone v w viewer (Ok d) t) }
+left_now viewer v w (Err e) knows t own = record { goes_on = call_goes_on v w (leave viewer) (Ok (was_left (Err e))) t; leaves = []; few = inl refl; own = own; legal = turn_legal v w _ t; gone = has_left viewer v w _ knows t (leave_gone v w viewer (Err e) t) }
 
 ran_left : (viewer : ℕ) (v u w : View Entry) (bytes rest : List ℕ) (left : Option (List ℕ)) (end : IntakeEnd) (h : HearStop viewer v u bytes rest left end) (k : LeftNow viewer u w) → MayEnd end viewer k.leaves → IntakeCause end h.heard rest left w.seen → IntakeRun viewer v w bytes rest left end
 ran_left viewer v u w bytes rest left end h k last why = record {
-  later = later_trans v.seen u.seen w.seen h.later k.later;
   heard = h.heard;
   hears = h.hears;
-  writes = h.writes;
+  parts = h.parts;
+  are_parts = h.are_parts;
+  gained = h.wrote.gained;
+  done = done_on viewer v u w h.parts h.wrote.gained h.wrote.done k.goes_on;
   leaves = k.leaves;
-  wrote = h.wrote;
   last = last;
-  own = k.own ∙ ap (λ (es : List Entry). k.leaves ++ es) h.own;
+  own = k.own ∙ ap (λ (es : List Entry). k.leaves ++ es) h.wrote.own;
   lost = h.lost;
   acts = h.acts;
   loses = h.loses;
@@ -345,14 +360,15 @@ ran_left viewer v u w bytes rest left end h k last why = record {
 
 ran_by : (viewer : ℕ) (v u w : View Entry) (bytes rest : List ℕ) (left : Option (List ℕ)) (end : IntakeEnd) → HearStop viewer v u bytes rest left end → Leaves end viewer u w → IntakeRun viewer v w bytes rest left end
 ran_by viewer v u w bytes rest left Left h same = subst (λ (z : View Entry). IntakeRun viewer v z bytes rest left Left) (sym same) record {
-  later = h.later;
   heard = h.heard;
   hears = h.hears;
-  writes = h.writes;
+  parts = h.parts;
+  are_parts = h.are_parts;
+  gained = h.wrote.gained;
+  done = h.wrote.done;
   leaves = [];
-  wrote = h.wrote;
   last = refl;
-  own = h.own;
+  own = h.wrote.own;
   lost = h.lost;
   acts = h.acts;
   loses = h.loses;
@@ -362,8 +378,8 @@ ran_by viewer v u w bytes rest left Left h same = subst (λ (z : View Entry). In
 ran_by viewer v u w bytes rest left Disconnected h k = ran_left viewer v u w bytes rest left Disconnected h k k.few h.cause
 ran_by viewer v u w bytes rest left ReadFault h k = ran_left viewer v u w bytes rest left ReadFault h k k.few h.cause
 ran_by viewer v u w bytes rest left (Bad at) h k = ran_left viewer v u w bytes rest left (Bad at) h k k.few h.cause
-ran_by viewer v u w bytes rest left (Closed c) h k = ran_left viewer v u w bytes rest left (Closed c) h k k.few (later_contains u.seen w.seen (Close c) k.later h.cause)
-ran_by viewer v u w bytes rest left Worn h k = ran_left viewer v u w bytes rest left Worn h k k.few (full_stays u.seen w.seen k.later (some_seen u.seen h.cause.1) k.legal h.cause.0)
+ran_by viewer v u w bytes rest left (Closed c) h k = ran_left viewer v u w bytes rest left (Closed c) h k k.few (later_contains u.seen w.seen (Close c) k.goes_on.later h.cause)
+ran_by viewer v u w bytes rest left Worn h k = ran_left viewer v u w bytes rest left Worn h k k.few (full_stays u.seen w.seen k.goes_on.later (some_seen u.seen h.cause.1) k.legal h.cause.0)
 ran_by viewer v u w bytes rest left NoMemory h k = ran_left viewer v u w bytes rest left NoMemory h k k.few tt
 
 pub intake_ran : (viewer n : ℕ) (v u w : View Entry) (bytes rest : List ℕ) (left : Option (List ℕ)) (end : IntakeEnd) → n ≡ viewer → HearStop viewer v u bytes rest left end → Leaves end n u w → IntakeRun viewer v w bytes rest left end

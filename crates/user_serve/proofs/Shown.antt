@@ -1,8 +1,8 @@
 -- What an outlet shows, step by step.
-use Rattle.std.proofs.Common.{◌≡◌, ℕ, ◌⊎◌, inl, inr, List, [], ◌∷◌, ◌++◌, true, false, refl, ap, sym, ◌∙◌, subst, append_assoc}
+use Rattle.std.proofs.Common.{◌≡◌, ℕ, ◌⊎◌, inl, inr, List, [], ◌∷◌, ◌++◌, true, false, refl, ap, sym, ◌∙◌, subst, append-nil, append_assoc}
 use Rattle.std.specs.Prelude.{Result, Ok, Err}
 use Rattle.gate_model.specs.declared.entry.Entry.{Entry}
-use Rattle.gate_model.specs.declared.entry.Entry.TheVariants.{Start, Feed, Join, Read, Write, Take, Leave, Close}
+use Rattle.gate_model.specs.declared.entry.Entry.TheVariants.{Start, Feed, Size, Join, Read, Write, Take, Leave, Close}
 use Rattle.gate_model.specs.declared.event.Event.TheVariants.{Read as read}
 use Rattle.gate_model.specs.declared.how.How.{How}
 use Rattle.gate_model.specs.declared.instr.Instr.{Instr}
@@ -12,15 +12,17 @@ use Rattle.gate_model.specs.declared.read_refusal.ReadRefusal.{ReadRefusal}
 use Rattle.gate_model.specs.declared.read_refusal.ReadRefusal.TheVariants.{NoViewer as read_no_viewer, Worn as read_worn, NoMemory as read_no_memory}
 use Rattle.gate_model.specs.session.Delivered.{delivered}
 use Rattle.gate_model.specs.session.History.{History}
-use Rattle.gate_model.specs.session.Steps.{Legal}
+use Rattle.gate_model.specs.session.Rights.{is_live}
 use Rattle.gate_model.specs.text.Text.{text, texts}
 use Rattle.gate_model.specs.Sequences.{BeginsWith}
 use Rattle.desk_core.specs.Calls.{read_answer}
 use Rattle.turn_lock.proofs.Elements.{later_refl, later_trans}
 use Rattle.turn_lock.specs.declared.view.View.{View}
 use Rattle.shared_desk.specs.Called.{Gives}
+use Rattle.shared_desk.specs.Members.{IsSound, KnowsViewer}
 use Rattle.shared_desk.specs.Own.{own_entries}
-use Rattle.shared_desk.proofs.Lasting.{ReadCause, read_adds, turn_later, turn_legal}
+use Rattle.shared_desk.proofs.Lasting.{ReadCause, read_adds, turn_later, turn_sound}
+use Rattle.user_serve.specs.Intakes.{HasLeft}
 use Rattle.user_serve.specs.Outlets.{AreReads, HasShown, HasWritten, OutletRun, StepCause, StepRun, StepWrote, step_of}
 use Rattle.user_serve.specs.declared.ends.OutletEnd.{OutletEnd}
 use Rattle.user_serve.specs.declared.ends.OutletEnd.TheVariants.{Ended, Left, WriteFault, Worn, NoMemory}
@@ -33,17 +35,17 @@ are_reads : (viewer : ℕ) (reads : List Entry) → (reads ≡ []) ⊎ ((how : H
 are_reads viewer reads (inl none) = subst (AreReads viewer) (sym none) tt
 are_reads viewer reads (inr one) = subst (AreReads viewer) (sym one.1) (refl, tt)
 
-step_cause : (viewer : ℕ) (h : History) (r : Result ReadAnswer ReadRefusal) → Legal h → ReadCause r viewer h → StepCause (step_of r) viewer h
-step_cause viewer h (Ok (Frames n stamp true)) legal c = c
-step_cause viewer h (Ok (Frames n stamp false)) legal c = tt
-step_cause viewer h (Ok (Fresh stamp true)) legal c = c
-step_cause viewer h (Ok (Fresh stamp false)) legal c = tt
-step_cause viewer h (Ok read_ended) legal c = c
-step_cause viewer h (Ok Empty) legal c = tt
-step_cause viewer h (Ok (Hold n)) legal c = tt
-step_cause viewer h (Err read_no_viewer) legal c = has_left viewer h legal c
-step_cause viewer h (Err (read_worn n)) legal c = c
-step_cause viewer h (Err read_no_memory) legal c = tt
+step_cause : (viewer : ℕ) (h : History) (r : Result ReadAnswer ReadRefusal) → (is_live h viewer ≡ false → HasLeft viewer h) → ReadCause r viewer h → StepCause (step_of r) viewer h
+step_cause viewer h (Ok (Frames n stamp true)) left c = c
+step_cause viewer h (Ok (Frames n stamp false)) left c = tt
+step_cause viewer h (Ok (Fresh stamp true)) left c = c
+step_cause viewer h (Ok (Fresh stamp false)) left c = tt
+step_cause viewer h (Ok read_ended) left c = c
+step_cause viewer h (Ok Empty) left c = tt
+step_cause viewer h (Ok (Hold n)) left c = tt
+step_cause viewer h (Err read_no_viewer) left c = left c
+step_cause viewer h (Err (read_worn n)) left c = c
+step_cause viewer h (Err read_no_memory) left c = tt
 
 step_wrote : (r : Result ReadAnswer ReadRefusal) (text written : List ℕ) → written ≡ text → StepWrote (step_of r) text written
 step_wrote (Ok (Frames n stamp true)) text written is = is
@@ -59,8 +61,8 @@ step_wrote (Err read_no_memory) text written is = is
 
 module _ (viewer : ℕ) (v w : View Entry) (r : Result ReadAnswer ReadRefusal) (before after : List ℕ) (t : Gives v (read viewer) (read_answer r) w before after) (more : List Instr) (given : delivered w.seen viewer ≡ delivered v.seen viewer ++ more) where
   -- all of it was written
-  pub step_ran : (written : List ℕ) → written ≡ texts more → StepRun viewer v w written (step_of r)
-  step_ran written is =
+  pub step_ran : KnowsViewer viewer v → (written : List ℕ) → written ≡ texts more → StepRun viewer v w written (step_of r)
+  step_ran knows written is =
       let k = read_adds v w viewer r before after t in record {
         later = turn_later v w _ t;
         reads = k.reads;
@@ -69,7 +71,8 @@ module _ (viewer : ℕ) (v w : View Entry) (r : Result ReadAnswer ReadRefusal) (
         more = more;
         given = given;
         wrote = step_wrote r (texts more) written is;
-        cause = step_cause viewer w.seen r (turn_legal v w _ t) k.cause;
+        cause = step_cause viewer w.seen r (has_left viewer v w _ knows t) k.cause;
+        sound = turn_sound v w _ t;
       }
 
   -- a front, at a fault
@@ -84,6 +87,7 @@ module _ (viewer : ℕ) (v w : View Entry) (r : Result ReadAnswer ReadRefusal) (
         given = given;
         wrote = part;
         cause = tt;
+        sound = turn_sound v w _ t;
       }
 
 -- ---- read after read
@@ -97,6 +101,7 @@ reads_more viewer [] fs a b = b
 reads_more viewer (Read v how ∷ es) fs a b = (a.0, reads_more viewer es fs a.1 b)
 reads_more viewer (Start c r m t n s f ∷ es) fs a b = absurd a
 reads_more viewer (Feed bs s f ∷ es) fs a b = absurd a
+reads_more viewer (Size v c r s f ∷ es) fs a b = absurd a
 reads_more viewer (Join v r f ∷ es) fs a b = absurd a
 reads_more viewer (Write v acts ∷ es) fs a b = absurd a
 reads_more viewer (Take n ∷ es) fs a b = absurd a
@@ -106,8 +111,8 @@ reads_more viewer (Close c ∷ es) fs a b = absurd a
 pub shown_first : (viewer : ℕ) (v : View Entry) (first : List ℕ) → first ≡ texts (delivered v.seen viewer) → HasShown viewer v v first
 shown_first viewer v first is = record { later = later_refl v.seen; reads = []; are_reads = tt; own = refl; wrote = is }
 
-pub shown_part : (viewer : ℕ) (v : View Entry) (first written : List ℕ) → first ≡ texts (delivered v.seen viewer) → BeginsWith first written → OutletRun viewer v v written WriteFault
-shown_part viewer v first written is part = record { later = later_refl v.seen; reads = []; are_reads = tt; own = refl; wrote = (part.0, sym is ∙ part.1); cause = tt }
+pub shown_part : (viewer : ℕ) (v : View Entry) (first written : List ℕ) → IsSound v.seen → first ≡ texts (delivered v.seen viewer) → BeginsWith first written → OutletRun viewer v v written WriteFault
+shown_part viewer v first written sound is part = record { later = later_refl v.seen; reads = []; are_reads = tt; own = refl; wrote = (part.0, sym is ∙ part.1); cause = tt; sound = sound }
 
 module _ (viewer : ℕ) (v u w : View Entry) (so_far written : List ℕ) (s : HasShown viewer v u so_far) where
   all_text : (more : List Instr) → delivered w.seen viewer ≡ delivered u.seen viewer ++ more → texts (delivered w.seen viewer) ≡ so_far ++ texts more
@@ -137,6 +142,7 @@ module _ (viewer : ℕ) (v u w : View Entry) (so_far written : List ℕ) (s : Ha
     own = k.own ∙ (ap (λ (es : List Entry). k.reads ++ es) s.own ∙ sym (append_assoc k.reads s.reads (own_entries v)));
     wrote = wrote_all end k.more (all_text k.more k.given) k.wrote;
     cause = k.cause;
+    sound = k.sound;
   }
 
   -- the viewer is the one at the beginning
@@ -145,6 +151,14 @@ module _ (viewer : ℕ) (v u w : View Entry) (so_far written : List ℕ) (s : Ha
 
   pub shown_last : (n : ℕ) → n ≡ viewer → (end : OutletEnd) → StepRun n u w written (Err end) → OutletRun viewer v w (so_far ++ written) end
   shown_last n same end k = shown_end end (subst (λ (m : ℕ). StepRun m u w written (Err end)) same k)
+
+-- what was written is a front of the text at every end
+pub written_front : (end : OutletEnd) (given written : List ℕ) → HasWritten end given written → BeginsWith given written
+written_front WriteFault given written part = part
+written_front Ended given written all = ([], sym all ∙ sym (append-nil written))
+written_front Left given written all = ([], sym all ∙ sym (append-nil written))
+written_front Worn given written all = ([], sym all ∙ sym (append-nil written))
+written_front NoMemory given written all = ([], sym all ∙ sym (append-nil written))
 
 -- what a step does is that of its equal
 pub step_as : (viewer : ℕ) (v w : View Entry) (written : List ℕ) (r result : Result Step OutletEnd) → result ≡ r → StepRun viewer v w written r → StepRun viewer v w written result

@@ -5,8 +5,8 @@ use Rattle.guac_framing.specs.Found.{IsUnfinished}
 use Rattle.guac_handshake.specs.declared.greeted.Greeted.{Greeted}
 use Rattle.guac_handshake.specs.declared.greeted.Greeted.TheVariants.{Ready, Refused, Ended, ReadFault, WriteFault, NoMemory}
 use Rattle.guac_handshake.specs.declared.request.Request.{Request}
-use Rattle.guac_handshake.specs.Asks.{Wish, Unfinished, Wants, asks, selected}
-use Rattle.guac_handshake.specs.Greetings.{IsReply}
+use Rattle.guac_handshake.specs.Asks.{ReadsNoFurther, Wish, Unfinished, Wants, asks, selected}
+use Rattle.guac_handshake.specs.Greetings.{IsReplyTo}
 use Rattle.guac_handshake.specs.Splits.{Splits}
 use Rattle.guac_handshake.specs.Texts.{args_for, error_text, ready_text}
 
@@ -16,12 +16,14 @@ HasReplied wish args rest (Ready welcome) written = (request : Request) × (wish
 HasReplied wish args rest (Refused status) written = written ≡ args ++ error_text status
 HasReplied wish args rest Ended written = (wish ≡ Unfinished) × IsUnfinished rest × (written ≡ args)
 HasReplied wish args rest ReadFault written = (wish ≡ Unfinished) × (written ≡ args)
-HasReplied wish args rest WriteFault written = (text : List ℕ) × IsReply text × BeginsWith (args ++ text) written
-HasReplied wish args rest NoMemory written = (text : List ℕ) × IsReply text × BeginsWith (args ++ text) written
+HasReplied wish args rest WriteFault written = (text : List ℕ) × IsReplyTo (λ request refusal. Unit {0}) wish rest text × BeginsWith (args ++ text) written
+HasReplied wish args rest NoMemory written = (text : List ℕ) × IsReplyTo (λ request refusal. Unit {0}) wish rest text × BeginsWith (args ++ text) written
 
--- the bytes read are instructions and then the rest, and what was written is by what they ask
+-- the bytes read are instructions, none behind those that settle what is asked, and then the rest; and what was written
+-- is by what they ask
 pub record GreetRun {P : Type 0} (read rest written : List ℕ) (end : Greeted P) : Type 0 where
   pub instructions : List (List (List ℕ))
   pub known : Bool
   pub splits : Splits read instructions rest
+  pub no_further : ReadsNoFurther (asks known) instructions
   pub replied : HasReplied (asks known instructions) (args_for (selected known instructions)) rest end written

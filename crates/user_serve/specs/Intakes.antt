@@ -4,11 +4,12 @@ use Rattle.std.specs.List.{list_any}
 use Rattle.gate_model.specs.declared.act.Act.{Act}
 use Rattle.gate_model.specs.declared.act.Act.TheVariants.{Disconnect}
 use Rattle.gate_model.specs.declared.entry.Entry.{Entry}
-use Rattle.gate_model.specs.declared.entry.Entry.TheVariants.{Write, Leave, Close}
-use Rattle.gate_model.specs.session.History.{History, is_full, joined}
+use Rattle.gate_model.specs.declared.entry.Entry.TheVariants.{Leave, Close}
+use Rattle.gate_model.specs.declared.write_refusal.WriteRefusal.{WriteRefusal}
+use Rattle.gate_model.specs.declared.write_refusal.WriteRefusal.TheVariants as written
+use Rattle.gate_model.specs.session.History.{History, is_full}
 use Rattle.gate_model.specs.session.Rights.{is_live}
 use Rattle.gate_model.specs.session.Steps.{Legal}
-use Rattle.gate_model.specs.Sequences.{IsLater}
 use Rattle.gate_model.specs.text.ClientMeaning.{act_of}
 use Rattle.gate_outside.specs.Edge.{AtEnd, came}
 use Rattle.guac_framing.specs.Found.{IsUnfinished, IsBadAt}
@@ -16,6 +17,8 @@ use Rattle.guac_framing.specs.declared.next.BadAt.{BadAt}
 use Rattle.guac_handshake.specs.Splits.{IsInstruction, Splits}
 use Rattle.turn_lock.specs.declared.view.View.{View}
 use Rattle.shared_desk.specs.Own.{own_entries}
+use Rattle.viewer_acts.specs.Parts.{AreParts, Part, joined, parts_of}
+use Rattle.viewer_acts.specs.Doing.{GoesOn, HasDone, WritesParts}
 use Rattle.user_serve.specs.declared.ends.IntakeEnd.{IntakeEnd}
 use Rattle.user_serve.specs.declared.ends.IntakeEnd.TheVariants.{Disconnected, ReadFault, Bad, Left, Closed, Worn, NoMemory}
 
@@ -42,19 +45,7 @@ acts_of (values ∷ others) = acts_in (act_of values) ++ acts_of others
 abbrev pub ends_in : List (List (List ℕ)) → Bool
 ends_in instructions = list_any (λ values. is_disconnect (act_of values)) instructions
 
--- ---- what the writer's pass gained
-
--- Writes of the viewer, each of at least one act
-abbrev pub AreWrites : ℕ → List Entry → Type 0
-AreWrites viewer [] = Unit {0}
-AreWrites viewer (Write v acts ∷ es) = (v ≡ viewer) × (1 ≤ length acts) × AreWrites viewer es
-AreWrites viewer (e ∷ es) = ⊥
-
--- their acts, the oldest first
-abbrev pub acts_written : List Entry → List Act
-acts_written [] = []
-acts_written (Write v acts ∷ es) = acts_written es ++ acts
-acts_written (e ∷ es) = acts_written es
+-- ---- what the writer's pass gained last
 
 -- none, or one Leave of the viewer
 abbrev pub MayLeave : ℕ → List Entry → Type 0
@@ -70,14 +61,14 @@ MayEnd (Closed cause) viewer leaves = MayLeave viewer leaves
 MayEnd Worn viewer leaves = MayLeave viewer leaves
 MayEnd NoMemory viewer leaves = MayLeave viewer leaves
 
--- the viewer isn't there: it has left, if it has joined
+-- the viewer has left
 pub record HasLeft (viewer : ℕ) (seen : History) : Type 0 where
   pub gone : is_live seen viewer ≡ false
-  pub left : 1 ≤ viewer → viewer ≤ joined seen → Contains seen (Leave viewer)
+  pub left : Contains seen (Leave viewer)
 
 -- ---- how it ended
 
--- the acts that were heard and not written: those of one write that was refused, at four ends alone
+-- the acts that were heard and not done: that of one call that was refused, at four ends alone
 abbrev pub MayLose : IntakeEnd → List Act → Type 0
 MayLose Disconnected lost = lost ≡ []
 MayLose ReadFault lost = lost ≡ []
@@ -105,35 +96,36 @@ pub record Hears (bytes rest : List ℕ) (heard : List (List (List ℕ))) : Type
   pub last : (heard ≡ before) ⊎ ((values : List (List ℕ)) × (heard ≡ before ++ values ∷ []))
   pub open_before : ends_in before ≡ false
 
--- its pass, which knew v before and knows w now, gained Writes and last a Leave at most; their acts are those of the
--- instructions of the bytes, up to the one at which it ended
+-- its pass, which knew v before and knows w now, gained Writes, Sizes and last a Leave at most. The acts of the
+-- instructions of the bytes, up to the one at which it ended, were done in their order, part by part: written, or for a
+-- size a Size of its cells, or passed over, after what its pass had seen
 pub record IntakeRun (viewer : ℕ) (v w : View Entry) (bytes rest : List ℕ) (left : Option (List ℕ)) (end : IntakeEnd) : Type 0 where
-  pub later : IsLater v.seen w.seen
   pub heard : List (List (List ℕ))
   pub hears : Hears bytes rest heard
-  pub writes : List Entry
+  pub parts : List Part
+  pub are_parts : AreParts parts
+  pub gained : List Entry
+  pub done : HasDone viewer v w parts gained
   pub leaves : List Entry
-  pub wrote : AreWrites viewer writes
   pub last : MayEnd end viewer leaves
-  pub own : own_entries w ≡ leaves ++ (writes ++ own_entries v)
+  pub own : own_entries w ≡ leaves ++ (gained ++ own_entries v)
   pub lost : List Act
-  pub acts : acts_of heard ≡ acts_written writes ++ lost
+  pub acts : acts_of heard ≡ joined parts ++ lost
   pub loses : MayLose end lost
   pub cause : IntakeCause end heard rest left w.seen
   pub gone : HasLeft viewer w.seen
 
 -- ---- before its end
 
--- all acts that were heard so far were written
-pub record HasWrittenAll (viewer : ℕ) (v w : View Entry) (bytes rest : List ℕ) : Type 0 where
-  pub later : IsLater v.seen w.seen
+-- all acts that were heard so far were done
+pub record HasDoneAll (viewer : ℕ) (v w : View Entry) (bytes rest : List ℕ) : Type 0 where
   pub heard : List (List (List ℕ))
   pub splits : Splits bytes heard rest
   pub no_end : ends_in heard ≡ false
-  pub writes : List Entry
-  pub wrote : AreWrites viewer writes
-  pub own : own_entries w ≡ writes ++ own_entries v
-  pub acts : acts_of heard ≡ acts_written writes
+  pub parts : List Part
+  pub are_parts : AreParts parts
+  pub wrote : WritesParts viewer v w parts
+  pub acts : acts_of heard ≡ joined parts
 
 -- why it stops, before the viewer leaves
 abbrev pub StopCause : IntakeEnd → ℕ → List (List (List ℕ)) → List ℕ → Option (List ℕ) → History → Type 0
@@ -146,23 +138,24 @@ StopCause Worn viewer heard rest left seen = (is_full seen ≡ true) × Legal se
 StopCause NoMemory viewer heard rest left seen = Unit {0}
 
 pub record HearStop (viewer : ℕ) (v w : View Entry) (bytes rest : List ℕ) (left : Option (List ℕ)) (end : IntakeEnd) : Type 0 where
-  pub later : IsLater v.seen w.seen
   pub heard : List (List (List ℕ))
   pub hears : Hears bytes rest heard
-  pub writes : List Entry
-  pub wrote : AreWrites viewer writes
-  pub own : own_entries w ≡ writes ++ own_entries v
+  pub parts : List Part
+  pub are_parts : AreParts parts
+  pub wrote : WritesParts viewer v w parts
   pub lost : List Act
-  pub acts : acts_of heard ≡ acts_written writes ++ lost
+  pub acts : acts_of heard ≡ joined parts ++ lost
   pub loses : MayLose end lost
   pub cause : StopCause end viewer heard rest left w.seen
 
 -- ---- one step
 
--- one act was written, or refused
-pub record IsWritten (viewer : ℕ) (act : Act) (v w : View Entry) : Type 0 where
-  pub later : IsLater v.seen w.seen
-  pub own : own_entries w ≡ Write viewer (act ∷ []) ∷ own_entries v
+-- the end at a call that was refused so
+abbrev pub end_of : WriteRefusal → IntakeEnd
+end_of written.NoViewer = Left
+end_of (written.Closed cause) = Closed cause
+end_of (written.Worn entries) = Worn
+end_of written.NoMemory = NoMemory
 
 abbrev pub RefusalCause : IntakeEnd → ℕ → History → Type 0
 RefusalCause Left viewer seen = HasLeft viewer seen
@@ -174,12 +167,13 @@ RefusalCause ReadFault viewer seen = ⊥
 RefusalCause (Bad at) viewer seen = ⊥
 
 pub record IsRefused (viewer : ℕ) (v w : View Entry) (end : IntakeEnd) : Type 0 where
-  pub later : IsLater v.seen w.seen
+  pub goes_on : GoesOn v w
   pub own : own_entries w ≡ own_entries v
   pub cause : RefusalCause end viewer w.seen
 
+-- one act was done, or refused
 abbrev pub HasWritten : ℕ → Act → View Entry → View Entry → Result (Unit {0}) IntakeEnd → Type 0
-HasWritten viewer act v w (Ok done) = IsWritten viewer act v w
+HasWritten viewer act v w (Ok done) = WritesParts viewer v w (parts_of (act ∷ []))
 HasWritten viewer act v w (Err end) = IsRefused viewer v w end
 
 -- what an instruction asks for was done
@@ -228,7 +222,7 @@ pub data HasHeard (viewer : ℕ) (v w : View Entry) (old new : Option (List ℕ)
 
 -- the viewer leaves at an intake's end, but where it had left
 pub record LeftNow (viewer : ℕ) (v w : View Entry) : Type 0 where
-  pub later : IsLater v.seen w.seen
+  pub goes_on : GoesOn v w
   pub leaves : List Entry
   pub few : MayLeave viewer leaves
   pub own : own_entries w ≡ leaves ++ own_entries v

@@ -12,6 +12,7 @@ use Rattle.gate_model.specs.session.History.{History, is_full}
 use Rattle.gate_model.specs.text.Text.{texts}
 use Rattle.gate_model.specs.Sequences.{BeginsWith, IsLater}
 use Rattle.turn_lock.specs.declared.view.View.{View}
+use Rattle.shared_desk.specs.Members.{IsSound}
 use Rattle.shared_desk.specs.Own.{own_entries}
 use Rattle.user_serve.specs.Intakes.{HasLeft}
 use Rattle.user_serve.specs.declared.ends.OutletEnd.{OutletEnd}
@@ -42,7 +43,7 @@ OutletCause Worn viewer seen = is_full seen ≡ true
 OutletCause NoMemory viewer seen = Unit {0}
 
 -- its pass, which knew v before and knows w now, gained Reads, and the text of all that the viewer was given was
--- written
+-- written. What it has seen is sound, so what it was given draws the screen
 pub record OutletRun (viewer : ℕ) (v w : View Entry) (written : List ℕ) (end : OutletEnd) : Type 0 where
   pub later : IsLater v.seen w.seen
   pub reads : List Entry
@@ -50,6 +51,7 @@ pub record OutletRun (viewer : ℕ) (v w : View Entry) (written : List ℕ) (end
   pub own : own_entries w ≡ reads ++ own_entries v
   pub wrote : HasWritten end (texts (delivered w.seen viewer)) written
   pub cause : OutletCause end viewer w.seen
+  pub sound : IsSound w.seen
 
 -- ---- before its end
 
@@ -93,6 +95,7 @@ pub record StepRun (viewer : ℕ) (v w : View Entry) (written : List ℕ) (resul
   pub given : delivered w.seen viewer ≡ delivered v.seen viewer ++ more
   pub wrote : StepWrote result (texts more) written
   pub cause : StepCause result viewer w.seen
+  pub sound : IsSound w.seen
 
 abbrev pub IfFault : Result Step OutletEnd → Type 0 → Type 0
 IfFault (Ok step) P = Unit {0}

@@ -2,24 +2,25 @@
 
 ghost use Rattle.std.specs.Prelude.{◌≡◌, ◌<◌, ◌≤◌, ◌++◌, ℕ, List, Some, drop, length, IfErr};
 ghost use Rattle.gate_outside.specs.Edge.{Rose, came};
-ghost use Rattle.user_serve.specs.Intakes.{HasHeard, HasRead, HasTaken, HasWritten, HearStop, IntakeRun, Leaves, LeftNow, is_disconnect};
+ghost use Rattle.user_serve.specs.Intakes.{HasHeard, HasRead, HasTaken, HasWritten, HearStop, IntakeRun, Leaves, LeftNow, end_of, is_disconnect};
 ghost use Rattle.user_serve.specs.declared.ends.IntakeEnd.TheVariants as ends;
 
 use crate::IntakeEnd;
 use gate_model::Act;
-use gate_outside::{Bell, Failed, Source};
+use gate_outside::{Bell, Failed, Source, ring_after_leave};
 use guac_framing::{Next, next_instruction};
 use guac_instr::read_client;
 use shared_desk::{WriteRefusal, WriterPass};
 use std::alloc::Global;
 use std::sync::Wait;
+use viewer_acts::write_acts;
 
 /// How many bytes are read at once.
 const PIECE: usize = 4096;
 
-/// Writes the acts of the instructions in `rest` and of those that the source gives, one write for each, and
-/// rings after each. It ends at `disconnect`, at the source's end, at a byte that begins no instruction, and where
-/// a read or a write is refused. Whatever its end, the viewer has then left. `rest` is left holding the bytes
+/// Writes the acts of the instructions in `rest` and of those that the source gives, one write for each, or for one
+/// that asks for a size a change of size, and rings after each. It ends at `disconnect`, at the source's end, at a byte
+/// that begins no instruction, and where a read or a write is refused. Whatever its end, the viewer has then left. `rest` is left holding the bytes
 /// behind the last instruction that was read (this project's own).
 pub fn intake<R: Wait, S: Source, B: Bell>(
     rt: &R,
@@ -63,8 +64,10 @@ fn leave<R: Wait, B: Bell>(rt: &R, pass: &mut WriterPass, bell: &B)
     ensures viewer { pass.new.viewer ≡ pass.old.viewer }
     ensures left { LeftNow pass.old.viewer pass.old.view pass.new.view }
 {
+    // So its Leave stands in what the pass has seen.
+    pass.history_is_sound();
     if pass.leave(rt).is_ok() {
-        bell.ring();
+        ring_after_leave(bell, pass.spots(), pass.viewer());
     }
 }
 
@@ -178,7 +181,7 @@ fn read_more<S: Source>(
     }
 }
 
-// Writes the act, if the instruction asks for one.
+// Does what the instruction asks, if it has an act.
 fn take_up<R: Wait, B: Bell>(
     rt: &R,
     alloc: Global,
@@ -214,7 +217,7 @@ fn is_end(act: Act) -> bool
     }
 }
 
-// Writes one act, and rings.
+// Does what one act asks.
 fn write<R: Wait, B: Bell>(
     rt: &R,
     alloc: Global,
@@ -226,14 +229,24 @@ fn write<R: Wait, B: Bell>(
     ensures viewer { pass.new.viewer ≡ pass.old.viewer }
     ensures wrote { HasWritten pass.old.viewer act pass.old.view pass.new.view result }
 {
-    match pass.write(rt, alloc, &[act]) {
-        Ok(_) => {
-            bell.ring();
-            Ok(())
+    match write_acts(rt, alloc, pass, &[act], bell) {
+        Ok(()) => Ok(()),
+        Err(refusal) => {
+            // So where the viewer has left, its Leave stands in what the pass has seen.
+            pass.history_is_sound();
+            Err(end_of(refusal))
         }
-        Err(WriteRefusal::NoViewer) => Err(IntakeEnd::Left),
-        Err(WriteRefusal::Closed(cause)) => Err(IntakeEnd::Closed(cause)),
-        Err(WriteRefusal::Worn { .. }) => Err(IntakeEnd::Worn),
-        Err(WriteRefusal::NoMemory) => Err(IntakeEnd::NoMemory),
+    }
+}
+
+// The end at a call that was refused.
+fn end_of(refusal: WriteRefusal) -> IntakeEnd
+    ensures { result ≡ end_of refusal }
+{
+    match refusal {
+        WriteRefusal::NoViewer => IntakeEnd::Left,
+        WriteRefusal::Closed(cause) => IntakeEnd::Closed(cause),
+        WriteRefusal::Worn { .. } => IntakeEnd::Worn,
+        WriteRefusal::NoMemory => IntakeEnd::NoMemory,
     }
 }

@@ -3,11 +3,13 @@
 //! or a bell is waited for.
 //!
 //! `IntakeRun` of `specs/Intakes.antt`, `OutletRun` of `specs/Outlets.antt` and `UserRun` of `specs/Users.antt`
-//! say what each did: which entries its pass gained, which bytes it moved, and why it ended.
+//! say what each did: which entries its pass gained, which bytes it moved, and why it ended. `ShowsScreen` of
+//! `specs/Laws.antt` says what of it a viewer sees.
 #![tactic(auto)]
 
 mod ends;
 mod hearing;
+pub mod laws;
 mod serving;
 mod showing;
 

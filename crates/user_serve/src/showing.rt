@@ -9,7 +9,7 @@ ghost use Rattle.user_serve.specs.declared.ends.OutletEnd.TheVariants as ends;
 
 use crate::OutletEnd;
 use gate_model::Bytes;
-use gate_outside::{Bell, Failed, Sink, write_all};
+use gate_outside::{Bell, Failed, Sink, wait_for_news, write_all};
 use shared_desk::{ReadAnswer, ReadRefusal, ReaderPass};
 use std::alloc::Global;
 use std::sync::Wait;
@@ -55,13 +55,18 @@ fn show_all<R: Wait, K: Sink, B: Bell>(
 {
     match write_all(sink, first.as_slice()) {
         Ok(()) => {}
-        Err(Failed) => return OutletEnd::WriteFault,
+        Err(Failed) => {
+            pass.history_is_sound();
+            return OutletEnd::WriteFault;
+        }
     }
     let mut text = Vec::new(alloc);
+    let mut held = false;
     for _ in rt.forever() {
-        match show_next(rt, pass, &mut text, sink) {
+        let rings = pass.spots().rings(pass.viewer());
+        match show_next(rt, pass, &mut text, sink, &mut held) {
             Ok(Step::Gave) => {}
-            Ok(Step::Waits) => bell.wait(rt),
+            Ok(Step::Waits) => { wait_for_news(rt, bell, pass.spots(), pass.viewer(), held, rings) }
             Err(end) => return end,
         }
     }
@@ -75,12 +80,14 @@ pub(crate) enum Step {
     Waits,
 }
 
-// Reads once, and writes what that gave. `text` is where it is put.
+// Reads once, and writes what that gave. `text` is where it is put, and `held` tells whether the viewer is to catch up
+// first.
 fn show_next<R: Wait, K: Sink>(
     rt: &R,
     pass: &mut ReaderPass,
     text: &mut Vec<u8>,
     sink: &mut K,
+    held: &mut bool,
 ) -> Result<Step, OutletEnd>
     ensures session { pass.new.session ≡ pass.old.session }
     ensures viewer { pass.new.viewer ≡ pass.old.viewer }
@@ -88,12 +95,20 @@ fn show_next<R: Wait, K: Sink>(
     ensures write_fault { IfFault result (Rose (K.faults sink.old) (K.faults sink.new)) }
     ensures later { K.faults sink.old ≤ K.faults sink.new }
 {
+    // So what was seen before the read is sound, and the viewer has joined.
+    pass.history_is_sound();
     text.clear();
     let answer = pass.read(rt, text);
+    *held = is_held(&answer);
     match write_all(sink, text.as_slice()) {
         Ok(()) => step_of(answer),
         Err(Failed) => Err(OutletEnd::WriteFault),
     }
+}
+
+// Whether the viewer is to catch up first.
+fn is_held(answer: &Result<ReadAnswer, ReadRefusal>) -> bool {
+    matches!(answer, Ok(ReadAnswer::Hold { .. }))
 }
 
 // Whether the outlet goes on.

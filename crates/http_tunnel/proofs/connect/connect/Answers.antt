@@ -30,7 +30,7 @@ returns-in-Ok-add_tunnel-clause-connected g c =
       (o.0, o.1, c.add_tunnel.ensures.asked ∙ o.2),
       c.in-Ok-open_form.ensures.fresh,
       moved_back g.D.Door.id_of c.in-Ok-open_form.welcome _ _ _ c.in-Ok-open_form.ensures.sessions c.add_tunnel.ensures.sessions,
-      text_added c.in-Ok-open_form.welcome c.of.result c.in-Ok-add_tunnel.id (g.T.Shelf.told c.args.tunnels.now) (g.T.Shelf.told c.add_tunnel.new.tunnels)
+      text_added c.in-Ok-open_form.welcome c.of.result c.in-Ok-add_tunnel.id _ (g.T.Shelf.told c.args.tunnels.now) (g.T.Shelf.told c.add_tunnel.new.tunnels)
           (c.of.ensures ∙ (extended c.extend_from_slice.result c.unwrap.result _ _ _ c.extend_from_slice.ensures.items c.unwrap.ensures c.in-Ok.ensures.items ∙ text)) c.in-Ok-add_tunnel.ensures.added,
     )
 
@@ -41,5 +41,5 @@ returns-in-Err-add_tunnel-clause-connected g c =
       (o.0, o.1, c.add_tunnel.ensures.asked ∙ o.2),
       c.in-Err-add_tunnel.ensures.kind,
       moved_back g.D.Door.id_of c.in-Ok-open_form.welcome _ _ _ c.in-Ok-open_form.ensures.sessions c.add_tunnel.ensures.sessions,
-      text_refused c.in-Ok-open_form.welcome c.in-Err-add_tunnel.refusal (g.T.Shelf.told c.args.tunnels.now) (g.T.Shelf.told c.add_tunnel.new.tunnels) c.in-Err-add_tunnel.ensures.added,
+      text_refused c.in-Ok-open_form.welcome c.in-Err-add_tunnel.refusal _ (g.T.Shelf.told c.args.tunnels.now) (g.T.Shelf.told c.add_tunnel.new.tunnels) c.in-Err-add_tunnel.ensures.added,
     )

@@ -9,7 +9,7 @@ pub returns-in-Ok-clause-wrote : goal.returns-in-Ok-clause-wrote
 returns-in-Ok-clause-wrote g c = let b = c.in-Ok.ensures in body_written _ _ _ _ b.0 _ c.write_wish.result b.1 b.2 c.write_wish.ensures.wrote
 
 pub returns-in-Err-Form-clause-wrote : goal.returns-in-Err-Form-clause-wrote
-returns-in-Err-Form-clause-wrote g c = (refl, inl (refl, no_body _ _ c.in-Err-Form.field-0-is c.in-Err-Form.ensures))
+returns-in-Err-Form-clause-wrote g c = inl (refl, refl, no_body _ _ c.in-Err-Form.field-0-is c.in-Err-Form.ensures)
 
 pub returns-in-Err-NoMemory-clause-wrote : goal.returns-in-Err-NoMemory-clause-wrote
-returns-in-Err-NoMemory-clause-wrote g c = (refl, inr (inl refl))
+returns-in-Err-NoMemory-clause-wrote g c = inr (inl (refl, refl))

@@ -1,6 +1,6 @@
 use Rattle.std.proofs.Common.{◌≡◌, true, false}
 use Rattle.gate_model.specs.session.Laws.{EntriesAreFew}
-use Rattle.shared_desk.proofs.Turns.{counted_entry, counted_value}
+use Rattle.shared_desk.proofs.Turns.{counted_entry, counted_value, ends_sound}
 use Rattle.shared_desk.proofs.calls.end_turn.Goals as goal
 
 pub pass_on-requires-clause-added : goal.pass_on-requires-clause-added
@@ -8,3 +8,6 @@ pass_on-requires-clause-added g c = λ added. counted_entry g.N.Adds.adds _ _ c.
 
 pub pass_on-requires-clause-same : goal.pass_on-requires-clause-same
 pass_on-requires-clause-same g c = λ same. counted_value _ _ c.entries_are_few.ensures (c.requires.same same)
+
+pub returns-clause-sound : goal.returns-clause-sound
+returns-clause-sound g c = ends_sound c.desks_are_whole.ensures g.N.Adds.adds c.args.appended _ _ _ c.pass_on.ensures.added c.pass_on.ensures.same c.requires.same

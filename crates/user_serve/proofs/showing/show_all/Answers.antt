@@ -9,7 +9,7 @@ pub returns-in-Err-clause-ran : goal.returns-in-Err-clause-ran
 returns-in-Err-clause-ran g c =
     let part = c.in-Err.ensures.part in
     let text = c.as_slice.result.now in
-    (take part.0 text, part.2, shown_part _ _ text (take part.0 text) (c.as_slice.ensures ∙ c.requires.fresh) (drop part.0 text, sym (take-append-drop part.0 text)))
+    (take part.0 text, part.2, shown_part _ _ text (take part.0 text) c.history_is_sound.ensures.sound (c.as_slice.ensures ∙ c.requires.fresh) (drop part.0 text, sym (take-append-drop part.0 text)))
 
 pub loop-init : goal.loop-init
 loop-init g c = record { session = refl; viewer = refl; so_far = (c.as_slice.result.now, c.in-Ok.ensures.ok, shown_first _ _ _ (c.as_slice.ensures ∙ c.requires.fresh)); later = c.write_all.ensures.later }

@@ -19,4 +19,4 @@ returns-in-Ok-clause-step g c =
     let d = r.ensures.delivered in
     let text = c.as_slice.result.now in
     let is : text ≡ texts d.0 = c.as_slice.ensures.value ∙ d.2 ∙ ap (λ (bs : List ℕ). bs ++ texts d.0) c.clear.ensures.items in
-    (text, c.in-Ok.ensures.ok, step_as _ _ _ text _ _ c.step_of.ensures (step_ran _ _ _ r.result _ _ r.ensures.gives d.0 d.1 text is))
+    (text, c.in-Ok.ensures.ok, step_as _ _ _ text _ _ c.step_of.ensures (step_ran _ _ _ r.result _ _ r.ensures.gives d.0 d.1 c.history_is_sound.ensures.knows text is))

@@ -3,8 +3,14 @@ use Rattle.guac_handshake.specs.Names.{id_of_name}
 use Rattle.guac_handshake.specs.declared.welcome.Welcome.{Welcome}
 use Rattle.shared_desk.specs.declared.place.Place.{Place}
 use Rattle.service_door.specs.Begun.{IsBegun}
-use Rattle.service_door.proofs.Adding.{added, added_taken, added_told, any_unlent, begun, conflict_told, has_conflict, take_unlent}
+use Rattle.service_door.proofs.Adding.{added, added_taken, added_told, any_unlent, begun, conflict_told, free_memory, has_conflict, take_unlent, untouched}
 use Rattle.service_door.proofs.door.ServiceDoorDoor.open.Goals as goal
+
+pub returns-in_default-with_capacity-clause-refused : goal.returns-in_default-with_capacity-clause-refused
+returns-in_default-with_capacity-clause-refused g c = untouched (g.T.Shelf.told c.args.self.now.sessions.now)
+
+pub returns-in_default-with_capacity-clause-exact : goal.returns-in_default-with_capacity-clause-exact
+returns-in_default-with_capacity-clause-exact g c = free_memory _ (g.T.Shelf.told c.args.self.now.sessions.now) _
 
 pub invariant_of-self-in-Err-add : goal.invariant_of-self-in-Err-add
 invariant_of-self-in-Err-add g c = record { unlent = any_unlent (g.T.Shelf.told c.args.self.now.sessions.now) (g.T.Shelf.told c.add.new.self) c.add.result _ c.args.self.now.unlent c.add.ensures.added c.add.ensures.same }

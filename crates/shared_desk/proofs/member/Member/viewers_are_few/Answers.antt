@@ -6,4 +6,4 @@ use Rattle.shared_desk.specs.Members.{PassState}
 use Rattle.shared_desk.proofs.member.Member.viewers_are_few.Goals as goal
 
 pub returns : goal.returns
-returns c = subst (λ (s : PassState). joined s.view.seen ≤ most_joined) c.self.view_is (bounds_of _ c.self.invariant.1.legal).few_joined
+returns c = subst (λ (s : PassState). joined s.view.seen ≤ most_joined) c.self.view_is (bounds_of _ c.self.invariant.1.sound.legal).few_joined
