@@ -1,0 +1,9 @@
+pub mod Finding
+pub mod Parsed
+pub mod Pasting
+pub mod Rooms
+pub mod Decoding
+pub mod Typing
+pub mod Steps
+pub mod Goings
+pub mod Rows
