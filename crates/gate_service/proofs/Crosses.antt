@@ -1,13 +1,22 @@
--- The job of a connection may go to another thread.
+-- The jobs may go to other threads.
 use mathlib.Core.List.{[], ◌∷◌}
 use mir.Syntax.{Sym}
 use denote.RattleType.{RattleType}
+use denote.Struct.Field.{u64-field}
 use denote.Struct.Tuple.{TupleAt, type_at}
 use denote.Param.Send.{IsSend, IsSync, sendable}
 use denote.Param.SendFields.{declared_send}
 use Rattle.std.proofs.Crossing.{Arc-send, crosses}
+use Rattle.std.proofs.MapsCrossing as maps
 use Rattle.std.specs.contracts.option.Option as option
 use Rattle.std.specs.contracts.sync.Mutex as mutex
+use Rattle.std.specs.contracts.alloc.Global as Heap
+use Rattle.std.specs.contracts.collections.BTreeMap as btree
+use Rattle.std.specs.contracts.impls.GlobalAllocator.TheImpl.{ghosts}
+use Rattle.uuid.specs.contracts.Uuid as uuid
+use Rattle.uuid.specs.contracts.UuidOrd.TheImpl as uuid_ord
+use Rattle.uuid.specs.contracts.UuidPartialEq.TheImpl as uuid_eq
+use Rattle.uuid.specs.contracts.UuidPartialOrd.TheImpl as uuid_partial
 use Rattle.id_table.proofs.Crosses.{locked_send, mutex_send, mutex_sync, option_send}
 use Rattle.http_tunnel.proofs.Crosses.{tunnel_send}
 use Rattle.http_tunnel.specs.contracts.tunnel.Tunnel as tunnel
@@ -16,6 +25,9 @@ use Rattle.service_door.specs.contracts.session.Session as session
 use Rattle.gate_service.specs.contracts.jobs.ConnectionJob as connection
 use Rattle.gate_service.specs.contracts.jobs.Pair as pair
 use Rattle.gate_service.specs.contracts.jobs.RecorderAddress as address
+use Rattle.gate_service.specs.contracts.seen.Seen as seen
+use Rattle.gate_service.specs.contracts.seen.WatchedShelf as watched
+use Rattle.gate_service.specs.contracts.tidying.TidyJob as tidy
 
 -- the ends of a connection, until its job takes them
 pair_send : (S K : RattleType) → IsSend S → IsSend K → IsSend (pair.the_row S K)
@@ -31,6 +43,16 @@ ends_sync S K s k = mutex_sync _ (option_send _ (pair_send S K s k))
 address_send : IsSend address.the_row
 address_send = search (sendable, crosses) depth 20
 
+-- when tunnels were asked for, and the shelf that notes it
+looks_send : IsSend (btree.the_field uuid.the_row u64-field.row Heap.the_row uuid_ord.ghosts uuid_eq.ghosts uuid_partial.ghosts ghosts).row
+looks_send = maps.BTreeMap-send uuid.the_row u64-field.row uuid_ord.ghosts uuid_eq.ghosts uuid_partial.ghosts (search (sendable, crosses) depth 20) (search (sendable, crosses) depth 20)
+
+seen_send : IsSend seen.the_row
+seen_send = declared_send seen.the_type (Arc-send _ (mutex_send _ looks_send) (mutex_sync _ looks_send), tt)
+
+watched_send : IsSend watched.the_row
+watched_send = declared_send watched.the_type (locked_send tunnel.the_row tunnel_send, (option_send seen.the_row seen_send, tt))
+
 pub connection_send : (S K H B L : RattleType) → IsSend S → IsSend K → IsSend H → IsSend B → IsSend L → IsSend (connection.the_row S K H B L)
 connection_send S K H B L s k h b l =
     declared_send (connection.the_type S K H B L) (
@@ -39,8 +61,19 @@ connection_send S K H B L s k h b l =
         Arc-send (mutex.the_row (option.the_row (pair.the_row S K))) (ends_send S K s k) (ends_sync S K s k),
         (
           locked_send session.the_row session_send,
-          (locked_send tunnel.the_row tunnel_send, (field_send H h, (field_send H h, (field_send B b, (option_send address.the_row address_send, (field_send L l, tt)))))),
+          (watched_send, (field_send H h, (field_send H h, (field_send B b, (option_send address.the_row address_send, (field_send L l, tt)))))),
         ),
+      ),
+    )
+
+-- the job that gives up what nobody uses
+pub tidy_send : (H B L : RattleType) → IsSend H → IsSend B → IsSend L → IsSend (tidy.the_row H B L)
+tidy_send H B L h b l =
+    declared_send (tidy.the_type H B L) (
+      search (sendable, crosses),
+      (
+        locked_send session.the_row session_send,
+        (watched_send, (field_send H h, (field_send H h, (field_send B b, (search (sendable, crosses), (search (sendable, crosses), (field_send L l, tt))))))),
       ),
     )
 

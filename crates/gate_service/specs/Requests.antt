@@ -15,11 +15,11 @@ use Rattle.id_table.specs.Maps.{Shelved}
 use Rattle.gate_service.specs.declared.requests.HttpEnd.{HttpEnd}
 use Rattle.gate_service.specs.declared.requests.HttpEnd.TheVariants.{Answered, Ended, ReadFault, WriteFault, NoMemory}
 
--- the response meets the contract of `tunnel_request` for the whole request, by what the door and the shelf of
+-- the response meets the contract of `tunnel_request` for the whole request, by what the door, the dice and the shelf of
 -- tunnels tell before and after the call; the last two facts are the causes of the statuses 502 and 503
-abbrev pub IsAnswer : (List ℕ → Option (List ℕ)) → Option Sessions → Option Sessions → Option (ℕ → List ℕ) → Option (List DoorRequest) → Option (List DoorRequest) → Option ℕ → Option ℕ → Option (Shelved Tunnel) → Option (Shelved Tunnel) → Type 0 → Type 0 → Request → Response → Type 0
-IsAnswer id_of sessions sessions_new draws asked asked_new out out_new told told_new dialed started request response =
-    ((answered : _) × IsResponse answered response × Serves id_of sessions sessions_new draws asked asked_new out out_new told told_new request.body.now answered (route_of request.method request.target.now))
+abbrev pub IsAnswer : (List ℕ → Option (List ℕ)) → Option Sessions → Option Sessions → Option (ℕ → List ℕ) → Option (List DoorRequest) → Option (List DoorRequest) → Option ℕ → Option ℕ → Option (ℕ → List ℕ) → Option (Shelved Tunnel) → Option (Shelved Tunnel) → Type 0 → Type 0 → Request → Response → Type 0
+IsAnswer id_of sessions sessions_new draws asked asked_new out out_new drawn told told_new dialed started request response =
+    ((answered : _) × IsResponse answered response × Serves id_of sessions sessions_new draws asked asked_new out out_new drawn told told_new request.body.now answered (route_of request.method request.target.now))
     × (response.status ≡ 502 → dialed) × (response.status ≡ 503 → started)
 
 -- an empty response with this status and this code

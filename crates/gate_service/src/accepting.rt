@@ -4,11 +4,12 @@ ghost use Rattle.std.specs.Prelude.{◌≡◌, ◌≤◌, IfErr};
 ghost use Rattle.gate_outside.specs.Edge.{Rose};
 
 use crate::jobs::{ConnectionJob, Ends, Pair, RecorderAddress};
-use crate::notes::{note_end, note_refused};
+use crate::notes::{note_end, note_recorder_failed, note_refused, note_untidied};
+use crate::seen::WatchedShelf;
+use crate::tidying::TidyJob;
 use gate_model::{Instr, NoMemory, Text};
 use gate_outside::{Bell, Dialer, Helper, Net, Sink, Spawner, write_all};
 use guac_instr::text_of;
-use http_tunnel::Tunnel;
 use id_table::LockedShelf;
 use log::Log;
 use service_door::{Session, sweep};
@@ -22,7 +23,7 @@ use std::thread::Threads;
 pub(crate) struct Service<H, B, L> {
     pub(crate) alloc: Global,
     pub(crate) sessions: LockedShelf<Session>,
-    pub(crate) tunnels: LockedShelf<Tunnel>,
+    pub(crate) tunnels: WatchedShelf,
     pub(crate) helper: H,
     pub(crate) bell: B,
     pub(crate) recorder: Option<(Text, u16)>,
@@ -48,19 +49,42 @@ where
         let Ok((source, sink)) = net.accept(rt) else {
             return Err(8);
         };
-        self.sweep_all(rt);
+        sweep_all(rt, &self.sessions, &self.log);
         self.serve(rt, source, sink);
         Ok(())
     }
 
-    // Takes all sessions that may leave out of the table.
-    fn sweep_all<R: Wait>(&mut self, rt: &R) {
-        for _ in rt.forever() {
-            let Some((id, mut session)) = sweep(rt, &self.sessions) else {
-                return;
-            };
-            note_end(&self.log, &id, session.newest());
+    /// Starts the job that gives up what nobody uses for so many seconds, of which 0 is never. The job never ends, so a
+    /// spawner has to start it in a thread of its own.
+    pub(crate) fn tidy<R>(&mut self, rt: &R, silence: u32, linger: u32)
+    where
+        R: Threads + Wait + Copy + Send + Sync + 'static,
+    {
+        if silence == 0 && linger == 0 {
+            return;
         }
+        let Ok(job) = self.tidy_job(silence, linger) else {
+            return note_untidied(&self.log);
+        };
+        let inner = *rt;
+        if self.helper.start(rt, move || job.run(&inner)).is_err() {
+            note_untidied(&self.log);
+        }
+    }
+
+    // The job that gives up what nobody uses.
+    fn tidy_job(&mut self, silence: u32, linger: u32) -> Result<TidyJob<H, B, L>, NoMemory> {
+        Ok(TidyJob {
+            alloc: self.alloc,
+            sessions: self.sessions.another(),
+            tunnels: self.tunnels.another()?,
+            helper: self.helper.another(self.alloc)?,
+            dice: self.helper.another(self.alloc)?,
+            bell: self.bell.another(self.alloc)?,
+            silence,
+            linger,
+            log: self.log,
+        })
     }
 
     // Starts the job of a connection. Where it isn't started the connection is sent `error` with 513, and where
@@ -105,13 +129,26 @@ where
             alloc: self.alloc,
             ends: Arc::try_clone(ends)?,
             sessions: self.sessions.another(),
-            tunnels: self.tunnels.another(),
+            tunnels: self.tunnels.another()?,
             helper: self.helper.another(self.alloc)?,
             dice: self.helper.another(self.alloc)?,
             bell: self.bell.another(self.alloc)?,
             recorder: copy_of(self.alloc, &self.recorder)?,
             log: self.log,
         })
+    }
+}
+
+/// Takes all sessions that may leave out of the table.
+pub(crate) fn sweep_all<R: Wait, L: Log>(rt: &R, sessions: &LockedShelf<Session>, log: &L) {
+    for _ in rt.forever() {
+        let Some((id, mut session)) = sweep(rt, sessions) else {
+            return;
+        };
+        if session.take_recorder_failed() {
+            note_recorder_failed(log, &id);
+        }
+        note_end(log, &id, session.newest());
     }
 }
 

@@ -1,11 +1,14 @@
 //! The job of one connection.
 
+use crate::notes::note_foreign;
 use crate::noting::NotingDoor;
+use crate::seen::WatchedShelf;
 use crate::{ConnEnd, Lookahead, connection};
-use gate_model::Text;
-use gate_outside::{Bell, Dice, Helper, Sink, Source};
+use fetch_site::{Front, look};
+use gate_model::{Bytes, NoMemory, Text};
+use gate_outside::{Again, Bell, Dice, Helper, Sink, Source};
 use guac_handshake::Door;
-use http_tunnel::Tunnel;
+use http_front::{Response, write_response};
 use id_table::LockedShelf;
 use log::Log;
 use service_door::{ServiceDoor, Session};
@@ -38,7 +41,7 @@ pub(crate) struct ConnectionJob<S, K, H, B, L> {
     pub(crate) alloc: Global,
     pub(crate) ends: Ends<S, K>,
     pub(crate) sessions: LockedShelf<Session>,
-    pub(crate) tunnels: LockedShelf<Tunnel>,
+    pub(crate) tunnels: WatchedShelf,
     pub(crate) helper: H,
     /// Its dice draw the IDs of tunnels.
     pub(crate) dice: H,
@@ -81,14 +84,27 @@ where
     }
 }
 
-// Serves the connection at the door, finishes it, and gives the place of a visit back to the door.
+// Refuses a request of another site's page, before anything is done for it.
+fn refuse_foreign<K: Sink, L: Log>(alloc: Global, sink: &mut K, log: &L) {
+    note_foreign(log);
+    let response = Response {
+        status: 403,
+        code: 771,
+        body: Bytes::of(Vec::new(alloc)),
+    };
+    let _ = write_response(alloc, sink, &response);
+    sink.finish();
+}
+
+// Serves the connection at the door, finishes it, and gives the place of a visit back to the door. A request that another
+// site's page makes is refused before.
 fn serve_at<R, S, K, D, X, B, L>(
     rt: &R,
     alloc: Global,
     source: S,
     sink: K,
     door: D,
-    tunnels: LockedShelf<Tunnel>,
+    tunnels: WatchedShelf,
     dice: X,
     bell: &B,
     log: L,
@@ -102,8 +118,14 @@ where
     B: Bell + Send,
     L: Log + Copy + Drop,
 {
-    let mut source = Lookahead::new(source);
-    let mut sink = sink;
+    let (mut source, mut sink) = (source, sink);
+    let mut front = Vec::new(alloc);
+    match look(&mut source, &mut front) {
+        Ok(Front::Foreign) => return refuse_foreign(alloc, &mut sink, &log),
+        Ok(Front::Fault) => return sink.finish(),
+        Ok(Front::Other) | Err(NoMemory) => {}
+    }
+    let mut source = Lookahead::new(Again::new(Bytes::of(front), source));
     let mut door = NotingDoor { door, log };
     let (mut tunnels, mut dice) = (tunnels, dice);
     let end = connection(

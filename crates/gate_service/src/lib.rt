@@ -14,7 +14,9 @@ mod noting;
 mod program;
 mod requests;
 mod routing;
+mod seen;
 mod service;
+mod tidying;
 
 pub use lookahead::Lookahead;
 pub use program::{Host, top};

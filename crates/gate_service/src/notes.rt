@@ -18,6 +18,14 @@ pub(crate) fn note_unrecorded<L: Log>(log: &L, name: &str) {
     warn!(log; "session {} isn't recorded, since its recorder couldn't be had", short(name));
 }
 
+/// The recorder of a session has ended before it.
+pub(crate) fn note_recorder_failed<L: Log>(log: &L, id: &Uuid) {
+    let mut buffer = Uuid::encode_buffer();
+    let digits = id.hyphenated().encode_lower(&mut buffer);
+    let first = digits.get(..8).unwrap_or("");
+    warn!(log; "session ${first} isn't recorded any more: its recorder has gone, takes nothing, or memory was wanting");
+}
+
 /// A job of a session couldn't be started: its recorder's, or one without which it is taken back.
 pub(crate) fn note_unstarted<L: Log>(log: &L) {
     warn!(log; "a job of a session couldn't be started");
@@ -31,6 +39,47 @@ pub(crate) fn note_undone<L: Log>(log: &L, name: &str) {
 /// A viewer has left the session of this name.
 pub(crate) fn note_visit<L: Log>(log: &L, name: &str) {
     info!(log; "a viewer of session {} has left", short(name));
+}
+
+/// The host and the port of the session of this name were dialed.
+pub(crate) fn note_dialed<L: Log>(log: &L, name: &str, host: &str, port: u16) {
+    info!(log; "session {} dialed {host:?}, port {port}", short(name));
+}
+
+/// The host and the port couldn't be dialed, or may not be.
+pub(crate) fn note_undialed<L: Log>(log: &L, host: &str, port: u16) {
+    warn!(log; "{host:?}, port {port}, couldn't be dialed");
+}
+
+/// A session is closed, since nobody has been in it for as long as it may.
+pub(crate) fn note_deserted<L: Log>(log: &L, id: &Uuid) {
+    let mut buffer = Uuid::encode_buffer();
+    let digits = id.hyphenated().encode_lower(&mut buffer);
+    let first = digits.get(..8).unwrap_or("");
+    info!(log; "session ${first} is closed, since nobody was in it");
+}
+
+/// A session is closed, since more waits for its host than may.
+pub(crate) fn note_backlogged<L: Log>(log: &L, id: &Uuid) {
+    let mut buffer = Uuid::encode_buffer();
+    let digits = id.hyphenated().encode_lower(&mut buffer);
+    let first = digits.get(..8).unwrap_or("");
+    warn!(log; "session ${first} is closed, since its host takes nothing of what waits for it");
+}
+
+/// A tunnel was removed that nobody asked for as long as it may.
+pub(crate) fn note_silent<L: Log>(log: &L) {
+    info!(log; "a tunnel without requests was removed");
+}
+
+/// Another site's page asked.
+pub(crate) fn note_foreign<L: Log>(log: &L) {
+    warn!(log; "a request of another site's page was refused with 403");
+}
+
+/// The job that gives up what nobody uses couldn't be started.
+pub(crate) fn note_untidied<L: Log>(log: &L) {
+    warn!(log; "nothing that is silent is given up, since the job for it couldn't be started");
 }
 
 /// A session has left the table, with so many entries.

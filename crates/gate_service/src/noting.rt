@@ -2,7 +2,10 @@
 
 ghost use Rattle.std.specs.Prelude.{Option};
 
-use crate::notes::{note_begun, note_undone, note_unrecorded, note_unstarted, note_visit};
+use crate::notes::{
+    note_begun, note_dialed, note_undialed, note_undone, note_unrecorded, note_unstarted,
+    note_visit,
+};
 use gate_model::{Asked, Text};
 use gate_outside::{Counted, Way};
 use guac_handshake::{Ask, Begun, Door, Recorder, Refused, Welcome};
@@ -56,8 +59,14 @@ impl<D: Door, L: Log + Drop> Door for NotingDoor<D, L> {
         ask: &Ask,
     ) -> Result<Begun<D::Place, D::Pump, D::Sending, D::Recording>, Refused> {
         let opened = self.door.open(rt, alloc, ask);
-        if let Ok(begun) = &opened {
-            note_opened(&self.log, begun.welcome.id.as_str(), &begun.recorder);
+        match &opened {
+            Ok(begun) => {
+                let name = begun.welcome.id.as_str();
+                note_opened(&self.log, name, &begun.recorder);
+                note_dialed(&self.log, name, ask.host.as_str(), ask.port);
+            }
+            Err(Refused::Dial) => note_undialed(&self.log, ask.host.as_str(), ask.port),
+            Err(_) => {}
         }
         opened
     }

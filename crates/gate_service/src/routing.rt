@@ -69,7 +69,7 @@ where
     requires { AreHome (T.told tunnels.old) }
     ensures home { AreHome (T.told tunnels.new) }
     ensures ran { (read : List ℕ) × (written : List ℕ) × (left_of S.left source.old ≡ came read (left_of S.left source.new)) × (K.written sink.new ≡ gained (K.written sink.old) written) ×
-        ConnRun (IsDue (IsAnswer D.id_of (D.sessions door.old) (D.sessions door.new) (D.draws door.old) (D.asked door.old) (D.asked door.new) (D.out door.old) (D.out door.new) (T.told tunnels.old) (T.told tunnels.new) (Rose (D.dial_faults door.old) (D.dial_faults door.new)) (Rose (D.start_faults door.old) (D.start_faults door.new))) ((door.new ≡ door.old) × (tunnels.new ≡ tunnels.old) × (dice.new ≡ dice.old)))
+        ConnRun (IsDue (IsAnswer D.id_of (D.sessions door.old) (D.sessions door.new) (D.draws door.old) (D.asked door.old) (D.asked door.new) (D.out door.old) (D.out door.new) (X.draws dice.old) (T.told tunnels.old) (T.told tunnels.new) (Rose (D.dial_faults door.old) (D.dial_faults door.new)) (Rose (D.start_faults door.old) (D.start_faults door.new))) ((door.new ≡ door.old) × (tunnels.new ≡ tunnels.old) × (dice.new ≡ dice.old)))
         (left_of S.left source.old) (left_of S.left source.new) result read written }
     ensures read_fault { result ≡ ends.ReadFault → Rose (S.faults (source_of source.old)) (S.faults (source_of source.new)) }
     ensures untouched { IfUnserved result ((sink.new ≡ sink.old) × (door.new ≡ door.old) × (tunnels.new ≡ tunnels.old) × (dice.new ≡ dice.old)) }

@@ -6,6 +6,8 @@ ghost use Rattle.serve_words.specs.Given.{options_given};
 
 use crate::accepting::Service;
 use crate::notes::note_listening;
+use crate::seen::{Seen, WatchedShelf};
+use gate_model::NoMemory;
 use gate_outside::{DialFault, Net};
 use id_table::LockedShelf;
 use log::sink::Console;
@@ -62,18 +64,30 @@ where
     let Ok(bell) = net.bell(alloc) else {
         return 6;
     };
+    let Ok(seen) = seen_for(alloc, options.silence) else {
+        return 6;
+    };
     let log = Logged::new(*rt, options.level, Console(*rt));
     note_listening(&log, options.port);
     let mut service = Service {
         alloc,
         sessions,
-        tunnels,
+        tunnels: WatchedShelf { tunnels, seen },
         helper,
         bell,
         recorder: options.recorder,
         log,
     };
+    service.tidy(rt, options.silence, options.linger);
     accept_all(rt, &mut service, net)
+}
+
+// Where it is noted when tunnels are asked for, if silent ones are given up.
+fn seen_for(alloc: Global, silence: u32) -> Result<Option<Seen>, NoMemory> {
+    if silence == 0 {
+        return Ok(None);
+    }
+    Ok(Some(Seen::new(alloc)?))
 }
 
 // Accepts until that fails.

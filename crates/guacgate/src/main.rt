@@ -9,14 +9,22 @@
 ghost use Rattle.std.specs.Prelude.{◌≡◌, ◌≢◌, ◌⊎◌, map, option_map, string_bytes, IfErr, OnOk, OnErr};
 ghost use Rattle.guacgate.specs.Words.{asks_of_serve, text_asked, text_of};
 
-use gate_outside::{Failed, StdSink, StdSource, write_all};
+use ending::{ended, look_after};
+use gate_outside::{Failed, Sink, StdSink, StdSource, write_all};
 use gate_service::{Host, top};
-use real_ends::TcpNet;
-use std::env;
+use limits::serve_options;
+use real_ends::{Limits, TcpNet, Watch};
+use saying::{say, say_end};
 use std::env::VarError;
 use std::io::ErrorKind;
 use std::net::{IpAddr, Ipv4Addr};
 use std::process::ExitCode;
+use std::{env, thread};
+
+mod ending;
+mod limits;
+mod saying;
+mod seed;
 
 const VERSION: &str = "guacgate 0.1.0\n";
 
@@ -25,7 +33,11 @@ const HELP: &str = "guacgate shows a Telnet session as instructions of the Guaca
 usage: guacgate draw COLS ROWS < BYTES
        guacgate script [ENTRIES] < LINES
        guacgate load SEED ROUNDS
-       guacgate serve --seed HEX [--port PORT] [--log LEVEL]
+       guacgate play info < RECORDING
+       guacgate play at STAMP < RECORDING
+       guacgate play keys < BYTES
+       guacgate serve --seed HEX [--port PORT] [--log LEVEL] [--allow HOST:PORT]
+                      [--silence SECONDS] [--linger SECONDS]
 
 draw    draws what a Telnet host sent, read from standard input, on a screen of COLS columns (1 to
         512) and ROWS rows (1 to 256), at most 8192 cells
@@ -33,14 +45,17 @@ script  does the lines of a script, as start 80 24 none, join owner, server 4869
         session may have ENTRIES entries (1 to 2^40, 2^40 where none is given)
 load    does ROUNDS rounds (0 to 1000000) of lines that words drawn under SEED (0 to 2^64 - 1) make,
         and tells seven totals; it reads nothing
+play    tells of a recording its syncs, or what it shows at a stamp (0 to 2^64 - 1), and of what a client
+        sent the keys; there are no frames
 serve   serves viewers, by the Guacamole protocol and over HTTP, on a port of this machine, 4822
-        where none is given; serve --help tells more
+        where none is given; the seed is read from standard input where it is -; serve --help tells
+        more
 
 The answers go to standard output, the instructions that each frame has, and those that a viewer is
 given, to standard error.
 
 status: 0 done, 2 faulty words, 3 a line of the script is outside the grammar, 4 reading failed, 5
-writing failed, 6 no memory, 7 the session is full, 8 the port can't be listened on
+writing failed, 6 no memory, 7 the session is full, 8 the port can't be listened on, 10 what is played has a fault
 ";
 
 fn main(rt: HostRuntime) -> ExitCode {
@@ -49,26 +64,81 @@ fn main(rt: HostRuntime) -> ExitCode {
         Err(status) => return ExitCode::from(status),
     };
     let mut output = StdSink::new(rt.stdout());
-    if let Some(text) = asked(&words) {
-        return ExitCode::from(told(write_all(&mut output, text.as_bytes())));
+    if let Some(status) = tell(&rt, &words, &mut output) {
+        return ExitCode::from(status);
     }
-    if asks_of_serve(&words) {
-        return ExitCode::from(match serve_words::help(rt.alloc()) {
-            Ok(text) => told(write_all(&mut output, text.as_bytes())),
-            Err(_) => 6,
-        });
-    }
-    let address = match address(&rt) {
-        Ok(address) => address,
-        Err(status) => return ExitCode::from(status),
+    let (words, ends) = match prepare(&rt, words) {
+        Ok(prepared) => prepared,
+        Err(status) => {
+            say_end(&rt, status);
+            return ExitCode::from(status);
+        }
     };
+    let Ends {
+        address,
+        limits,
+        watch,
+        of_net,
+        of_job,
+    } = ends;
     let mut host = Host {
         source: StdSource::new(rt.reader()),
         answers: output,
         frames: StdSink::new(rt.stderr()),
-        net: TcpNet::new(rt, address),
+        net: TcpNet::within(rt, address, limits, of_net),
     };
-    ExitCode::from(top(&rt, rt.alloc(), &words, &mut host))
+    let serves = serve_options(&words).is_some();
+    if serves {
+        let _ = thread::spawn(&rt, move || look_after(&rt, &of_job));
+    }
+    let status = top(&rt, rt.alloc(), &words, &mut host);
+    ExitCode::from(ended(&rt, status, serves, &watch))
+}
+
+// Tells the text that the words ask for, if they ask for one: the status then.
+fn tell<K: Sink>(rt: &HostRuntime, words: &[String], output: &mut K) -> Option<u8> {
+    if let Some(text) = asked(words) {
+        return Some(told(write_all(output, text.as_bytes())));
+    }
+    if !asks_of_serve(words) {
+        return None;
+    }
+    match serve_words::help(rt.alloc()) {
+        Ok(text) => Some(told(write_all(output, text.as_bytes()))),
+        Err(_) => Some(6),
+    }
+}
+
+// What the net of a service is made of: where it listens, within which limits, and what is seen of it, here, by the net
+// and by the job that looks after it.
+#[derive(Drop)]
+struct Ends {
+    address: IpAddr,
+    limits: Limits,
+    watch: Watch,
+    of_net: Watch,
+    of_job: Watch,
+}
+
+// The words with their seed, and what the net is made of.
+fn prepare(rt: &HostRuntime, words: Vec<String>) -> Result<(Vec<String>, Ends), u8> {
+    let words = seed::read_in(rt, words)?;
+    let address = address(rt)?;
+    let limits = limits::limits_of(rt, &words)?;
+    let Ok(watch) = Watch::new(rt.alloc()) else {
+        return Err(6);
+    };
+    let (Ok(of_net), Ok(of_job)) = (watch.another(), watch.another()) else {
+        return Err(6);
+    };
+    let ends = Ends {
+        address,
+        limits,
+        watch,
+        of_net,
+        of_job,
+    };
+    Ok((words, ends))
 }
 
 // Where `serve` listens: at the address that the environment names, else on this machine alone.
@@ -76,10 +146,23 @@ fn address(rt: &HostRuntime) -> Result<IpAddr, u8>
     ensures status { IfErr result (λ status. (status ≡ 2) ⊎ (status ≡ 6)) }
 {
     match env::var(rt, "GUACGATE_ADDRESS") {
-        Ok(text) => text.as_str().parse::<IpAddr>().map_err(|_| 2),
+        Ok(text) => address_in(rt, text.as_str()),
         Err(VarError::NotPresent) => Ok(IpAddr::V4(Ipv4Addr::LOCALHOST)),
-        Err(VarError::NotUnicode) => Err(2),
+        Err(VarError::NotUnicode) => address_in(rt, "\u{FFFD}"),
         Err(VarError::OutOfMemory) => Err(6),
+    }
+}
+
+// The address of the text. What is none is told.
+fn address_in(rt: &HostRuntime, text: &str) -> Result<IpAddr, u8>
+    ensures status { IfErr result (λ status. (status ≡ 2) ⊎ (status ≡ 6)) }
+{
+    match text.parse::<IpAddr>() {
+        Ok(address) => Ok(address),
+        Err(_) => {
+            say(rt, "error: GUACGATE_ADDRESS is no IP address");
+            Err(2)
+        }
     }
 }
 

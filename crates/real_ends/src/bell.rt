@@ -6,12 +6,13 @@ use std::alloc::Global;
 use std::sync::atomic::AtomicU64;
 use std::sync::atomic::Ordering::SeqCst;
 use std::sync::{Arc, Wait};
+use wake_spot::{Spot, Spots};
 
 /// A bell that threads sleep on. Each remembers the rings that it has answered, so that a ring between a look
 /// at the session and a wait isn't missed (this project's own; tests show it).
 #[derive(Drop)]
 pub struct ParkBell {
-    rings: Arc<AtomicU64, Global>,
+    rings: Arc<Spot, Global>,
     answered: AtomicU64,
 }
 
@@ -19,7 +20,7 @@ impl ParkBell {
     /// A bell that wasn't rung.
     pub fn new(alloc: Global) -> Result<ParkBell, NoMemory> {
         Ok(ParkBell {
-            rings: Arc::new(alloc, AtomicU64::new(0))?,
+            rings: Arc::new(alloc, Spot::new())?,
             answered: AtomicU64::new(0),
         })
     }
@@ -27,17 +28,16 @@ impl ParkBell {
 
 impl Bell for ParkBell {
     fn ring(&self) {
-        self.rings.fetch_add(1, SeqCst);
-        self.rings.wake_all();
+        self.rings.ring();
     }
 
     fn wait<R: Wait>(&self, rt: &R) {
         for _ in rt.forever() {
-            let rings = self.rings.load(SeqCst);
+            let rings = self.rings.rings();
             if self.answered.swap(rings, SeqCst) != rings {
                 return;
             }
-            self.rings.park(rt, (rings & 0xffff_ffff) as u32);
+            self.rings.wait(rt, rings);
         }
     }
 
@@ -45,7 +45,19 @@ impl Bell for ParkBell {
         Ok(ParkBell {
             rings: Arc::try_clone(&self.rings)?,
             // What was rung so far is old to whoever begins to look now.
-            answered: AtomicU64::new(self.rings.load(SeqCst)),
+            answered: AtomicU64::new(self.rings.rings()),
         })
+    }
+
+    fn ring_at(&self, spot: &Spot) {
+        spot.ring();
+    }
+
+    fn ring_all(&self, spots: &Spots) {
+        spots.ring_all();
+    }
+
+    fn wait_at<R: Wait>(&self, rt: &R, spot: &Spot, seen: u64) {
+        spot.wait(rt, seen);
     }
 }

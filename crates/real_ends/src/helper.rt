@@ -2,53 +2,23 @@
 
 ghost use Rattle.std.specs.Prelude.{None};
 
+use crate::common::Common;
+use crate::connection::TcpEnd;
 use crate::sink::TcpSink;
 use crate::{ChaChaDice, CountClock, TcpDialer, ThreadSpawner};
 use gate_model::NoMemory;
 use gate_outside::{Clock, Counted, DialFault, Dialer, Dice, Helper, Spawner, StdSource, Way};
 use std::alloc::Global;
-use std::net;
 use std::net::{TcpListener, TcpStream};
-use std::sync::Arc;
-use std::sync::atomic::AtomicU64;
-use std::sync::atomic::Ordering::SeqCst;
-
-// What the helpers of one net have in common: the seed of their dice, and how many were made.
-#[derive(Drop)]
-pub(crate) struct Streams {
-    pub(crate) seed: [u8; 32],
-    pub(crate) made: Arc<AtomicU64, Global>,
-}
-
-impl Streams {
-    // Those of a net that listens.
-    pub(crate) fn new(alloc: Global, seed: [u8; 32]) -> Result<Streams, NoMemory> {
-        Ok(Streams {
-            seed,
-            made: Arc::new(alloc, AtomicU64::new(0))?,
-        })
-    }
-
-    // The same once more.
-    pub(crate) fn share(&self) -> Result<Streams, NoMemory> {
-        Ok(Streams {
-            seed: self.seed,
-            made: Arc::try_clone(&self.made)?,
-        })
-    }
-
-    // Dice with the next stream.
-    fn dice(&self) -> ChaChaDice {
-        ChaChaDice::new(self.seed, self.made.fetch_add(1, SeqCst))
-    }
-}
+use std::sync::{Arc, Wait};
+use std::{net, time};
 
 /// A helper that dials by TCP and starts threads. The dice of the helpers of one net have the streams 0, 1, 2
 /// and so on of its seed, in the order in which they are made.
 #[derive(Drop)]
 pub struct TcpHelper<R> {
     rt: R,
-    streams: Streams,
+    common: Arc<Common, Global>,
     dialer: TcpDialer<R>,
     spawner: ThreadSpawner,
     clock: CountClock,
@@ -56,16 +26,18 @@ pub struct TcpHelper<R> {
 }
 
 impl<R: Copy> TcpHelper<R> {
-    pub(crate) fn new(rt: R, streams: Streams) -> TcpHelper<R> {
-        let dice = streams.dice();
-        TcpHelper {
+    pub(crate) fn new(rt: R, common: &Arc<Common, Global>) -> Result<TcpHelper<R>, NoMemory> {
+        let dialer = TcpDialer::new(rt, Arc::try_clone(common)?);
+        let common = Arc::try_clone(common)?;
+        let dice = common.dice();
+        Ok(TcpHelper {
             rt,
-            streams,
-            dialer: TcpDialer::new(rt),
+            common,
+            dialer,
             spawner: ThreadSpawner::new(),
             clock: CountClock::new(),
             dice,
-        }
+        })
     }
 }
 
@@ -77,8 +49,16 @@ impl<R: Drop> Counted for TcpHelper<R> {
     ghost draws = { λ _. None };
 }
 
-impl<R: net::Net<Listener = TcpListener, Stream = TcpStream> + Drop> Dialer for TcpHelper<R> {
-    type Input = StdSource<TcpStream>;
+impl<
+    R: net::Net<Listener = TcpListener, Stream = TcpStream>
+        + time::Clock
+        + Wait
+        + Copy
+        + Send
+        + Drop
+        + 'static,
+> Dialer for TcpHelper<R> {
+    type Input = StdSource<TcpEnd<R>>;
 
     type Output = TcpSink;
 
@@ -87,7 +67,7 @@ impl<R: net::Net<Listener = TcpListener, Stream = TcpStream> + Drop> Dialer for 
         alloc: Global,
         host: &str,
         port: u16,
-    ) -> Result<(StdSource<TcpStream>, TcpSink), DialFault> {
+    ) -> Result<(StdSource<TcpEnd<R>>, TcpSink), DialFault> {
         self.dialer.dial(alloc, host, port)
     }
 }
@@ -116,9 +96,16 @@ impl<R: Drop> Dice for TcpHelper<R> {
     }
 }
 
-impl<R: net::Net<Listener = TcpListener, Stream = TcpStream> + Copy + Send + Drop + 'static> Helper
-    for TcpHelper<R> {
+impl<
+    R: net::Net<Listener = TcpListener, Stream = TcpStream>
+        + time::Clock
+        + Wait
+        + Copy
+        + Send
+        + Drop
+        + 'static,
+> Helper for TcpHelper<R> {
     fn another(&mut self, _alloc: Global) -> Result<TcpHelper<R>, NoMemory> {
-        Ok(TcpHelper::new(self.rt, self.streams.share()?))
+        TcpHelper::new(self.rt, &self.common)
     }
 }

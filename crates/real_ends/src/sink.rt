@@ -2,21 +2,41 @@
 
 ghost use Rattle.std.specs.Prelude.{◌≡◌, None};
 
-use gate_outside::{Failed, Sink, StdSource};
+use crate::connection::Connection;
+use gate_outside::{Failed, Sink};
+use std::alloc::Global;
 use std::io::Write;
-use std::net::{Shutdown, TcpStream};
+use std::net::Shutdown;
+use std::sync::Arc;
+use std::sync::atomic::Ordering::SeqCst;
+
+/// How `ready` begins, with which a greeting is over (the Guacamole protocol's handshake).
+const READY: &[u8] = b"5.ready,";
 
 /// A sink over a TCP connection. It tells nothing of what was written. Where it is finished or dropped, the
 /// connection is shut down both ways, so that a read that waits on its other end returns.
 pub struct TcpSink {
-    stream: TcpStream,
+    connection: Arc<Connection, Global>,
     faults: u64,
+}
+
+impl TcpSink {
+    // The sink of a connection.
+    pub(crate) fn new(connection: Arc<Connection, Global>) -> TcpSink {
+        TcpSink {
+            connection,
+            faults: 0,
+        }
+    }
 }
 
 impl Drop for TcpSink {
     fn drop(self) {
-        let TcpSink { stream, faults: _ } = self;
-        let _ = stream.shutdown(Shutdown::Both);
+        let TcpSink {
+            connection,
+            faults: _,
+        } = self;
+        let _ = connection.stream.shutdown(Shutdown::Both);
     }
 }
 
@@ -26,7 +46,11 @@ impl Sink for TcpSink {
     ghost faults = { λ s. s.faults };
 
     fn write(&mut self, piece: &[u8]) -> Result<usize, Failed> {
-        match self.stream.write(piece) {
+        // The real end isn't told that a greeting is over: it sees it by the answer.
+        if piece.starts_with(READY) {
+            self.connection.settled.store(true, SeqCst);
+        }
+        match (&self.connection.stream).write(piece) {
             Ok(n) if n > 0 => Ok(n),
             _ => {
                 self.faults = self.faults.saturating_add(1);
@@ -36,17 +60,6 @@ impl Sink for TcpSink {
     }
 
     fn finish(&mut self) {
-        let _ = self.stream.shutdown(Shutdown::Both);
+        let _ = self.connection.stream.shutdown(Shutdown::Both);
     }
-}
-
-// The two ends of a connection, each for a thread of its own. What is written goes out at once.
-pub(crate) fn ends(stream: TcpStream) -> Option<(StdSource<TcpStream>, TcpSink)> {
-    stream.set_nodelay(true).ok()?;
-    let other = stream.try_clone().ok()?;
-    let sink = TcpSink {
-        stream: other,
-        faults: 0,
-    };
-    Some((StdSource::new(stream), sink))
 }

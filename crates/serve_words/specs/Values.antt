@@ -1,5 +1,5 @@
 -- The forms of the values of the options of `serve` (this project's own).
-use Rattle.std.specs.Prelude.{ℕ, List, length, ◌==◌, if◌then◌else◌, Option, Some, None, codes, bytes_eq, option_and_then}
+use Rattle.std.specs.Prelude.{ℕ, List, [], ◌∷◌, length, ◌==◌, if◌then◌else◌, Option, Some, None, codes, bytes_eq, option_and_then}
 use Rattle.std.specs.Option.{option_map}
 use Rattle.std.specs.Path.{rsplit_once}
 use Rattle.std.specs.Result.{result_ok}
@@ -35,6 +35,26 @@ address_in parts = if length parts.0 == 0 then None else option_map (λ port. (p
 -- they stand round its last colon
 abbrev pub address_of : List ℕ → Option Address
 address_of text = option_and_then address_in (rsplit_once 0x3A text)
+
+-- seconds are a number from 0 to 1,000,000
+abbrev pub seconds_of : List ℕ → Option ℕ
+seconds_of text = number_within 0 1000000 text
+
+-- one address more, where it and the others are there
+abbrev pub and_more : Option Address → Option (List Address) → Option (List Address)
+and_more None more = None
+and_more (Some first) None = None
+and_more (Some first) (Some more) = Some (first ∷ more)
+
+-- the addresses of texts, each of which is that of one
+abbrev pub addresses_of : List (List ℕ) → Option (List Address)
+addresses_of [] = Some []
+addresses_of (text ∷ texts) = and_more (address_of text) (addresses_of texts)
+
+-- what alone may be dialed; without the option all may
+abbrev pub allowed_of : Option (List (List ℕ)) → Option (Option (List Address))
+allowed_of None = Some None
+allowed_of (Some texts) = option_map (λ addresses. Some addresses) (addresses_of texts)
 
 -- the recorder that an option names; without the option none is wanted
 abbrev pub recorder_of : Option (List ℕ) → Option (Option Address)

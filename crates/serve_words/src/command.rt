@@ -4,7 +4,7 @@ ghost use Rattle.std.specs.Prelude.{◌≡◌, IfOk};
 ghost use Rattle.clap.specs.Words.{app_of};
 ghost use Rattle.serve_words.specs.Given.{serve_command};
 
-use clap::{Arg, Command};
+use clap::{Arg, ArgAction, Command};
 use gate_model::NoMemory;
 use std::alloc::{AllocError, Global};
 
@@ -31,12 +31,34 @@ pub(crate) fn serve_command<'a>(alloc: Global) -> Result<Command<'a>, AllocError
         .default_value("warn")
         .value_name("LEVEL")
         .help("how much is noted on standard error: error, warn or info");
+    let allow = Arg::new(alloc, "allow")
+        .long("allow")
+        .action(ArgAction::Append)
+        .value_name("HOST:PORT")
+        .help(
+            "what alone may be dialed, once for each: a name, an address, a prefix as 10.0.0.0/8, or *",
+        );
+    let silence = Arg::new(alloc, "silence")
+        .long("silence")
+        .default_value("0")
+        .value_name("SECONDS")
+        .help(
+            "after how long a viewer or a host is given up that sends or takes nothing; 0 is never",
+        );
+    let linger = Arg::new(alloc, "linger")
+        .long("linger")
+        .default_value("0")
+        .value_name("SECONDS")
+        .help("after how long a session without viewers is closed; 0 is never");
     Command::new(alloc, "guacgate serve")
         .no_binary_name(true)
         .arg(seed)?
         .arg(port)?
         .arg(recorder)?
-        .arg(level)
+        .arg(level)?
+        .arg(allow)?
+        .arg(silence)?
+        .arg(linger)
 }
 
 /// What `serve --help` tells.

@@ -1,13 +1,14 @@
 //! The options.
 
-ghost use Rattle.std.specs.Prelude.{◌≡◌, ◌≢◌, ◌≤◌, Err, IfOk, None, Some, map, option_map, option_and_then, string_bytes};
+ghost use Rattle.std.specs.Prelude.{◌≡◌, ◌≢◌, ◌≤◌, Err, IfOk, None, Option, Some, map, option_map, option_and_then, string_bytes};
 ghost use Rattle.clap.specs.Words.{kind_of};
-ghost use Rattle.serve_words.specs.Given.{all_four, options_given};
+ghost use Rattle.serve_words.specs.Given.{all_given, options_given};
 ghost use Rattle.serve_words.specs.Values as value;
 ghost use Rattle.serve_words.specs.declared.options.WordsFault.TheVariants.{NoMemory as no_memory, Usage as usage};
 
+use crate::allowed::{Allowed, allowed_in};
 use crate::command::serve_command;
-use crate::values::{address_of, level_of, port_of, seed_of};
+use crate::values::{address_of, level_of, port_of, seconds_of, seed_of};
 use clap::Error;
 use clap::error::ErrorKind;
 use gate_model::Text;
@@ -15,13 +16,18 @@ use log::LevelFilter;
 use std::alloc::{AllocError, Global};
 
 /// How a service runs: the seed under which its dice draw IDs, the port that it listens on, 1 to 65,535, the host
-/// and the port of the recorder of its sessions, where one is wanted, and how much it notes.
+/// and the port of the recorder of its sessions, where one is wanted, how much it notes, which hosts and ports alone
+/// may be dialed, where not all may, after how many seconds a viewer or a host is given up that sends or takes nothing,
+/// and after how many a session without viewers is closed, of which 0 is never.
 #[derive(Drop)]
 pub struct Options {
     pub seed: [u8; 32],
     pub port: u16,
     pub recorder: Option<(Text, u16)>,
     pub level: LevelFilter,
+    pub allow: Option<Allowed>,
+    pub silence: u32,
+    pub linger: u32,
 }
 
 /// Why the words give no options.
@@ -43,8 +49,9 @@ impl From<AllocError> for WordsFault {
 
 /// The options that the words after `serve` give: `--seed HEX` of 64 hexadecimal digits, which has to be there,
 /// `--port P` of 1 to 20 decimal digits, 1 to 65,535, else 4822, `--recorder HOST:PORT` with a host that isn't empty
-/// and such a port behind the last colon, else none, and `--log` with `error`, `warn` or `info`, else `warn`. Usage
-/// comes exactly where the words give none, but for want of memory.
+/// and such a port behind the last colon, else none, `--log` with `error`, `warn` or `info`, else `warn`, `--allow
+/// HOST:PORT` of the same form, any number of times, else all may be dialed, and `--silence SECONDS` and `--linger
+/// SECONDS` of 0 to 1,000,000, else 0. Usage comes exactly where the words give none, but for want of memory.
 pub fn options_of(alloc: Global, words: &[String]) -> Result<Options, WordsFault>
     ensures given { IfOk result (λ options. options_given (map string_bytes words.now) ≡ Some options) }
     ensures usage { result ≡ Err usage → options_given (map string_bytes words.now) ≡ None }
@@ -57,19 +64,25 @@ pub fn options_of(alloc: Global, words: &[String]) -> Result<Options, WordsFault
     let port = matches.get_str("port");
     let recorder = matches.get_str("recorder");
     let level = matches.get_str("log");
-    read(alloc, seed, port, recorder, level)
+    let allow = matches.get_strs("allow");
+    let silence = matches.get_str("silence");
+    let linger = matches.get_str("linger");
+    read(alloc, seed, port, recorder, level, allow, silence, linger)
 }
 
-// The options of four texts.
+// The options of the texts.
 fn read(
     alloc: Global,
     seed: Option<&str>,
     port: Option<&str>,
     recorder: Option<&str>,
     level: Option<&str>,
+    allow: Option<&[&str]>,
+    silence: Option<&str>,
+    linger: Option<&str>,
 ) -> Result<Options, WordsFault>
-    ensures given { IfOk result (λ options. all_four (option_and_then value.seed_of (option_map (λ s. s.now) seed.entry)) (option_and_then value.port_of (option_map (λ s. s.now) port.entry)) (value.recorder_of (option_map (λ s. s.now) recorder.entry)) (option_and_then value.level_of (option_map (λ s. s.now) level.entry)) ≡ Some options) }
-    ensures usage { result ≡ Err usage → all_four (option_and_then value.seed_of (option_map (λ s. s.now) seed.entry)) (option_and_then value.port_of (option_map (λ s. s.now) port.entry)) (value.recorder_of (option_map (λ s. s.now) recorder.entry)) (option_and_then value.level_of (option_map (λ s. s.now) level.entry)) ≡ None }
+    ensures given { IfOk result (λ options. all_given (option_and_then value.seed_of (option_map (λ s. s.now) seed.entry)) (option_and_then value.port_of (option_map (λ s. s.now) port.entry)) (value.recorder_of (option_map (λ s. s.now) recorder.entry)) (option_and_then value.level_of (option_map (λ s. s.now) level.entry)) (value.allowed_of (option_map (λ l. map (λ s. s.now) l.now) allow.entry)) (option_and_then value.seconds_of (option_map (λ s. s.now) silence.entry)) (option_and_then value.seconds_of (option_map (λ s. s.now) linger.entry)) ≡ Some options) }
+    ensures usage { result ≡ Err usage → all_given (option_and_then value.seed_of (option_map (λ s. s.now) seed.entry)) (option_and_then value.port_of (option_map (λ s. s.now) port.entry)) (value.recorder_of (option_map (λ s. s.now) recorder.entry)) (option_and_then value.level_of (option_map (λ s. s.now) level.entry)) (value.allowed_of (option_map (λ l. map (λ s. s.now) l.now) allow.entry)) (option_and_then value.seconds_of (option_map (λ s. s.now) silence.entry)) (option_and_then value.seconds_of (option_map (λ s. s.now) linger.entry)) ≡ None }
 {
     let Some(seed) = seed.and_then(seed_of) else {
         return Err(WordsFault::Usage);
@@ -81,11 +94,21 @@ fn read(
     let Some(level) = level.and_then(level_of) else {
         return Err(WordsFault::Usage);
     };
+    let allow = allowed_in(alloc, allow)?;
+    let Some(silence) = silence.and_then(seconds_of) else {
+        return Err(WordsFault::Usage);
+    };
+    let Some(linger) = linger.and_then(seconds_of) else {
+        return Err(WordsFault::Usage);
+    };
     Ok(Options {
         seed,
         port,
         recorder,
         level,
+        allow,
+        silence,
+        linger,
     })
 }
 

@@ -1,4 +1,4 @@
-use crate::{WordsFault, help, options_of};
+use crate::{WordsFault, cause, cause_of_prefix, help, options_of};
 use log::LevelFilter;
 use std::alloc::Global;
 use std::test::Fail;
@@ -33,6 +33,24 @@ fn options_come_from_the_words(rt: HostRuntime) -> Result<(), Fail> {
     assert!(rt; full.port == 80 && plain.recorder.is_none());
     let (host, port) = full.recorder.ok_or("no recorder")?;
     assert!(rt; host.as_str() == "::1" && port == 9);
+    assert!(rt; plain.allow.is_none() && plain.silence == 0 && plain.linger == 0);
+    Ok(())
+}
+
+#[test]
+fn what_may_be_dialed_is_given_any_number_of_times(rt: HostRuntime) -> Result<(), Fail> {
+    let alloc = rt.alloc();
+    let line = "--seed SEED --allow a:23 --silence 60 --allow=10.0.0.0/8:2323 --linger 1000000";
+    let given = options_of(alloc, &words(alloc, line)?)
+        .ok()
+        .ok_or("refused")?;
+    assert_eq!(rt; (given.silence, given.linger), (60u32, 1_000_000u32));
+    let allow = given.allow.ok_or("nothing allowed")?;
+    assert_eq!(rt; allow.as_slice().len(), 2usize);
+    let wanted = [("a", 23u16), ("10.0.0.0/8", 2323)];
+    for ((host, port), (name, number)) in allow.as_slice().iter().zip(wanted.iter()) {
+        assert!(rt; host.as_str() == *name && port == number);
+    }
     Ok(())
 }
 
@@ -55,6 +73,15 @@ fn faulty_words_are_refused(rt: HostRuntime) -> Result<(), Fail> {
         "--seed SEED --recorder localhost:0",
         "--seed SEED --recorder localhost:65536",
         "--seed SEED --recorder a:1 --recorder b:2",
+        "--seed SEED --allow a",
+        "--seed SEED --allow a:23 --allow :23",
+        "--seed SEED --allow a:0",
+        "--seed SEED --allow",
+        "--seed SEED --silence -1",
+        "--seed SEED --silence 1000001",
+        "--seed SEED --silence 1s",
+        "--seed SEED --linger=",
+        "--seed SEED --linger 1 --linger 2",
         "--seed SEED --help",
         "--seed SEED more",
     ] {
@@ -72,8 +99,101 @@ fn help_names_the_options(rt: HostRuntime) -> Result<(), Fail> {
         "--port <PORT>",
         "--recorder <HOST:PORT>",
         "--log <LEVEL>",
+        "--allow <HOST:PORT>",
+        "--silence <SECONDS>",
+        "--linger <SECONDS>",
     ] {
         assert!(rt; text.as_str().contains(option), "{option}");
     }
+    Ok(())
+}
+
+// What is said of each value that isn't of its form, and nothing of words that give options. A seed isn't told.
+#[test]
+fn a_faulty_value_is_told(rt: HostRuntime) -> Result<(), Fail> {
+    let alloc = rt.alloc();
+    let address = "it is a host, a colon and a port of 1 to 65535";
+    for (line, value, option, wanted) in [
+        (
+            "--seed 00ff",
+            "...",
+            "--seed <HEX>",
+            "it is 64 hexadecimal digits",
+        ),
+        (
+            "--seed SEED --port 99999",
+            "99999",
+            "--port <PORT>",
+            "it is 1 to 65535",
+        ),
+        (
+            "--seed SEED --recorder host",
+            "host",
+            "--recorder <HOST:PORT>",
+            address,
+        ),
+        (
+            "--log=debug --seed SEED",
+            "debug",
+            "--log <LEVEL>",
+            "it is error, warn or info",
+        ),
+        (
+            "--seed SEED --allow a:23 --allow=:23",
+            ":23",
+            "--allow <HOST:PORT>",
+            address,
+        ),
+        (
+            "--seed SEED --silence x",
+            "x",
+            "--silence <SECONDS>",
+            "it is 0 to 1000000",
+        ),
+        (
+            "--seed SEED --linger 1000001",
+            "1000001",
+            "--linger <SECONDS>",
+            "it is 0 to 1000000",
+        ),
+    ] {
+        let told = cause(alloc, &words(alloc, line)?).ok().ok_or("no memory")?;
+        let due = format!(in alloc; "error: invalid value '{value}' for '{option}': {wanted}\n")?;
+        assert_eq!(rt; told.as_str(), due.as_str());
+    }
+    let none = cause(alloc, &words(alloc, "--seed SEED")?)
+        .ok()
+        .ok_or("no memory")?;
+    assert_eq!(rt; none.as_str(), "");
+    Ok(())
+}
+
+// What clap says begins with the fault.
+#[test]
+fn other_faults_are_told_by_clap(rt: HostRuntime) -> Result<(), Fail> {
+    let alloc = rt.alloc();
+    for (line, first) in [
+        (
+            "--record a:1",
+            "error: unexpected argument '--record' found\n",
+        ),
+        (
+            "",
+            "error: the following required arguments were not provided:\n",
+        ),
+        (
+            "--seed SEED --seed SEED",
+            "error: the argument '--seed <HEX>' cannot be used multiple times\n",
+        ),
+    ] {
+        let told = cause(alloc, &words(alloc, line)?).ok().ok_or("no memory")?;
+        assert!(rt; told.starts_with(first));
+    }
+    let prefix = cause_of_prefix(alloc, "10.0.0.0/33", 23)
+        .ok()
+        .ok_or("no memory")?;
+    assert!(rt;
+        prefix.starts_with("error: invalid value '10.0.0.0/33:23' for '--allow <HOST:PORT>': ")
+    );
     Ok(())
 }

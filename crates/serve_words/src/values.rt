@@ -6,7 +6,7 @@ ghost use Rattle.std.specs.List.{AllPass, list_all};
 ghost use Rattle.gate_model.specs.text.Numerals.{is_number};
 ghost use Rattle.gate_model.specs.text.Spelling.{number_of};
 ghost use Rattle.hex.specs.Hex.{is_hex_digit};
-ghost use Rattle.serve_words.specs.Values.{address_in, address_of, level_of, port_of, seed_of};
+ghost use Rattle.serve_words.specs.Values.{address_in, address_of, level_of, port_of, seconds_of, seed_of};
 
 use hex::FromHex;
 use log::LevelFilter;
@@ -30,6 +30,22 @@ pub(crate) fn port_of(text: &str) -> Option<u16>
     let number = number_of(digits);
     if 1 <= number && number <= 65_535 {
         Some(number as u16)
+    } else {
+        None
+    }
+}
+
+/// The seconds that 1 to 20 decimal digits give, 0 to 1,000,000.
+pub(crate) fn seconds_of(text: &str) -> Option<u32>
+    ensures { result ≡ seconds_of text.now }
+{
+    let digits = text.as_bytes();
+    if !is_number(digits) {
+        return None;
+    }
+    let number = number_of(digits);
+    if number <= 1_000_000 {
+        Some(number as u32)
     } else {
         None
     }

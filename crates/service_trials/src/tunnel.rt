@@ -43,7 +43,7 @@ fn types(rt: &HostRuntime, stage: &Stage, id: &str, host: &mut Link) -> Result<(
     tell_write(rt, stage, id, "a key", "3.key,2.97,1.1;")?;
     host.await_text(b"a")?;
     host.say(b"a")?;
-    let heard = read_to(rt, stage, id, "4.sync,1.2;")?;
+    let heard = read_to(rt, stage, id, host, "4.sync,1.2;")?;
     let first = count(heard.as_bytes(), b"4.sync,1.1;");
     let echo = count(heard.as_bytes(), b"4.sync,1.2;");
     println!(rt; "what joining gave: {first} time, its echo: {echo} time")?;
@@ -76,10 +76,16 @@ fn tell_gone(rt: &HostRuntime, stage: &Stage, id: &str) -> Result<()> {
 }
 
 // Reads, two reads at once, until the text has come: all that came.
-fn read_to(rt: &HostRuntime, stage: &Stage, id: &str, text: &str) -> Result<String> {
+fn read_to(
+    rt: &HostRuntime,
+    stage: &Stage,
+    id: &str,
+    host: &mut Link,
+    text: &str,
+) -> Result<String> {
     let mut heard = String::new(rt.alloc());
     for _ in 0..READS {
-        read_twice(rt, stage, id, &mut heard)?;
+        read_twice(rt, stage, id, host, &mut heard)?;
         if heard.contains(text) {
             return Ok(heard);
         }
@@ -87,38 +93,28 @@ fn read_to(rt: &HostRuntime, stage: &Stage, id: &str, text: &str) -> Result<Stri
     bail!("the echo doesn't come")
 }
 
-fn read_twice(rt: &HostRuntime, stage: &Stage, id: &str, heard: &mut String) -> Result<()> {
+fn read_twice(
+    rt: &HostRuntime,
+    stage: &Stage,
+    id: &str,
+    host: &mut Link,
+    heard: &mut String,
+) -> Result<()> {
     let mut first = reading(rt, stage, id)?;
-    read_beside(rt, stage, id, &mut first, heard)
-}
-
-fn read_beside(
-    rt: &HostRuntime,
-    stage: &Stage,
-    id: &str,
-    first: &mut Link,
-    heard: &mut String,
-) -> Result<()> {
     let mut second = reading(rt, stage, id)?;
-    hear(rt, stage, id, first, heard)?;
-    hear(rt, stage, id, &mut second, heard)
+    hear(rt, host, &mut first, heard)?;
+    hear(rt, host, &mut second, heard)
 }
 
-// Adds the body of the response that comes on a connection. A read that finds nothing waits until something happens,
-// so a key is let go in each pause.
-fn hear(
-    rt: &HostRuntime,
-    stage: &Stage,
-    id: &str,
-    client: &mut Link,
-    heard: &mut String,
-) -> Result<()> {
+// Adds the body of the response that comes on a connection. A read that finds nothing waits until there is something
+// to give, so the host rings the bell of the terminal in each pause.
+fn hear(rt: &HostRuntime, host: &mut Link, client: &mut Link, heard: &mut String) -> Result<()> {
     client.pause_after(PAUSE)?;
     for _ in 0..PAUSES {
         if client.has_ended() {
             return take_body(rt, client, heard);
         }
-        write(rt, stage, id, "3.key,2.97,1.0;")?;
+        host.say(b"\x07")?;
     }
     bail!("a read isn't answered")
 }

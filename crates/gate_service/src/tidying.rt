@@ -1,0 +1,145 @@
+//! The job that gives up what nobody uses.
+
+use crate::accepting::sweep_all;
+use crate::notes::{note_backlogged, note_deserted, note_recorder_failed, note_silent};
+use crate::seen::WatchedShelf;
+use gate_outside::{Bell, Helper};
+use http::Method;
+use http_front::Request;
+use http_tunnel::tunnel_request;
+use id_table::LockedShelf;
+use log::Log;
+use service_door::{ServiceDoor, Session, close_backlogged, find_unrecorded, look, sweep_deserted};
+use std::alloc::Global;
+use std::sync::Wait;
+use std::sync::atomic::AtomicU64;
+use std::thread::Threads;
+use std::time::Duration;
+use uuid::Uuid;
+
+/// What a viewer sends to leave (the Guacamole protocol).
+const DISCONNECT: &[u8] = b"10.disconnect;";
+
+/// The job that looks each second at all sessions and tunnels. A session for whose host too much waits is closed. A tunnel without a request for `silence` seconds is
+/// removed, as by a `disconnect`, and a session without viewers for `linger` seconds is closed; 0 is never. So that a
+/// page that only waits for news asks again in time, all who wait are let look again three times in `silence` seconds.
+#[derive(Drop)]
+pub(crate) struct TidyJob<H, B, L> {
+    pub(crate) alloc: Global,
+    pub(crate) sessions: LockedShelf<Session>,
+    pub(crate) tunnels: WatchedShelf,
+    pub(crate) helper: H,
+    /// Its dice would draw the IDs of tunnels.
+    pub(crate) dice: H,
+    pub(crate) bell: B,
+    pub(crate) silence: u32,
+    pub(crate) linger: u32,
+    pub(crate) log: L,
+}
+
+impl<H, B, L> TidyJob<H, B, L>
+where
+    H: Helper,
+    B: Bell + Send + 'static,
+    L: Log + Copy + Drop,
+{
+    /// Looks each second, and never ends.
+    pub(crate) fn run<R>(self, rt: &R)
+    where
+        R: Threads + Wait + Copy + Send + Sync + 'static,
+    {
+        let mut job = self;
+        let pause = AtomicU64::new(0);
+        let mut looks = 0u32;
+        for _ in rt.forever() {
+            pause.park_timeout(rt, 0, Duration::from_secs(1));
+            looks = looks.saturating_add(1);
+            let wakes = job.silence > 0 && looks > job.silence / 3;
+            if wakes {
+                looks = 0;
+            }
+            sweep_all(rt, &job.sessions, &job.log);
+            look(rt, &job.sessions, &job.bell, wakes);
+            job.close_backlogged(rt);
+            job.note_unrecorded(rt);
+            job.close_deserted(rt);
+            job.end_silent(rt);
+        }
+    }
+
+    // Closes the sessions for whose hosts too much waits.
+    fn close_backlogged<R: Wait>(&mut self, rt: &R) {
+        for _ in rt.forever() {
+            match close_backlogged(rt, &mut self.sessions, &self.bell) {
+                Some(id) => note_backlogged(&self.log, &id),
+                None => return,
+            }
+        }
+    }
+
+    // Notes which recorders have ended before their sessions.
+    fn note_unrecorded<R: Wait>(&self, rt: &R) {
+        for _ in rt.forever() {
+            match find_unrecorded(rt, &self.sessions) {
+                Some(id) => note_recorder_failed(&self.log, &id),
+                None => return,
+            }
+        }
+    }
+
+    // Closes the sessions in which nobody is any more.
+    fn close_deserted<R: Wait>(&mut self, rt: &R) {
+        if self.linger == 0 {
+            return;
+        }
+        for _ in rt.forever() {
+            let Some((id, mut session)) = sweep_deserted(rt, &self.sessions, self.linger) else {
+                return;
+            };
+            note_deserted(&self.log, &id);
+            session.stop(rt, &self.bell);
+        }
+    }
+
+    // Ends the tunnels that nobody asks for any more.
+    fn end_silent<R>(&mut self, rt: &R)
+    where
+        R: Threads + Wait + Copy + Send + Sync + 'static,
+    {
+        let Some(seen) = &self.tunnels.seen else {
+            return;
+        };
+        let late = seen.look(rt, self.alloc, self.silence);
+        for id in late.iter() {
+            note_silent(&self.log);
+            self.end(rt, id);
+        }
+    }
+
+    // Ends a tunnel, as its viewer would by a `disconnect`.
+    fn end<R>(&mut self, rt: &R, id: &Uuid)
+    where
+        R: Threads + Wait + Copy + Send + Sync + 'static,
+    {
+        let mut buffer = Uuid::encode_buffer();
+        let digits = id.hyphenated().encode_lower(&mut buffer);
+        let Ok(target) = format!(in self.alloc; "/tunnel?write:{digits}") else {
+            return;
+        };
+        let request = Request {
+            method: Method::POST,
+            target: target.as_str(),
+            body: DISCONNECT,
+        };
+        let mut door = ServiceDoor::new(&mut self.sessions, &mut self.helper, &self.bell, None);
+        let _ = tunnel_request(
+            rt,
+            self.alloc,
+            &mut self.tunnels,
+            &request,
+            &mut door,
+            &mut self.dice,
+            &self.bell,
+        );
+    }
+}

@@ -1,0 +1,89 @@
+//! What is looked after while `serve` runs: whether it is asked to end, and whether it has to turn away who comes.
+
+ghost use Rattle.std.specs.Prelude.{◌≡◌, ◌⊎◌};
+
+use crate::saying::say_end;
+use log::sink::Console;
+use log::{LevelFilter, Logged, error, warn};
+use real_ends::Watch;
+use std::fs::Files;
+use std::sync::Wait;
+use std::time::{Clock, Duration};
+use std::{fs, io, thread};
+
+/// How often it is looked, in milliseconds.
+const PAUSE: u64 = 250;
+
+/// After how many looks it may be told again that connections were refused: ten seconds.
+const QUIET: u32 = 40;
+
+/// The signals that ask for the end, as bits of what is pending: SIGINT and SIGTERM, 2 and 15 (signal(7)).
+const ENDING: u64 = 0x4002;
+
+/// Looks until the process is asked to end, and then ends the net. A signal that the process was started without, as by
+/// `env --block-signal=TERM`, stays pending, and the system tells so; also where the process is the first of a
+/// container, for which the system has no action of its own.
+pub(crate) fn look_after<R>(rt: &R, watch: &Watch)
+where
+    R: Files + Alloc + Clock + Wait + Eprint + Copy + Drop,
+{
+    let log = Logged::new(*rt, LevelFilter::Warn, Console(*rt));
+    let mut told = 0u64;
+    let mut quiet = QUIET;
+    for _ in rt.forever() {
+        thread::sleep(rt, Duration::from_millis(PAUSE));
+        if is_asked(rt) {
+            watch.end();
+            return;
+        }
+        quiet = quiet.saturating_add(1);
+        let refused = watch.refused();
+        if refused > told && quiet > QUIET {
+            warn!(log; "who comes can't be let in, since no descriptor is free");
+            told = refused;
+            quiet = 0;
+        }
+    }
+}
+
+/// The status of a run, of `serve` or of other words: a service that was told to end has ended well, and of one that ended
+/// by a fault it is told which.
+pub(crate) fn ended<R: Eprint + Copy + Drop>(rt: &R, status: u8, serves: bool, watch: &Watch) -> u8
+    ensures { (result ≡ status) ⊎ (result ≡ 0) }
+{
+    if status != 8 {
+        if serves {
+            say_end(rt, status);
+        }
+        return status;
+    }
+    if watch.is_ending() {
+        return 0;
+    }
+    match watch.fault() {
+        Some(number) => {
+            let log = Logged::new(*rt, LevelFilter::Error, Console(*rt));
+            error!(log; "the port can't be listened on: {}", io::Error::from_raw_os_error(number));
+        }
+        None => say_end(rt, status),
+    }
+    status
+}
+
+// Whether a signal is pending that asks for the end.
+fn is_asked<R: Files + Alloc>(rt: &R) -> bool {
+    match fs::read_to_string(rt, "/proc/self/status") {
+        Ok(status) => pending_in(status.as_str()) & ENDING != 0,
+        Err(_) => false,
+    }
+}
+
+// The signals that are pending for the whole process (proc(5)).
+fn pending_in(status: &str) -> u64 {
+    for line in status.lines() {
+        if let Some(bits) = line.strip_prefix("ShdPnd:") {
+            return u64::from_str_radix(bits.trim(), 16).unwrap_or(0);
+        }
+    }
+    0
+}

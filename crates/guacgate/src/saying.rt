@@ -1,0 +1,18 @@
+//! What `serve` says of a run that ends, on standard error. The other forms of words write frames there, or nothing.
+
+/// Says a text, which may end with its line.
+pub(crate) fn say<R: Eprint>(rt: &R, text: &str) {
+    let _ = eprintln!(rt; "{}", text.trim_end());
+}
+
+/// Says why a run of `serve` ended with a status, where nothing else tells it.
+pub(crate) fn say_end<R: Eprint>(rt: &R, status: u8) {
+    match status {
+        6 => say(rt, "error: no memory is left"),
+        8 => say(
+            rt,
+            "error: the port can't be listened on, or no connection can be accepted any more",
+        ),
+        _ => {}
+    }
+}

@@ -1,0 +1,94 @@
+//! What a program sees and asks of its net while it serves.
+
+use gate_model::NoMemory;
+use libc::net::{SHUT_RD, shutdown};
+use std::alloc::Global;
+use std::sync::Arc;
+use std::sync::atomic::Ordering::SeqCst;
+use std::sync::atomic::{AtomicBool, AtomicU64};
+
+#[derive(Drop)]
+struct Seen {
+    // The listener's descriptor and one, or 0 where nothing listens.
+    listener: AtomicU64,
+    refused: AtomicU64,
+    // The number of the system's fault that ended it, or 0.
+    fault: AtomicU64,
+    ending: AtomicBool,
+}
+
+/// A net that is watched from another thread: how often it could let nobody in for want of descriptors, and its end. Contracts tell nothing of it.
+#[derive(Drop)]
+pub struct Watch {
+    seen: Arc<Seen, Global>,
+}
+
+impl Watch {
+    /// A watch over a net that doesn't listen yet.
+    pub fn new(alloc: Global) -> Result<Watch, NoMemory> {
+        let seen = Seen {
+            listener: AtomicU64::new(0),
+            refused: AtomicU64::new(0),
+            fault: AtomicU64::new(0),
+            ending: AtomicBool::new(false),
+        };
+        Ok(Watch {
+            seen: Arc::new(alloc, seen)?,
+        })
+    }
+
+    /// The same watch once more.
+    pub fn another(&self) -> Result<Watch, NoMemory> {
+        Ok(Watch {
+            seen: Arc::try_clone(&self.seen)?,
+        })
+    }
+
+    /// How often nobody could be let in so far.
+    pub fn refused(&self) -> u64 {
+        self.seen.refused.load(SeqCst)
+    }
+
+    /// The number of the system's fault that ended it (errno(3)), where there was one.
+    pub fn fault(&self) -> Option<i32> {
+        match i32::try_from(self.seen.fault.load(SeqCst)) {
+            Ok(number) if number > 0 => Some(number),
+            _ => None,
+        }
+    }
+
+    /// Ends the net: the `accept` that waits fails, and each that comes.
+    pub fn end(&self) {
+        self.seen.ending.store(true, SeqCst);
+        let held = self.seen.listener.load(SeqCst);
+        if let Ok(fd) = i32::try_from(held.saturating_sub(1)) {
+            if held > 0 {
+                let _ = shutdown(fd, SHUT_RD);
+            }
+        }
+    }
+
+    /// Whether the net was told to end.
+    pub fn is_ending(&self) -> bool {
+        self.seen.ending.load(SeqCst)
+    }
+
+    // Once more nobody could be let in.
+    pub(crate) fn count_refused(&self) {
+        self.seen.refused.fetch_add(1, SeqCst);
+    }
+
+    // The net has ended by this fault.
+    pub(crate) fn fails(&self, code: Option<i32>) {
+        if let Ok(number) = u64::try_from(code.unwrap_or(0)) {
+            self.seen.fault.store(number, SeqCst);
+        }
+    }
+
+    // The net listens at this descriptor.
+    pub(crate) fn listens(&self, fd: i32) {
+        if let Ok(held) = u64::try_from(fd) {
+            self.seen.listener.store(held.saturating_add(1), SeqCst);
+        }
+    }
+}

@@ -1,0 +1,122 @@
+//! What is wrong with the words, said to people.
+
+use crate::command::serve_command;
+use crate::values::{address_of, level_of, port_of, seconds_of, seed_of};
+use clap::ArgMatches;
+use gate_model::NoMemory;
+use std::alloc::Global;
+
+/// Why the words after `serve` give no options: what `clap` says of them, or which value isn't of its option's form,
+/// said as `clap` says it, with an end of line. Empty where they give options. A seed isn't told, since it is a secret.
+pub fn cause(alloc: Global, words: &[String]) -> Result<String, NoMemory> {
+    let Ok(command) = serve_command(alloc) else {
+        return Err(NoMemory);
+    };
+    match command.try_get_matches_from(words) {
+        Ok(matches) => match unfit_in(&matches) {
+            Some(unfit) => unfit.told(alloc),
+            None => Ok(String::new(alloc)),
+        },
+        Err(error) => Ok(format!(in alloc; "{error}")?),
+    }
+}
+
+/// What is said of a value of `--allow` whose host is a prefix of no form, with an end of line.
+pub fn cause_of_prefix(alloc: Global, host: &str, port: u16) -> Result<String, NoMemory> {
+    Ok(format!(in alloc;
+        "error: invalid value '{host}:{port}' for '--allow <HOST:PORT>': a prefix is an address, / and how many of its bits count\n"
+    )?)
+}
+
+// What a value is, for each option.
+const SEED: &str = "it is 64 hexadecimal digits";
+
+const PORT: &str = "it is 1 to 65535";
+
+const ADDRESS: &str = "it is a host, a colon and a port of 1 to 65535";
+
+const LEVEL: &str = "it is error, warn or info";
+
+const SECONDS: &str = "it is 0 to 1000000";
+
+// A value that isn't of its option's form, and what that is.
+#[derive(Drop)]
+struct Unfit<'a> {
+    option: &'static str,
+    value: &'a str,
+    wanted: &'static str,
+}
+
+impl<'a> Unfit<'a> {
+    fn told(&self, alloc: Global) -> Result<String, NoMemory> {
+        let (option, value, wanted) = (self.option, self.value, self.wanted);
+        Ok(format!(in alloc; "error: invalid value '{value}' for '{option}': {wanted}\n")?)
+    }
+}
+
+// The first value that isn't of its option's form.
+fn unfit_in<'a>(matches: &ArgMatches<'a>) -> Option<Unfit<'a>> {
+    let seed = matches.get_str("seed");
+    let port = matches.get_str("port");
+    let recorder = matches.get_str("recorder");
+    let level = matches.get_str("log");
+    unfit_one(
+        seed.map(|_| "..."),
+        seed.and_then(seed_of).is_some(),
+        "--seed <HEX>",
+        SEED,
+    )
+    .or_else(|| unfit_one(
+        port,
+        port.and_then(port_of).is_some(),
+        "--port <PORT>",
+        PORT,
+    ))
+    .or_else(|| unfit_one(
+        recorder,
+        recorder.and_then(address_of).is_some(),
+        "--recorder <HOST:PORT>",
+        ADDRESS,
+    ))
+    .or_else(|| unfit_one(
+        level,
+        level.and_then(level_of).is_some(),
+        "--log <LEVEL>",
+        LEVEL,
+    ))
+    .or_else(|| unfit_among(matches.get_strs("allow").unwrap_or(&[])))
+    .or_else(|| unfit_seconds(matches.get_str("silence"), "--silence <SECONDS>"))
+    .or_else(|| unfit_seconds(matches.get_str("linger"), "--linger <SECONDS>"))
+}
+
+// The value of an option, where it is there and doesn't fit.
+fn unfit_one<'a>(
+    value: Option<&'a str>,
+    fits: bool,
+    option: &'static str,
+    wanted: &'static str,
+) -> Option<Unfit<'a>> {
+    match value {
+        Some(value) if !fits => Some(Unfit {
+            option,
+            value,
+            wanted,
+        }),
+        _ => None,
+    }
+}
+
+// The value of an option that takes seconds, where it is there and doesn't fit.
+fn unfit_seconds<'a>(value: Option<&'a str>, option: &'static str) -> Option<Unfit<'a>> {
+    unfit_one(value, value.and_then(seconds_of).is_some(), option, SECONDS)
+}
+
+// The first value of `--allow` that is no host with its port.
+fn unfit_among<'a>(values: &[&'a str]) -> Option<Unfit<'a>> {
+    let value = values.iter().find(|value| address_of(value).is_none())?;
+    Some(Unfit {
+        option: "--allow <HOST:PORT>",
+        value,
+        wanted: ADDRESS,
+    })
+}
