@@ -1,38 +1,103 @@
 // What a person types: keys that go down and up, text that an input method or a dead key makes, and what is pasted.
 
-import { isControlOrAlt, keysymOfEvent, keysymsOf } from './keysyms.js';
+import { ALT, CONTROL, isModifier, keysymNamed, keysymsOf, meaningOfKey } from './keysyms.js';
+
+// It stands in the field, so that a keyboard on a screen has something to delete, and tells Backspace.
+const SENTINEL = '\u200b';
 
 /** Hears the keys of an element that takes text, and tells each press and release as `send(keysym, isPressed)`. */
 export class Keyboard {
   #field;
   #send;
+  #act;
+  #isMac;
+  #isSelected;
   // By where the key is: the keysym that it was pressed with, so that the release names the same.
   #down = new Map();
+  // The modifiers that are held for the next key alone, by buttons.
+  #held = new Set();
 
-  constructor(field, send) {
+  /**
+   * @param {HTMLTextAreaElement} field
+   * @param {(keysym: number, isPressed: boolean) => void} send
+   * @param {(action: import('./keysyms.js').Action) => void} act does what the page itself does at a key
+   * @param {{ isMac: boolean, isSelected: () => boolean }} surroundings  whether Option makes characters, and whether
+   *   text is selected
+   */
+  constructor(field, send, act, { isMac, isSelected }) {
     this.#field = field;
     this.#send = send;
-    field.addEventListener('keydown', (event) => this.#press(event));
+    this.#act = act;
+    this.#isMac = isMac;
+    this.#isSelected = isSelected;
+    field.addEventListener('keydown', (event) => this.press(event));
     field.addEventListener('keyup', (event) => this.#release(event.code));
-    field.addEventListener('input', (event) => { if (!event.isComposing) this.#takeField(); });
+    field.addEventListener('compositionstart', () => field.classList.add('composing'));
+    field.addEventListener('compositionupdate', (event) => { field.style.setProperty('--length', String(event.data.length + 1)); });
     field.addEventListener('compositionend', () => this.#takeField());
+    field.addEventListener('input', (event) => { if (!(/** @type {InputEvent} */ (event).isComposing)) this.#takeField(); });
     // What is pasted falls into the field, too. It may have come by Control, which is let go first.
-    field.addEventListener('paste', () => this.#releaseAll(isControlOrAlt));
+    field.addEventListener('paste', () => this.#releaseAll());
     // The browser tells no release of a key that is let go elsewhere.
-    field.addEventListener('blur', () => this.#releaseAll(() => true));
+    field.addEventListener('blur', () => this.#releaseAll());
+    this.#empty();
   }
 
-  #press(event) {
+  /** Takes a key that goes down, unless it is the browser's. @param {KeyboardEvent} event */
+  press(event) {
     // An input method takes these, and gives its text when it is done.
-    if (event.isComposing || event.keyCode === 229 || event.key === 'Dead') return;
-    if (isForBrowser(event)) return;
-    const keysym = keysymOfEvent(event);
-    if (keysym === null) return;
+    if (event.isComposing || event.keyCode === 229) return;
+    const meaning = isControlC(event) && this.#isSelected() ? { action: /** @type {const} */ ('take') } : meaningOfKey(event, this.#isMac);
+    if (meaning === 'browser') return;
     event.preventDefault();
-    // AltGr makes a character, and on some systems is told as Control and Alt too.
-    if (event.getModifierState('AltGraph')) this.#releaseAll(isControlOrAlt);
-    this.#down.set(event.code, keysym);
+    if (meaning === 'nothing') return;
+    if ('action' in meaning) return this.#act(meaning.action);
+    if (meaning.isBare) this.#releaseAll();
+    else this.#holdAsIn(event, meaning);
+    this.#beginHeld(meaning.keysym);
+    this.#down.set(event.code, meaning.keysym);
+    this.#send(meaning.keysym, true);
+    this.#endHeld(meaning.keysym);
+  }
+
+  /** Presses a key and lets it go. */
+  tap(keysym) {
+    this.#beginHeld(keysym);
     this.#send(keysym, true);
+    this.#send(keysym, false);
+    this.#endHeld(keysym);
+  }
+
+  /** Types a text, key by key. */
+  type(text) {
+    keysymsOf(text).forEach((keysym) => this.tap(keysym));
+  }
+
+  /** Holds Control or Alt for the next key, or no longer, and answers whether it is held. */
+  hold(keysym) {
+    if (this.#held.delete(keysym)) return false;
+    this.#held.add(keysym);
+    return true;
+  }
+
+  // Control and Alt may have gone down elsewhere.
+  /** @param {KeyboardEvent} event @param {{ keysym: number, withAlt?: boolean }} meaning */
+  #holdAsIn({ ctrlKey, altKey }, { keysym, withAlt }) {
+    if (isModifier(keysym)) return;
+    const down = [...this.#down.values()];
+    if (ctrlKey && !down.some((it) => it === CONTROL || it === CONTROL + 1)) this.#held.add(CONTROL);
+    if (withAlt || (altKey && !this.#isMac && !down.some((it) => it === ALT || it === ALT + 1))) this.#held.add(ALT);
+  }
+
+  #beginHeld(keysym) {
+    if (!isModifier(keysym)) this.#held.forEach((it) => this.#send(it, true));
+  }
+
+  #endHeld(keysym) {
+    if (isModifier(keysym) || this.#held.size === 0) return;
+    this.#held.forEach((it) => this.#send(it, false));
+    this.#held.clear();
+    this.#field.dispatchEvent(new Event('free'));
   }
 
   #release(code) {
@@ -42,26 +107,28 @@ export class Keyboard {
     this.#send(keysym, false);
   }
 
-  #releaseAll(isOne) {
-    for (const [code, keysym] of [...this.#down]) if (isOne(keysym)) this.#release(code);
+  #releaseAll() {
+    [...this.#down.keys()].forEach((code) => this.#release(code));
   }
 
-  // What stands in the field was pasted, or made by an input method.
+  // What stands in the field was made by an input method, a dead key or a keyboard on a screen.
   #takeField() {
-    const text = this.#field.value;
-    this.#field.value = '';
-    this.#type(text);
+    const { value } = this.#field;
+    this.#empty();
+    const text = value.replaceAll(SENTINEL, '');
+    // With Control held by a button, a letter is meant.
+    if (text !== '') this.type(this.#held.has(CONTROL) ? text.toLowerCase() : text);
+    else if (value === '') this.tap(keysymNamed('Backspace'));
   }
 
-  #type(text) {
-    for (const keysym of keysymsOf(text)) {
-      this.#send(keysym, true);
-      this.#send(keysym, false);
-    }
+  #empty() {
+    this.#field.classList.remove('composing');
+    this.#field.value = SENTINEL;
+    this.#field.setSelectionRange(1, 1);
   }
 }
 
-// What the browser does itself: its own shortcuts by the system's key, and the two ways to paste.
-function isForBrowser({ key, metaKey, ctrlKey, shiftKey }) {
-  return metaKey || (shiftKey && key === 'Insert') || (ctrlKey && shiftKey && key.toLowerCase() === 'v');
-}
+/** Whether the browser pastes at a key. */
+export const isPaste = ({ key, ctrlKey, metaKey, shiftKey }) => (key === 'Insert' ? shiftKey : key.toLowerCase() === 'v' && (metaKey || (ctrlKey && shiftKey)));
+
+const isControlC = ({ key, ctrlKey, altKey, shiftKey, metaKey }) => key === 'c' && ctrlKey && !altKey && !shiftKey && !metaKey;

@@ -8,12 +8,17 @@ const NAMED = {
   F7: 0xffc4, F8: 0xffc5, F9: 0xffc6, F10: 0xffc7, F11: 0xffc8, F12: 0xffc9,
 };
 
-// By where the key is, since the left one and the right one are held each for itself.
-const MODIFIERS = {
-  ControlLeft: 0xffe3, ControlRight: 0xffe4, AltLeft: 0xffe9, AltRight: 0xffea, ShiftLeft: 0xffe1, ShiftRight: 0xffe2,
-};
+// By where the key is, since the left one and the right one are held each for itself. Shift changes nothing there.
+const MODIFIERS = { ControlLeft: 0xffe3, ControlRight: 0xffe4, AltLeft: 0xffe9, AltRight: 0xffea };
 
-const MODIFIER_NAMES = ['Control', 'Alt', 'Shift'];
+/** Control and Alt, which change what other keys send. */
+export const { ControlLeft: CONTROL, AltLeft: ALT } = MODIFIERS;
+
+/** Whether the keysym is Control or Alt. */
+export const isModifier = (keysym) => Object.values(MODIFIERS).includes(keysym);
+
+/** The keysym of a key by its name, as Tab. */
+export const keysymNamed = (name) => NAMED[name];
 
 /** The keysym of a character, or null for a control character. */
 export function keysymOf(character) {
@@ -33,14 +38,63 @@ function typed(character) {
   return keysymOf(character);
 }
 
-/** The keysym of a keyboard event, or null where it has none: a dead key, or a key that types nothing. */
-export function keysymOfEvent({ key, code }) {
-  if (MODIFIER_NAMES.includes(key)) return MODIFIERS[code] ?? null;
-  if ([...key].length === 1) return keysymOf(key);
-  return NAMED[key] ?? null;
+/**
+ * What the page itself does at a key.
+ * @typedef {'copy' | 'take' | 'leave' | 'hush' | 'lineUp' | 'lineDown' | 'pageUp' | 'pageDown' | 'toTop' | 'toEnd'} Action
+ */
+
+/**
+ * What a key means: a keysym that is sent, with `isBare` where no modifier goes with it and `withAlt` where Alt is sent
+ * around it; an action of the page; `browser` for what is left to the browser; `nothing` for what the gateway's table of
+ * keys hasn't, and which would be taken for another key.
+ * @typedef {{ keysym: number, isBare?: boolean, withAlt?: boolean } | { action: Action } | 'browser' | 'nothing'} Meaning
+ */
+
+const LEAVING = ['Escape', 'F6'];
+const SCROLLING = { PageUp: 'pageUp', PageDown: 'pageDown', Home: 'toTop', End: 'toEnd' };
+const SCROLLING_BOTH = { ArrowUp: 'lineUp', ArrowDown: 'lineDown' };
+// Those whose bytes are the same with Control or Shift on every terminal.
+const EVER = ['Backspace', 'Enter', 'Escape', 'Delete'];
+
+/** @param {KeyboardEvent} event @param {boolean} isMac whether Option makes characters, as on a Mac @returns {Meaning} */
+export function meaningOfKey(event, isMac) {
+  const { key, code } = event;
+  if (event.metaKey) return 'browser';
+  if (key === 'Control' || (key === 'Alt' && !isMac)) return code in MODIFIERS ? { keysym: MODIFIERS[code] } : 'browser';
+  if (key === 'AltGraph' || key === 'Dead' || key === 'Process' || key === 'Unidentified') return 'browser';
+  if ([...key].length === 1) return character(event, isMac);
+  return named(event, isMac);
 }
 
-/** Whether the keysym is Control or Alt, which change what other keys send. */
-export function isControlOrAlt(keysym) {
-  return [MODIFIERS.ControlLeft, MODIFIERS.ControlRight, MODIFIERS.AltLeft, MODIFIERS.AltRight].includes(keysym);
+/** @returns {Meaning} */
+function character(event, isMac) {
+  const { key, code, ctrlKey, altKey, shiftKey } = event;
+  const keysym = keysymOf(key);
+  if (keysym === null) return 'browser';
+  // AltGr makes a character, and on some systems is told as Control and Alt too.
+  if (event.getModifierState('AltGraph') || (isMac && altKey && !ctrlKey)) return { keysym, isBare: true };
+  if (!ctrlKey) return { keysym };
+  // The letter of the key, where the layout has another alphabet.
+  const letter = key > '~' ? /^Key([A-Z])$/.exec(code)?.[1].toLowerCase() : key;
+  if (shiftKey && /^[a-z]$/i.test(letter ?? '')) return withControlAndShift(letter.toLowerCase());
+  return letter !== undefined && /^[@-_a-z ?]$/.test(letter) ? { keysym: keysymOf(letter) } : 'browser';
+}
+
+/** @returns {Meaning} */
+function withControlAndShift(letter) {
+  if (letter === 'c') return { action: 'copy' };
+  return letter === 'l' ? { action: 'hush' } : 'browser';
+}
+
+/** @returns {Meaning} */
+function named({ key, ctrlKey, altKey, shiftKey }, isMac) {
+  const keysym = NAMED[key];
+  if (keysym === undefined) return 'browser';
+  if (LEAVING.includes(key) && ctrlKey && shiftKey !== (key === 'F6')) return { action: 'leave' };
+  if (EVER.includes(key)) return isMac && altKey ? { keysym, withAlt: true } : { keysym };
+  if (ctrlKey && shiftKey && key in SCROLLING_BOTH) return { action: SCROLLING_BOTH[key] };
+  if (shiftKey && !ctrlKey && key in SCROLLING) return { action: SCROLLING[key] };
+  if (ctrlKey || (shiftKey && /^(Insert|F[0-9]+)$/.test(key))) return 'browser';
+  if (shiftKey) return 'nothing';
+  return isMac && altKey ? { keysym, withAlt: true } : { keysym };
 }

@@ -9,10 +9,12 @@ const LEAST_LAYER = -1024;
 const MOST_SIDE = 4096;
 const SOURCE_OVER = 14;
 
-class Layer {
+/** A layer: its size, its pixels row by row, and its path. */
+export class Layer {
   width = 0;
   height = 0;
   pixels = new Uint32Array(0);
+  /** @type {{ x: number, y: number, width: number, height: number }[]} */
   path = [];
   isFilled = false;
 
@@ -76,9 +78,24 @@ const number = (text, most) => {
 
 const PLACE = 2 ** 32 - 1;
 
+/**
+ * What is told of each change before it is made.
+ * @typedef {object} Watcher
+ * @property {(layer: Layer, width: number, height: number) => void} sized  it gets this size
+ * @property {(layer: Layer) => void} filled  the path of the layer is
+ * @property {(from: Layer, x: number, y: number, width: number, height: number, to: Layer, toX: number, toY: number) => void} copied
+ */
+
 /** All layers of a view. */
 export class Layers {
+  /** @type {Map<number, Layer>} */
   #layers = new Map();
+  #watcher;
+
+  /** @param {Watcher | null} watcher */
+  constructor(watcher = null) {
+    this.#watcher = watcher;
+  }
 
   /** The visible layer's width, height and pixels. */
   get visible() {
@@ -88,8 +105,9 @@ export class Layers {
   #layer(text) {
     if (!/^(0|-[1-9][0-9]{0,3})$/.test(text ?? '') || Number(text) < LEAST_LAYER) throw new Unreadable(`not a layer: ${text}`);
     const index = Number(text) || VISIBLE;
-    if (!this.#layers.has(index)) this.#layers.set(index, new Layer());
-    return this.#layers.get(index);
+    let layer = this.#layers.get(index);
+    if (layer === undefined) this.#layers.set(index, layer = new Layer());
+    return layer;
   }
 
   #mask(text) {
@@ -100,8 +118,11 @@ export class Layers {
   draw([opcode, ...given]) {
     switch (opcode) {
       case 'size': {
-        const [layer, width, height] = given;
-        this.#layer(layer).resize(number(width, MOST_SIDE), number(height, MOST_SIDE));
+        const [name, width, height] = given;
+        const layer = this.#layer(name);
+        const size = [number(width, MOST_SIDE), number(height, MOST_SIDE)];
+        this.#watcher?.sized(layer, size[0], size[1]);
+        layer.resize(size[0], size[1]);
         return true;
       }
       case 'rect': {
@@ -111,20 +132,24 @@ export class Layers {
         return true;
       }
       case 'cfill': {
-        const [mask, layer, ...colour] = given;
+        const [mask, name, ...colour] = given;
         this.#mask(mask);
         const [red, green, blue, alpha] = [0, 1, 2, 3].map((k) => number(colour[k], 255));
         if (alpha !== 255) throw new Unreadable(`an alpha of ${alpha}`);
-        this.#layer(layer).fill(((alpha << 24) | (blue << 16) | (green << 8) | red) >>> 0);
+        const layer = this.#layer(name);
+        this.#watcher?.filled(layer);
+        layer.fill(((alpha << 24) | (blue << 16) | (green << 8) | red) >>> 0);
         return true;
       }
       case 'copy': {
-        const [from, x, y, width, height, mask, to, toX, toY] = given;
+        const [source, x, y, width, height, mask, destination, toX, toY] = given;
         this.#mask(mask);
-        const columns = number(width, MOST_SIDE);
+        const [from, to] = [this.#layer(source), this.#layer(destination)];
+        const [left, top, columns, rows] = [number(x, PLACE), number(y, PLACE), number(width, MOST_SIDE), number(height, MOST_SIDE)];
+        const [toLeft, toTop] = [number(toX, PLACE), number(toY, PLACE)];
+        this.#watcher?.copied(from, left, top, columns, rows, to, toLeft, toTop);
         // All pixels are read before one is written, so a layer can be copied over itself.
-        const pixels = this.#layer(from).taken(number(x, PLACE), number(y, PLACE), columns, number(height, MOST_SIDE));
-        this.#layer(to).put(pixels, number(toX, PLACE), number(toY, PLACE), columns);
+        to.put(from.taken(left, top, columns, rows), toLeft, toTop, columns);
         return true;
       }
       default:

@@ -1,84 +1,36 @@
 // The page: opens a tunnel as its address or its form asks, shows what it gives, and sends what is typed.
 
+import { choose, kept } from './choices.js';
 import { Display } from './display.js';
-import { Unreadable, instructionsOf, textOf } from './instructions.js';
-import { Keyboard } from './keyboard.js';
-import { meaningOf, rightsOf } from './messages.js';
-import { formOf, joinBy, linkOf, requestOf, sessionOf, titleOf } from './request.js';
-import { Rest } from './rest.js';
-import { Refusal, Tunnel } from './tunnel.js';
+import { Follow } from './follow.js';
+import { Keyboard, isPaste } from './keyboard.js';
+import { meaningOfKey } from './keysyms.js';
+import { rightsOf, wayOn, wordsOf } from './messages.js';
+import { faultOf, formOf, joinBy, linkOf, requestOf, sessionOf, sizeOf, titleOf } from './request.js';
+import { Mouse, copyAsLines, copySelected, selectedText } from './selection.js';
+import { Speech } from './speech.js';
+import { buttonsOf } from './touch.js';
+import { Tunnel } from './tunnel.js';
+import { View, endOf } from './view.js';
 
+/** @type {(id: string) => any} */
 const at = (id) => document.getElementById(id);
 // Beside the page, without the login that an address may have: no request can be made to an address that has one.
 const PATH = location.origin + new URL('tunnel', location.href).pathname;
+const IS_MAC = /^(Mac|iP)/.test(navigator.platform);
+const FIELDS = ['hostname', 'port', 'columns', 'rows', 'terminal-type'];
 
-/** One view of a session, from its opening to its end. */
-class View {
-  #tunnel;
-  #display;
-  #readOnly;
-  #rest = new Rest();
-
-  constructor(tunnel, display, readOnly) {
-    this.#tunnel = tunnel;
-    this.#display = display;
-    this.#readOnly = readOnly;
-  }
-
-  /** Whether keys are sent. */
-  get types() {
-    return !this.#readOnly;
-  }
-
-  /** Shows what the viewer is given until the session is over, and answers why it is. */
-  async run() {
-    for (;;) {
-      const text = await this.#tunnel.read();
-      const why = this.#play(text);
-      if (why) return why;
-      // A gateway may answer at once though nothing is new. It isn't asked again as fast as it can answer.
-      if (text === '') await this.#rest.once();
-      else this.#rest.cut();
-    }
-  }
-
-  /** Sends a key, but for a viewer who only looks on. A fault of it is told by the read that fails with it. */
-  press(keysym, isPressed) {
-    if (!this.types) return;
-    this.#tunnel.write(textOf('key', keysym, isPressed ? 1 : 0)).catch(() => {});
-    this.#rest.cut();
-  }
-
-  leave() {
-    this.#tunnel.leave();
-  }
-
-  // Draws instructions, shows them at their last sync and acknowledges it. It answers why the session is over,
-  // where one of them says so.
-  #play(text) {
-    let stamp = null;
-    let why = null;
-    for (const instruction of instructionsOf(text)) {
-      const [opcode, ...given] = instruction;
-      if (opcode === 'sync') stamp = given[0];
-      else if (opcode === 'disconnect') why = 'The host has ended the session.';
-      else if (opcode === 'error') why = meaningOf({ code: Number(given[1]), status: 0 });
-      else this.#display.draw(instruction);
-    }
-    if (stamp !== null) this.#show(stamp);
-    return why;
-  }
-
-  #show(stamp) {
-    this.#display.show();
-    document.body.dataset.stamp = stamp;
-    this.#tunnel.write(textOf('sync', stamp)).catch(() => {});
-  }
-}
-
+/** @type {View | null} */
 let view = null;
-let isOwner = false;
-const display = new Display(at('picture'));
+let request = null;
+const speech = new Speech(at('news'));
+speech.isOn = kept().speaks;
+const follow = new Follow((size) => view?.resize(size));
+const display = new Display(at, kept(), speech, (size) => follow.fits(size));
+const choices = choose(at('choices'), kept(), (chosen) => {
+  display.choices = chosen;
+  speech.isOn = chosen.speaks;
+});
 
 // The state is on the page's body, for its style and for whoever tests it.
 function tell(state, message = '') {
@@ -86,60 +38,92 @@ function tell(state, message = '') {
   at('message').textContent = message;
 }
 
-// What is seen around the picture while a request is under way.
-function surround(request) {
+const told = {
+  shown(stamp) {
+    document.body.dataset.stamp = stamp;
+    follow.shows(display.size);
+  },
+  stalled(isStalled) {
+    tell(isStalled ? 'stalled' : 'open', isStalled ? 'The gateway hasn’t answered for 5 seconds. What you type is sent when it does.' : '');
+  },
+  answered(isAnswered) { at('rights').textContent = rightsOf(request, isAnswered); },
+};
+
+// What is seen around the terminal while a request is under way.
+function surround() {
   at('forms').hidden = true;
   at('again').hidden = true;
   at('screen').hidden = false;
-  at('rights').textContent = rightsOf(request);
+  at('rights').textContent = '';
   at('links').hidden = !request.id;
   at('type').hidden = request.readOnly;
   document.body.toggleAttribute('data-types', !request.readOnly);
+  at('keys').disabled = request.readOnly;
+  at('keep').checked = request.keepsSize;
+  at('keep').parentElement.hidden = request.readOnly;
   document.title = titleOf(request);
-  if (!request.id) return;
+  if (request.id) linkOthers();
+}
+
+function linkOthers() {
   at('look').href = linkOf({ ...request, readOnly: true }, location.href);
   at('type').href = linkOf(request, location.href);
 }
 
-async function start(request) {
-  surround(request);
-  tell('opening', 'Opening …');
-  try {
-    display.clear();
-    view = new View(await Tunnel.open(PATH, formOf(request)), display, request.readOnly);
-    isOwner = !request.id;
-    if (view.types) at('keys').focus();
-    tell('open');
-    tell('ended', await view.run());
-  } catch (fault) {
-    view?.leave();
-    tell('ended', wordsFor(fault));
-  }
-  view = null;
-  // So that Tab leads to the button.
-  at('keys').blur();
-  at('rights').textContent = '';
-  at('links').hidden = true;
-  at('again').textContent = request.id ? 'Join again' : 'Open another';
-  at('again').hidden = false;
+function letFollow(isOn) {
+  follow.isOn = display.follows = isOn;
 }
 
-// A frame that can't be read ends the view, as all that isn't foreseen does.
-function wordsFor(fault) {
-  if (fault instanceof Refusal) return meaningOf(fault);
-  if (fault instanceof Unreadable) return 'The gateway sent something that this page can’t read.';
-  console.error(fault);
-  return 'This page has a fault, and can’t go on.';
+async function start(asked) {
+  request = asked;
+  surround();
+  tell('opening', 'Opening …');
+  display.clear();
+  const size = sizeOf(request, display.measured());
+  let end;
+  try {
+    view = new View(await Tunnel.open(PATH, formOf(request, size)), display, request.readOnly, told);
+    follow.begin(request.id ? null : size);
+    letFollow(!request.readOnly && !request.keepsSize);
+    focusKeys();
+    tell('open');
+    at('rights').textContent = rightsOf(request);
+    end = await view.run();
+  } catch (fault) {
+    end = endOf(fault);
+  }
+  const wasOpen = view !== null;
+  view = null;
+  letFollow(false);
+  finish(end, wasOpen);
+}
+
+function finish(end, wasOpen) {
+  const { word, isAgain, isReload } = wayOn(end, request);
+  tell('ended', wordsOf(end, wasOpen));
+  at('rights').textContent = '';
+  at('links').hidden = true;
+  at('again').textContent = word;
+  at('again').onclick = () => {
+    if (isReload) location.reload();
+    else if (isAgain) start(request);
+    else toStart();
+  };
+  at('again').hidden = false;
+  at('again').focus();
+}
+
+// A session that is over goes from the address, so that the same link can be given again.
+function toStart() {
+  if (request.id) history.replaceState(null, '', location.href.split('#')[0]);
+  begin(request.id ? null : request);
 }
 
 // An address that names a session joins it. One that names a host fills the form, so that no link has a host dialed
 // before a person has agreed.
-function begin() {
-  const request = requestOf(location.hash);
-  if (request?.id) return start(request);
-  for (const name of ['hostname', 'port', 'columns', 'rows']) {
-    if (request) at('open').elements[name].value = request[name];
-  }
+function begin(asked) {
+  if (asked?.id) return start(asked);
+  for (const name of FIELDS) if (asked) at('open').elements[name].value = asked[name === 'terminal-type' ? 'type' : name];
   tell('idle');
   document.title = 'guacgate';
   at('screen').hidden = true;
@@ -148,20 +132,95 @@ function begin() {
   at('open').elements.hostname.focus();
 }
 
+// A form judges its fields itself, in words.
+function judge(form) {
+  for (const field of form.elements) if (field.name) field.setCustomValidity(faultOf(field.name, field.value));
+}
+
+const act = {
+  copy: () => copySelected(at('screen')),
+  take() {
+    copySelected(at('screen'));
+    document.getSelection()?.removeAllRanges();
+    focusKeys();
+  },
+  leave: () => at('panel').querySelector('summary').focus(),
+  hush() {
+    choices.change({ speaks: !speech.isOn });
+    at('news').replaceChildren(speech.isOn ? 'New lines are said.' : 'New lines are no longer said.');
+  },
+  lineUp: () => display.scrollLines(-1),
+  lineDown: () => display.scrollLines(1),
+  pageUp: () => display.scroll(-1),
+  pageDown: () => display.scroll(1),
+  toTop: () => display.scroll(-Infinity),
+  toEnd: () => display.toEnd(),
+};
+
+function send(keysym, isPressed) {
+  if (!view?.types) return;
+  if (isPressed) {
+    display.toEnd();
+    if (keysym < 0x7f) speech.typed(String.fromCharCode(keysym));
+  }
+  view.press(keysym, isPressed);
+}
+
+const keyboard = new Keyboard(at('keys'), send, (action) => act[action](), { isMac: IS_MAC, isSelected: () => selectedText(at('screen')) !== '' });
+buttonsOf(at('touch'), at('keys'), keyboard);
+copyAsLines(at('screen'));
+new Mouse(at('screen'), focusKeys);
+
+at('keys').addEventListener('focus', () => { at('panel').open = false; });
+at('panel').addEventListener('keydown', (event) => {
+  if (event.key !== 'Escape') return;
+  at('panel').open = false;
+  act.leave();
+});
+
+function focusKeys() {
+  if (view?.types) at('keys').focus({ preventScroll: true });
+}
+
+// Where nothing has the focus, as while text is selected, keys are the terminal's too.
+const isNowhere = () => view !== null && (document.activeElement === document.body || document.activeElement === at('screen'));
+
+addEventListener('keydown', (event) => {
+  if (!isNowhere() || ['Control', 'Shift', 'Alt', 'Meta'].includes(event.key)) return;
+  const meaning = meaningOfKey(event, IS_MAC);
+  if (isPaste(event)) focusKeys();
+  if (typeof meaning === 'string' || ('keysym' in meaning && !view?.types)) return;
+  const isKept = 'action' in meaning || selectedText(at('screen')) !== '' && event.ctrlKey && event.key === 'c';
+  if (!isKept) {
+    document.getSelection()?.removeAllRanges();
+    focusKeys();
+  }
+  keyboard.press(event);
+});
+for (const id of ['open', 'join']) at(id).addEventListener('input', () => judge(at(id)));
 at('open').addEventListener('submit', (event) => {
   event.preventDefault();
-  start(sessionOf(Object.fromEntries(new FormData(event.target))));
+  start(sessionOf(new FormData(event.target)));
 });
 at('join').addEventListener('submit', (event) => {
   event.preventDefault();
   const given = new FormData(event.target);
-  location.href = joinBy(given.get('session').trim(), given.has('read-only'), location.href);
+  const asked = { readOnly: given.has('read-only'), keepsSize: given.has('keep-size') };
+  location.href = joinBy(String(given.get('session')).trim(), asked, location.href);
 });
-at('again').addEventListener('click', begin);
-at('screen').addEventListener('click', () => { if (view?.types) at('keys').focus(); });
+// The choice stands in the address, as that to look on alone does, and in the links for others.
+at('keep').addEventListener('change', () => {
+  request.keepsSize = at('keep').checked;
+  letFollow(view !== null && !request.keepsSize);
+  if (!request.id) return;
+  history.replaceState(null, '', linkOf(request, location.href));
+  linkOthers();
+});
+// What is wrong in a part of a form that is folded would be told nowhere.
+at('open').addEventListener('invalid', (event) => event.target.closest('details')?.setAttribute('open', ''), true);
 addEventListener('hashchange', () => location.reload());
 addEventListener('pagehide', () => view?.leave());
 // Nobody can come back to a session that was opened here, so the browser asks before it is left.
-addEventListener('beforeunload', (event) => { if (view && isOwner) event.preventDefault(); });
-new Keyboard(at('keys'), (keysym, isPressed) => view?.press(keysym, isPressed));
-begin();
+addEventListener('beforeunload', (event) => { if (view && !request.id) event.preventDefault(); });
+begin(requestOf(location.hash));
+for (const id of ['open', 'join']) judge(at(id));

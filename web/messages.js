@@ -6,7 +6,7 @@ const BY_CODE = {
   516: 'There is no such session. It may be over.',
   517: 'The gateway couldn’t name the session. Try again.',
   519: 'The host can’t be reached.',
-  523: 'The session is over.',
+  523: 'The gateway has closed the session: it has lost the host, or was told to stop, or the session was too long.',
   768: 'The gateway can’t read this request.',
   771: 'This session lets nobody join.',
   797: 'Too many viewers are in this session.',
@@ -26,9 +26,34 @@ export function meaningOf({ code, status }) {
   return BY_CODE[code] ?? BY_STATUS[status] ?? `The gateway answered with status ${status}.`;
 }
 
-/** Who may type, as far as the page knows: its own viewer's rights are told by nobody. */
-export function rightsOf({ id, readOnly }) {
+// What a view that was open was told, which no longer is about its joining.
+const WHILE_OPEN = { 516: 'The gateway no longer knows this view. It may have been started anew.' };
+
+/** What ended a view, `wasOpen` where the session had been shown. @param {import('./view.js').End} end */
+export function wordsOf(end, wasOpen) {
+  switch (end.by) {
+    case 'host': return 'The host has ended the session.';
+    case 'error': return meaningOf({ code: end.code, status: 0 });
+    case 'refusal': return (wasOpen && WHILE_OPEN[end.code]) || meaningOf(end);
+    case 'unreadable': return 'The gateway sent something that this page can’t read.';
+    default: return 'This page has a fault, and can’t go on.';
+  }
+}
+
+// The codes of a session that is over or lets nobody in: to ask again is no use.
+const FOR_GOOD = [516, 523, 768, 771];
+
+/** What can be tried behind an end: whether the same may work again, and the word for it. @param {import('./view.js').End} end */
+export function wayOn(end, request) {
+  const isOver = end.by === 'host' || end.by === 'error' || (end.by === 'refusal' && FOR_GOOD.includes(end.code));
+  if (end.by === 'refusal' && end.status === 401 && end.code === 0) return { word: 'Log in', isAgain: true, isReload: true };
+  if (request.id) return isOver ? { word: 'To the start', isAgain: false } : { word: 'Join again', isAgain: true };
+  return { word: 'Open another', isAgain: false };
+}
+
+/** Who may type. The gateway tells nobody whose keys count, so of who joins it is said what is done, and what came of it. */
+export function rightsOf({ id, readOnly }, isAnswered = true) {
   if (readOnly) return 'You look on. Your keys are not sent.';
-  if (id) return 'Your keys count if this session lets those who join type.';
-  return 'You may type. Nobody else may join.';
+  if (!id) return 'You may type. Nobody else may join.';
+  return isAnswered ? 'Your keys are sent.' : 'Your keys are sent, and nothing answers. This session may let you look on alone.';
 }

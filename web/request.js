@@ -2,40 +2,67 @@
 //
 //   #id=$UUID                      joins a session, and types if the session lets joiners type
 //   #id=$UUID&read-only            joins a session, and only looks on
-//   #hostname=HOST&port=PORT&columns=80&rows=24      fills the form that opens a session
+//   #hostname=HOST&port=PORT&columns=80&rows=24&terminal-type=TYPE      fills the form that opens a session
+//
+// and with &keep-size the session's size stays, whatever the window's. One of given columns or rows stays, too.
 
-/** How many pixels a cell has. */
-const CELL = { width: 8, height: 16 };
+import { CELL_HEIGHT, CELL_WIDTH } from './font.js';
+
+/** The terminal type that a host is told: the one of Debian's ncurses-base that the screen and the keys do best
+ *  (`tools/terminal-types`). */
+export const TERMINAL_TYPE = 'linux';
 
 /** What an address asks for, or null where it asks for nothing. */
 export function requestOf(fragment) {
   const given = new URLSearchParams(fragment.replace(/^#/, ''));
   const id = given.get('id');
-  if (id) return { id, readOnly: given.has('read-only') };
+  if (id) return { id, readOnly: given.has('read-only'), keepsSize: given.has('keep-size') };
   if (!given.get('hostname')) return null;
-  return sessionOf(Object.fromEntries(given));
+  return sessionOf(given);
 }
 
 /** A session that is to be opened, of the fields of the form. Nobody is told its ID, so nobody else may join. */
-export function sessionOf({ hostname, port = '23', columns = '80', rows = '24' }) {
-  return { hostname, port, columns, rows, readOnly: false };
+export function sessionOf(fields) {
+  const field = (name, other) => String(fields.get(name) || other);
+  const [columns, rows] = [field('columns', ''), field('rows', '')];
+  const keepsSize = fields.has('keep-size') || columns !== '' || rows !== '';
+  return { hostname: field('hostname', ''), port: field('port', '23'), columns, rows, type: field('terminal-type', TERMINAL_TYPE), readOnly: false, keepsSize };
 }
 
-/** The fields of the tunnel's form for it. */
-export function formOf({ id, readOnly, hostname, port, columns, rows }) {
+/** The size of a session that is opened: columns and rows that aren't given are those for which the window has room. */
+export const sizeOf = ({ columns, rows }, room) => ({ columns: Number(columns || room.columns), rows: Number(rows || room.rows) });
+
+/** The fields of the tunnel's form for it, and for a session that is opened its size. */
+export function formOf({ id, readOnly, hostname, port, type }, size) {
   if (id) return { id, 'read-only': String(readOnly) };
-  return { hostname, port, sharing: 'none', width: String(columns * CELL.width), height: String(rows * CELL.height) };
+  return { hostname, port, 'terminal-type': type, sharing: 'none', width: String(size.columns * CELL_WIDTH), height: String(size.rows * CELL_HEIGHT) };
 }
+
+/** What is wrong with a field of the form, in words, or nothing. The limits are the gateway's (docs/PROTOCOL.md). */
+export function faultOf(name, value) {
+  const isIn = (least, most) => /^[0-9]{1,5}$/.test(value) && Number(value) >= least && Number(value) <= most;
+  switch (name) {
+    case 'hostname': return value.trim() ? '' : 'Name the host to connect to.';
+    case 'port': return isIn(1, 65535) ? '' : 'A port is a number from 1 to 65535.';
+    case 'columns': return value === '' || isIn(1, 512) ? '' : 'A screen has 1 to 512 columns.';
+    case 'rows': return value === '' || isIn(1, 256) ? '' : 'A screen has 1 to 256 rows.';
+    case 'terminal-type': return /^[!-~]{1,40}$/.test(value) ? '' : 'A terminal type is a word of at most 40 letters, digits and signs.';
+    case 'session': return idIn(value) ? '' : 'Give the link that you were sent, or the ID: $ and 36 characters.';
+    default: return '';
+  }
+}
+
+const idIn = (text) => text.replace('%24', '$').match(/\$[0-9a-f]{8}(-[0-9a-f]{4}){3}-[0-9a-f]{12}/)?.[0];
 
 /** The address that others join by, where the session's ID is known. */
-export function linkOf({ id, readOnly }, address) {
-  return `${address.split('#')[0]}#id=${encodeURIComponent(id)}${readOnly ? '&read-only' : ''}`;
+export function linkOf({ id, readOnly, keepsSize = false }, address) {
+  return `${address.split('#')[0]}#id=${encodeURIComponent(id)}${readOnly ? '&read-only' : keepsSize ? '&keep-size' : ''}`;
 }
 
 /** The address that joins the session of a text, which is its ID or a link to it. A link keeps its own way. */
-export function joinBy(text, readOnly, address) {
-  const [id] = text.replace('%24', '$').match(/\$[0-9a-f-]{36}/);
-  return linkOf({ id, readOnly: readOnly || /[#&]read-only/.test(text) }, /^https?:/.test(text) ? text : address);
+export function joinBy(text, { readOnly = false, keepsSize = false }, address) {
+  const has = (word) => new RegExp(`[#&]${word}`).test(text);
+  return linkOf({ id: idIn(text), readOnly: readOnly || has('read-only'), keepsSize: keepsSize || has('keep-size') }, /^https?:/.test(text) ? text : address);
 }
 
 /** What a window with it is called. A session's first digits tell it from others, and lead nobody into it. */

@@ -12,7 +12,7 @@ export class Rest {
   /** Rests once. */
   async once() {
     await new Promise((end) => {
-      this.#end = end;
+      this.#end = () => end(undefined);
       setTimeout(end, this.#length);
     });
     this.#length = Math.min(2 * this.#length || SHORT, LONGEST);

@@ -17,11 +17,11 @@ async function answerTo(url, options) {
   let response;
   try {
     response = await fetch(url, { cache: 'no-store', ...options });
+    if (response.ok) return await response.text();
   } catch {
     throw new Refusal(0, 0);
   }
-  if (!response.ok) throw new Refusal(Number(response.headers.get('Guacamole-Status-Code')) || 0, response.status);
-  return response.text();
+  throw new Refusal(Number(response.headers.get('Guacamole-Status-Code')) || 0, response.status);
 }
 
 // The most instructions that one request may have.
@@ -33,6 +33,7 @@ export class Tunnel {
   #id;
   #waiting = [];
   #isWriting = false;
+  #asked = Infinity;
 
   constructor(path, id) {
     this.#path = path;
@@ -43,6 +44,12 @@ export class Tunnel {
   static async open(path, form) {
     const id = await answerTo(`${path}?connect`, { method: 'POST', body: new URLSearchParams(form) });
     return new Tunnel(path, id);
+  }
+
+  /** For how many milliseconds a write has had no answer: 0 where none is under way. A read may wait as long as nothing
+   *  happens, so it tells nothing of the link. */
+  get silence() {
+    return Math.max(0, performance.now() - this.#asked);
   }
 
   /** What the viewer is given next: whole instructions, or an empty text where there is nothing new yet. */
@@ -60,10 +67,12 @@ export class Tunnel {
     try {
       while (this.#waiting.length > 0) {
         const body = this.#waiting.splice(0, MOST_INSTRUCTIONS).join('');
+        this.#asked = performance.now();
         await answerTo(`${this.#path}?write:${this.#id}`, { method: 'POST', body });
       }
     } finally {
       this.#isWriting = false;
+      this.#asked = Infinity;
     }
   }
 

@@ -23,6 +23,7 @@ COMMANDS = {
     "/click": "ElementClick",
     "/clear": "ElementClear",
     "/value": "ElementSendKeys",
+    "/window/rect": "SetWindowRect",
 }
 # Scripts may write to the clipboard, and a first start opens no other page.
 SETTINGS = {
@@ -41,6 +42,7 @@ class Driver:
 
     def __init__(self):
         self.pages = []
+        self.ratio = -1.0
 
     def __enter__(self):
         return self
@@ -49,8 +51,16 @@ class Driver:
         for page in list(self.pages):
             page.close()
 
-    def page(self, address):
-        """Opens an address in a browser of its own."""
+    def scaled(self, ratio, open_page):
+        """A page whose pixels have so many of the device."""
+        self.ratio = ratio
+        try:
+            return open_page()
+        finally:
+            self.ratio = -1.0
+
+    def page(self, address, *_):
+        """Opens an address in a browser of its own. The words for Chromium have no meaning here."""
         page = Page(self)
         self.pages.append(page)
         page.post("/url", url=address)
@@ -65,10 +75,10 @@ class Page(webdriver.Page):
         self.profile = tempfile.mkdtemp()
         with socket.create_server(("127.0.0.1", 0)) as it:
             port = it.getsockname()[1]
-        settings = {**SETTINGS, "marionette.port": port}
+        settings = {**SETTINGS, "marionette.port": port, "layout.css.devPixelsPerPx": str(driver.ratio)}
         lines = [f"user_pref({json.dumps(name)}, {json.dumps(value)});\n" for name, value in settings.items()]
         pathlib.Path(self.profile, "user.js").write_text("".join(lines))
-        words = ["firefox-esr", "--headless", "--marionette", "--no-remote", "--profile", self.profile]
+        words = ["firefox-esr", "--headless", "--marionette", "--remote-allow-system-access", "--no-remote", "--profile", self.profile]
         size = {"MOZ_HEADLESS_WIDTH": "1000", "MOZ_HEADLESS_HEIGHT": "700", "HOME": self.profile}
         self.process = subprocess.Popen(words, env={**os.environ, **size}, stdout=subprocess.DEVNULL, stderr=subprocess.DEVNULL)
         self.socket = connected(port)
@@ -84,9 +94,9 @@ class Page(webdriver.Page):
             length += digit
         return json.loads(self.stream.read(int(length)))
 
-    def ask(self, command, given):
+    def ask(self, command, given, part="WebDriver"):
         self.number += 1
-        text = json.dumps([0, self.number, f"WebDriver:{command}", given]).encode()
+        text = json.dumps([0, self.number, f"{part}:{command}", given]).encode()
         self.socket.sendall(b"%d:%s" % (len(text), text))
         _, _, fault, answer = self.message()
         if fault:
@@ -106,6 +116,12 @@ class Page(webdriver.Page):
         self.process.terminate()
         self.process.wait()
         shutil.rmtree(self.profile, ignore_errors=True)
+
+    def zoom(self, factor):
+        """Enlarges the page, as a person does."""
+        self.ask("SetContext", {"value": "chrome"}, "Marionette")
+        self.run("gBrowser.selectedBrowser.fullZoom = arguments[0]", factor)
+        self.ask("SetContext", {"value": "content"}, "Marionette")
 
     def may_copy(self):
         """SETTINGS let scripts write to the clipboard."""

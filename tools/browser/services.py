@@ -51,11 +51,11 @@ class TelnetServer:
 
 
 class Gateway:
-    """The gateway, which listens on a port of this machine."""
+    """The gateway, which listens on a port of this machine. `words` are more words of `serve`."""
 
-    def __init__(self, seed, port=None):
+    def __init__(self, seed, port=None, words=()):
         self.port = port or free_port()
-        self.process = subprocess.Popen([GATEWAY, "serve", "--seed", seed, "--port", str(self.port)], stderr=subprocess.DEVNULL)
+        self.process = subprocess.Popen([GATEWAY, "serve", "--seed", seed, "--port", str(self.port), *words], stderr=subprocess.DEVNULL)
         for _ in range(100):
             with contextlib.suppress(OSError), socket.create_connection((ADDRESS, self.port)):
                 return
@@ -68,12 +68,14 @@ class Gateway:
 
 
 class WebServer:
-    """Hands out the page's files, and hands requests of `/tunnel` on. It keeps the texts that reads were given, by
-    tunnel. Where `forged` is set, reads are answered with that instead."""
+    """Hands out the page's files, and hands requests of `/tunnel` on. It keeps the texts that reads were given and what
+    was written, by tunnel. Where `forged` is set, reads are answered with that instead, and while `holds` is, writes have no answer."""
 
     def __init__(self, gateway_port):
         self.texts = {}
+        self.written = {}
         self.forged = None
+        self.holds = False
         owner = self
 
         class Handler(http.server.SimpleHTTPRequestHandler):
@@ -94,6 +96,9 @@ class WebServer:
 
             def hand_on(self):
                 body = self.rfile.read(int(self.headers.get("Content-Length", 0)))
+                end = time.time() + 20
+                while owner.holds and "?write:" in self.path and time.time() < end:
+                    time.sleep(0.05)
                 gateway = http.client.HTTPConnection(ADDRESS, gateway_port)
                 try:
                     gateway.request(self.command, self.path, body)
@@ -105,7 +110,7 @@ class WebServer:
                     return
                 if owner.forged is not None and "?read:" in self.path:
                     text = owner.forged
-                owner.note(self.path, answer.status, text)
+                owner.note(self.path, body, answer.status, text)
                 # A browser that was closed takes no answer any more.
                 with contextlib.suppress(OSError):
                     self.answer(answer, text)
@@ -122,11 +127,13 @@ class WebServer:
         self.port = self.server.server_port
         threading.Thread(target=self.server.serve_forever, daemon=True).start()
 
-    def note(self, path, status, text):
+    def note(self, path, body, status, text):
         _, _, query = path.partition("?")
         form, _, tunnel = query.partition(":")
         if status == 200 and form == "read":
             self.texts.setdefault(tunnel.split(":")[0], []).append(text.removesuffix(b"0.;"))
+        elif status == 200 and form == "write":
+            self.written[tunnel] = self.written.get(tunnel, b"") + body
         elif status == 200 and form == "connect":
             self.texts.setdefault(text.decode(), [])
 
@@ -201,6 +208,11 @@ def owner(gateway_port, telnet_port, sharing, width=640, height=384):
 def screen_of(stream):
     """The screen that a stream leaves, as text, from `look`."""
     return subprocess.run([LOOK], input=stream, stdout=subprocess.PIPE, stderr=subprocess.DEVNULL).stdout.decode()
+
+
+def screen_at(stream, stamp):
+    """The screen of a stream at a stamp, as text, from `look`."""
+    return subprocess.run([LOOK, "stamp", stamp], input=stream, stdout=subprocess.PIPE, stderr=subprocess.DEVNULL).stdout.decode()
 
 
 def until_prompt(stream_of, seconds=10):

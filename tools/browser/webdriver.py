@@ -26,6 +26,10 @@ class Driver:
         page.post("/url", url=address)
         return page
 
+    def scaled(self, ratio, open_page):
+        """A page whose pixels have so many of the device."""
+        return open_page(f"--force-device-scale-factor={ratio}")
+
     def __enter__(self):
         self.process = subprocess.Popen(["chromedriver", f"--port={self.port}"], stdout=subprocess.DEVNULL, stderr=subprocess.DEVNULL)
         for _ in range(100):
@@ -103,6 +107,36 @@ class Page:
             steps += [{"type": "keyDown", "value": it} for it in held]
             steps += [{"type": "keyUp", "value": it} for it in reversed(held)]
         self.post("/actions", actions=[{"type": "key", "id": "keyboard", "actions": steps}])
+
+    def drag(self, start, end, held=None):
+        """Presses the button of the mouse at one place of the window, and lets it go at another. A key may be held."""
+        press, let_go = {"type": "pointerDown", "button": 0}, {"type": "pointerUp", "button": 0}
+        self.mouse([self.to(start), press, self.to(end), let_go], held)
+
+    def clicks(self, place, times):
+        press, let_go = {"type": "pointerDown", "button": 0}, {"type": "pointerUp", "button": 0}
+        self.mouse([self.to(place), *[press, let_go] * times])
+
+    @staticmethod
+    def to(place):
+        return {"type": "pointerMove", "duration": 20, "x": int(place[0]), "y": int(place[1])}
+
+    def mouse(self, steps, held=None):
+        actions = [{"type": "pointer", "id": "mouse", "parameters": {"pointerType": "mouse"}, "actions": steps}]
+        if held:
+            pauses = [{"type": "pause"}] * len(steps)
+            actions[0]["actions"] = [{"type": "pause"}, *steps, {"type": "pause"}]
+            actions.append({"type": "key", "id": "keyboard", "actions": [{"type": "keyDown", "value": held}, *pauses, {"type": "keyUp", "value": held}]})
+        self.post("/actions", actions=actions)
+
+    def resize(self, width, height):
+        """Gives the window a size."""
+        self.post("/window/rect", width=width, height=height)
+
+    def zoom(self, factor):
+        """What a page is told that is enlarged: fewer pixels, each of more of the device."""
+        width, height = self.run("return [innerWidth, innerHeight]")
+        self.command("Emulation.setDeviceMetricsOverride", width=int(width / factor), height=int(height / factor), deviceScaleFactor=factor, mobile=False)
 
     def compose(self, steps, text):
         """Lets an input method show each of the steps, and then type the text."""

@@ -1,0 +1,81 @@
+"""The page without a mouse and without eyes: what is said, what has the focus, and the list of what WCAG 2.1 AA wants
+of a page as far as it can be told from its elements."""
+import time
+
+from checks import check
+from sessions import CONTROL, ESCAPE, F, FOCUS, LINES, MESSAGE, RETURN, SHIFT, STATE, TAB, opened, until_shown
+
+NEWS = "return document.getElementById('news').textContent"
+# Each answers the elements that lack something.
+WCAG = {
+    "the page has a language and a title (3.1.1, 2.4.2)": "return document.documentElement.lang && document.title ? [] : ['html']",
+    "each field has a label (1.3.1, 4.1.2)": "return [...document.querySelectorAll('input, select, textarea')].filter((it) => !it.labels?.length && !it.ariaLabel && !it.getAttribute('aria-label')).map((it) => it.outerHTML)",
+    "each button and link has a name (4.1.2)": "return [...document.querySelectorAll('button, summary, a[href]')].filter((it) => !it.hidden && !(it.getAttribute('aria-label') ?? it.textContent).trim()).map((it) => it.outerHTML)",
+    "each canvas is hidden from readers, which have its text (1.1.1)": "return [...document.querySelectorAll('canvas')].filter((it) => it.getAttribute('aria-hidden') !== 'true').map((it) => it.id)",
+    "each ID stands once (4.1.1)": "const ids = [...document.querySelectorAll('[id]')].map((it) => it.id); return ids.filter((it, k) => ids.indexOf(it) !== k)",
+    "states are told as status (4.1.3)": "return ['message', 'rights'].filter((it) => document.getElementById(it).getAttribute('role') !== 'status')",
+    "no order of the focus of its own (2.4.3)": "return [...document.querySelectorAll('[tabindex]')].filter((it) => it.tabIndex > 0).map((it) => it.id)",
+    "the page may be enlarged (1.4.4)": "return /user-scalable|maximum-scale/.test(document.querySelector('meta[name=viewport]').content) ? ['viewport'] : []",
+    "text has a contrast of 4.5 (1.4.3)": """
+        const luminance = (colour) => { const [r, g, b] = colour.map((it) => (it /= 255, it <= 0.04045 ? it / 12.92 : ((it + 0.055) / 1.055) ** 2.4)); return 0.2126 * r + 0.7152 * g + 0.0722 * b; };
+        const parts = (text) => text.match(/[0-9.]+/g).map(Number);
+        const ground = (it) => { for (; it; it = it.parentElement) { const colour = parts(getComputedStyle(it).backgroundColor); if (colour.length < 4 || colour[3] > 0) return colour.slice(0, 3); } return [0, 0, 0]; };
+        const shown = [...document.querySelectorAll('body *')].filter((it) => it.checkVisibility() && !it.closest('#text, .unseen, canvas, #keys, #picture') && [...it.childNodes].some((node) => node.nodeType === 3 && node.data.trim()));
+        return shown.filter((it) => { const [one, other] = [luminance(parts(getComputedStyle(it).color).slice(0, 3)), luminance(ground(it))].sort((a, b) => a - b); return (other + 0.05) / (one + 0.05) < 4.5; }).map((it) => it.outerHTML.slice(0, 80));
+    """,
+}
+
+
+def check_list(page, where):
+    for name, script in WCAG.items():
+        check(f"{where}: {name}", [], page.run(script))
+
+
+def try_hearing(driver, telnet, web):
+    page, stream = opened(driver, telnet, web)
+    check_list(page, "a terminal")
+    page.type(*"echo heard; ls /nowhere", RETURN)
+    until_shown(page, stream, "cannot access")
+    check("new lines are said", True, page.until("return /heard/.test(document.getElementById('news').textContent)", True, 5))
+    check("a reader has the text of the screen", True, any("cannot access" in it for it in page.run(LINES)))
+    if driver.has_input_methods:
+        names = [it.get("name", {}).get("value", "") for it in page.command("Accessibility.getFullAXTree")["nodes"]]
+        check("and so has the tree that it is given", True, any("cannot access" in it for it in names))
+    page.type([CONTROL, SHIFT, "l"])
+    page.type(*"echo quiet", RETURN)
+    until_shown(page, stream, "\nquiet")
+    time.sleep(1.5)
+    check("what is off says nothing", "New lines are no longer said.", page.run(NEWS))
+    page.type([CONTROL, SHIFT, "l"])
+    page.close()
+
+
+def try_leaving(driver, telnet, web):
+    page, stream = opened(driver, telnet, web)
+    check("the terminal has the focus", "keys", page.run(FOCUS))
+    page.type(TAB)
+    check("Tab is the terminal's", "keys", page.run(FOCUS))
+    for key in ([CONTROL, F[6]], [CONTROL, SHIFT, ESCAPE]):
+        page.type(key)
+        check("the stated key leaves the terminal", "SUMMARY", page.run(FOCUS))
+        page.type([SHIFT, TAB])
+        check("and Shift-Tab comes back", "keys", page.run(FOCUS))
+    told = page.run("return document.getElementById(document.getElementById('keys').getAttribute('aria-describedby')).textContent")
+    check("the page tells the key", True, "Control-F6" in told)
+    page.type([CONTROL, F[6]], RETURN)
+    check("the panel is open", True, page.run("return document.getElementById('panel').open"))
+    check_list(page, "the panel")
+    page.type(TAB)
+    check("its choices are reached by Tab", "text", page.run("return document.activeElement.name"))
+    page.type(ESCAPE)
+    check("Escape closes the panel", False, page.run("return document.getElementById('panel').open"))
+    page.click("#terminal")
+    page.type(*"exit", RETURN)
+    check("the page is ended", "ended", page.until(STATE, "ended"))
+    check("the end has its cause", "The host has ended the session.", page.run(MESSAGE))
+    check("the button has the focus", "again", page.run(FOCUS))
+    check_list(page, "an end")
+    page.type(RETURN)
+    check("the form is there again", "idle", page.until(STATE, "idle"))
+    check_list(page, "the forms")
+    page.close()

@@ -1,0 +1,38 @@
+// Each end in words, and a button that offers what can work.
+import assert from 'node:assert/strict';
+import test from 'node:test';
+import { module } from './page.mjs';
+
+const { meaningOf, rightsOf, wayOn, wordsOf } = await module('messages');
+const [JOINED, OPENED] = [{ id: '$1' }, { hostname: 'h' }];
+
+test('each status of docs/PROTOCOL.md has words of its own', () => {
+  const words = [512, 513, 516, 517, 519, 523, 768, 771, 797].map((code) => meaningOf({ code, status: 400 }));
+  assert.equal(new Set(words).size, 9);
+  words.forEach((it) => assert.doesNotMatch(it, /status/));
+});
+
+test('a refusal without a code is told by its status', () => {
+  assert.equal(meaningOf({ code: 0, status: 0 }), 'The connection to the gateway is lost.');
+  assert.equal(meaningOf({ code: 0, status: 418 }), 'The gateway answered with status 418.');
+});
+
+test('a view that the gateway no longer knows isn’t told as one that never was', () => {
+  const end = { by: 'refusal', code: 516, status: 404 };
+  assert.equal(wordsOf(end, false), 'There is no such session. It may be over.');
+  assert.match(wordsOf(end, true), /no longer knows/);
+});
+
+const ways = [
+  [{ by: 'host' }, JOINED, 'To the start'], [{ by: 'error', code: 523 }, JOINED, 'To the start'], [{ by: 'refusal', code: 516, status: 404 }, JOINED, 'To the start'],
+  [{ by: 'refusal', code: 771, status: 403 }, JOINED, 'To the start'], [{ by: 'refusal', code: 0, status: 0 }, JOINED, 'Join again'], [{ by: 'refusal', code: 797, status: 429 }, JOINED, 'Join again'],
+  [{ by: 'unreadable' }, JOINED, 'Join again'], [{ by: 'refusal', code: 0, status: 401 }, JOINED, 'Log in'],
+  [{ by: 'host' }, OPENED, 'Open another'], [{ by: 'refusal', code: 519, status: 502 }, OPENED, 'Open another'], [{ by: 'fault' }, OPENED, 'Open another'],
+];
+for (const [end, request, word] of ways) test(`behind ${JSON.stringify(end)}: ${word}`, () => assert.equal(wayOn(end, request).word, word));
+
+test('who may type', () => {
+  assert.match(rightsOf({ id: '$1', readOnly: true }), /not sent/);
+  assert.equal(rightsOf({ hostname: 'h' }), 'You may type. Nobody else may join.');
+  assert.notEqual(rightsOf({ id: '$1' }, true), rightsOf({ id: '$1' }, false));
+});
