@@ -12,6 +12,7 @@ import tempfile
 import time
 
 import webdriver
+from checks import PATIENCE
 
 # Which command of Marionette stands for a request of WebDriver.
 COMMANDS = {
@@ -131,8 +132,8 @@ class Page(webdriver.Page):
 
 
 def connected(port):
-    for _ in range(300):
+    for _ in range(10 * PATIENCE):
         with contextlib.suppress(OSError):
-            return socket.create_connection(("127.0.0.1", port), timeout=60)
+            return socket.create_connection(("127.0.0.1", port), timeout=2 * PATIENCE)
         time.sleep(0.1)
     raise RuntimeError("Firefox doesn't answer")

@@ -1,13 +1,17 @@
 """What stands around a page in the tests: a Telnet server, the gateway, and a stand-in for the web server."""
 import contextlib
+import functools
 import http.client
 import http.server
 import pathlib
 import shutil
+import signal
 import socket
 import subprocess
 import threading
 import time
+
+from checks import PATIENCE, until
 
 TOP = pathlib.Path(__file__).resolve().parent.parent.parent
 GATEWAY = TOP / "crates/guacgate/out/guacgate"
@@ -39,8 +43,10 @@ class TelnetServer:
             while True:
                 connection, _ = self.listener.accept()
                 with connection:
+                    words, env = [telnetd(), "-E", self.shell], {"PATH": "/usr/bin:/bin", "PS1": "$ ", "ENV": "", "HOME": "/"}
+                    # A test that runs in the background may have been told to ignore Control-C, and so would the shell.
                     self.processes.append(
-                        subprocess.Popen([telnetd(), "-E", self.shell], stdin=connection, stdout=connection, stderr=subprocess.DEVNULL, env={"PATH": "/usr/bin:/bin", "PS1": "$ ", "ENV": "", "HOME": "/"})
+                        subprocess.Popen(words, stdin=connection, stdout=connection, stderr=subprocess.DEVNULL, env=env, preexec_fn=lambda: signal.signal(signal.SIGINT, signal.SIG_DFL))
                     )
 
     def close(self):
@@ -54,13 +60,19 @@ class Gateway:
     """The gateway, which listens on a port of this machine. `words` are more words of `serve`."""
 
     def __init__(self, seed, port=None, words=()):
-        self.port = port or free_port()
-        self.process = subprocess.Popen([GATEWAY, "serve", "--seed", seed, "--port", str(self.port), *words], stderr=subprocess.DEVNULL)
-        for _ in range(100):
-            with contextlib.suppress(OSError), socket.create_connection((ADDRESS, self.port)):
+        # A port that was free may be taken by then.
+        for _ in range(1 if port else 3):
+            self.port = port or free_port()
+            self.process = subprocess.Popen([GATEWAY, "serve", "--seed", seed, "--port", str(self.port), *words], stderr=subprocess.DEVNULL)
+            if until(True, lambda: self.process.poll() is not None or self.listens()) and self.process.poll() is None:
                 return
-            time.sleep(0.1)
+            self.close()
         raise RuntimeError("the gateway doesn't listen")
+
+    def listens(self):
+        with contextlib.suppress(OSError), socket.create_connection((ADDRESS, self.port)):
+            return True
+        return False
 
     def close(self):
         self.process.terminate()
@@ -96,7 +108,7 @@ class WebServer:
 
             def hand_on(self):
                 body = self.rfile.read(int(self.headers.get("Content-Length", 0)))
-                end = time.time() + 20
+                end = time.time() + 4 * PATIENCE
                 while owner.holds and "?write:" in self.path and time.time() < end:
                     time.sleep(0.05)
                 gateway = http.client.HTTPConnection(ADDRESS, gateway_port)
@@ -205,6 +217,7 @@ def owner(gateway_port, telnet_port, sharing, width=640, height=384):
     return Viewer(gateway_port, instruction("select", "telnet"), instruction("size", str(width), str(height), "96"), ask)
 
 
+@functools.lru_cache(maxsize=8)
 def screen_of(stream):
     """The screen that a stream leaves, as text, from `look`."""
     return subprocess.run([LOOK], input=stream, stdout=subprocess.PIPE, stderr=subprocess.DEVNULL).stdout.decode()
@@ -215,11 +228,9 @@ def screen_at(stream, stamp):
     return subprocess.run([LOOK, "stamp", stamp], input=stream, stdout=subprocess.PIPE, stderr=subprocess.DEVNULL).stdout.decode()
 
 
-def until_prompt(stream_of, seconds=10):
+def until_prompt(stream_of):
     """Waits for the shell's prompt. What is typed before it is shown on a line of its own, above it."""
-    end = time.time() + seconds
-    while screen_of(stream_of()).rstrip()[-1:] not in ("$", "#") and time.time() < end:
-        time.sleep(0.05)
+    until(True, lambda: screen_of(stream_of()).rstrip()[-1:] in ("$", "#"))
 
 
 def picture_at(stream, stamp):

@@ -1,8 +1,9 @@
 """A page with a session of its own, and what is read of it."""
 import base64
+import re
 import time
 
-from checks import check
+from checks import PATIENCE, check, until
 from services import ADDRESS, picture_at, screen_at, screen_of, until_prompt
 
 RETURN, BACKSPACE, CONTROL, SHIFT, ALT, ESCAPE, TAB = "\ue007", "\ue003", "\ue009", "\ue008", "\ue00a", "\ue00c", "\ue004"
@@ -38,50 +39,82 @@ def seen(page):
     return pixels_of(page, "picture")
 
 
+def both_have(look, stream_of):
+    """What a page shows, the stamp first, at a stamp that the stream has: that of another viewer may come later."""
+    end = time.time() + PATIENCE
+    while True:
+        stamp, shown = look()
+        stream = stream_of()
+        if f"4.sync,{len(stamp)}.{stamp};".encode() in stream or time.time() > end:
+            return stamp, shown, stream
+        time.sleep(0.1)
+
+
 def check_picture(name, page, stream_of):
-    stamp, picture = seen(page)
-    check(name, picture_at(stream_of(), stamp), picture)
+    stamp, picture, stream = both_have(lambda: seen(page), stream_of)
+    check(name, picture_at(stream, stamp), picture)
 
 
 def check_text(name, page, stream_of):
     """The rows of text are what `look` reads of the frames up to the same stamp."""
-    stamp, lines = page.run(STAMP_AND_LINES)
-    check(name, screen_at(stream_of(), stamp).split("\n")[:-1], lines)
+    stamp, lines, stream = both_have(lambda: page.run(STAMP_AND_LINES), stream_of)
+    check(name, screen_at(stream, stamp).split("\n")[:-1], lines)
 
 
-def until_shown(page, stream_of, text, what="the screen", seconds=20):
+def until_shown(page, stream_of, text, what="the screen"):
     """Waits until the screen of the stream has a text, and the page shows that stamp or a later one."""
-    end = time.time() + seconds
-    while text not in (screen := screen_of(stream_of())) and time.time() < end:
-        time.sleep(0.1)
+    until(True, lambda: text in screen_of(stream_of()))
+    screen = screen_of(stream_of())
     check(f"{what} has {text!r}", text, text if text in screen else screen[-200:])
-    stamps = [it.split(b";")[0].split(b".")[1].decode() for it in stream_of().split(b"4.sync,")[1:]]
-    check(f"the page is at {what}", True, page.until(f"return Number(document.body.dataset.stamp) >= {stamps[-1]}", True))
+    until_latest(page, stream_of, what)
 
 
-def until_still(page, seconds=20):
-    """Waits until nothing new is shown for a second."""
-    end, last = time.time() + seconds, None
-    while (stamp := page.run("return document.body.dataset.stamp")) != last and time.time() < end:
-        last = stamp
-        time.sleep(1)
+def until_latest(page, stream_of, what="the screen"):
+    """Waits until the page shows the stream's last stamp or a later one."""
+    stamp = re.findall(rb"4\.sync,[0-9]+\.([0-9]+);", stream_of())[-1].decode()
+    page.shows(f"the page is at {what}", True, f"return Number(document.body.dataset.stamp) >= {stamp}")
 
 
-def opened(driver, telnet, web, *arguments, fields=""):
+def until_ready(page, stream_of):
+    """Waits until the shell's prompt is the last on the screen, and the page shows it. Nothing changes then by itself, and
+    no key is lost that is typed."""
+    until_prompt(stream_of)
+    until_latest(page, stream_of)
+
+
+def until_still(page):
+    """Waits until nothing new is shown for a second of the page's own time."""
+    stamp = "return document.body.dataset.stamp"
+
+    def stays():
+        before = page.run(stamp)
+        page.rest(20)
+        return page.run(stamp) == before
+
+    until(True, stays)
+
+
+# What a session has that doesn't follow the window.
+KEPT = "&columns=100&rows=30"
+
+
+def opened(driver, telnet, web, *arguments, fields=KEPT):
     """A page that has opened a session by its form, and what gives the text of its reads."""
     page = driver.page(f"http://{ADDRESS}:{web.port}/#hostname={ADDRESS}&port={telnet.port}{fields}", *arguments)
-    check("an address that names a host opens nothing", "idle", page.run(STATE))
+    page.shows("an address that names a host opens nothing", "idle", STATE)
     before = set(web.texts)
     page.click("#open > button")
-    check("the page is open", "open", page.until(STATE, "open"))
+    page.shows("the page is open", "open", STATE)
     [tunnel] = set(web.texts) - before
-    until_prompt(lambda: web.given(tunnel))
-    return page, lambda: web.given(tunnel)
+    stream = lambda: web.given(tunnel)  # noqa: E731
+    until(True, lambda: b"4.sync," in stream())
+    until_ready(page, stream)
+    return page, stream
 
 
 def paste(page, text, keys):
     page.may_copy()
-    page.post("/execute/async", script=COPY, args=[text])
+    check("the browser has copied a text", None, until(None, lambda: page.post("/execute/async", script=COPY, args=[text])))
     page.type(keys)
 
 

@@ -1,10 +1,14 @@
 """The page without a mouse and without eyes: what is said, what has the focus, and the list of what WCAG 2.1 AA wants
 of a page as far as it can be told from its elements."""
-import time
-
-from checks import check
+from checks import check, eventually
 from sessions import CONTROL, ESCAPE, F, FOCUS, LINES, MESSAGE, RETURN, SHIFT, STATE, TAB, opened, until_shown
 
+# Keeps all that is said, since what is said next stands in its place.
+HEAR = """
+    const script = document.createElement('script');
+    script.textContent = "new MutationObserver(() => { document.body.dataset.said = (document.body.dataset.said ?? '') + document.getElementById('news').textContent; }).observe(document.getElementById('news'), { childList: true });";
+    document.head.append(script);
+"""
 NEWS = "return document.getElementById('news').textContent"
 # Each answers the elements that lack something.
 WCAG = {
@@ -34,17 +38,18 @@ def check_list(page, where):
 def try_hearing(driver, telnet, web):
     page, stream = opened(driver, telnet, web)
     check_list(page, "a terminal")
+    page.run(HEAR)
     page.type(*"echo heard; ls /nowhere", RETURN)
     until_shown(page, stream, "cannot access")
-    check("new lines are said", True, page.until("return /heard/.test(document.getElementById('news').textContent)", True, 5))
+    page.shows("new lines are said", [True, True], "return [/heard/, /cannot access/].map((it) => it.test(document.body.dataset.said))")
     check("a reader has the text of the screen", True, any("cannot access" in it for it in page.run(LINES)))
     if driver.has_input_methods:
-        names = [it.get("name", {}).get("value", "") for it in page.command("Accessibility.getFullAXTree")["nodes"]]
-        check("and so has the tree that it is given", True, any("cannot access" in it for it in names))
+        names = lambda: [it.get("name", {}).get("value", "") for it in page.command("Accessibility.getFullAXTree")["nodes"]]  # noqa: E731
+        eventually("and so has the tree that it is given", True, lambda: any("cannot access" in it for it in names()))
     page.type([CONTROL, SHIFT, "l"])
     page.type(*"echo quiet", RETURN)
     until_shown(page, stream, "\nquiet")
-    time.sleep(1.5)
+    page.rest(30)
     check("what is off says nothing", "New lines are no longer said.", page.run(NEWS))
     page.type([CONTROL, SHIFT, "l"])
     page.close()
@@ -52,30 +57,30 @@ def try_hearing(driver, telnet, web):
 
 def try_leaving(driver, telnet, web):
     page, stream = opened(driver, telnet, web)
-    check("the terminal has the focus", "keys", page.run(FOCUS))
+    page.shows("the terminal has the focus", "keys", FOCUS)
     page.type(TAB)
-    check("Tab is the terminal's", "keys", page.run(FOCUS))
+    page.shows("Tab is the terminal's", "keys", FOCUS)
     for key in ([CONTROL, F[6]], [CONTROL, SHIFT, ESCAPE]):
         page.type(key)
-        check("the stated key leaves the terminal", "SUMMARY", page.run(FOCUS))
+        page.shows("the stated key leaves the terminal", "SUMMARY", FOCUS)
         page.type([SHIFT, TAB])
-        check("and Shift-Tab comes back", "keys", page.run(FOCUS))
+        page.shows("and Shift-Tab comes back", "keys", FOCUS)
     told = page.run("return document.getElementById(document.getElementById('keys').getAttribute('aria-describedby')).textContent")
     check("the page tells the key", True, "Control-F6" in told)
     page.type([CONTROL, F[6]], RETURN)
-    check("the panel is open", True, page.run("return document.getElementById('panel').open"))
+    page.shows("the panel is open", True, "return document.getElementById('panel').open")
     check_list(page, "the panel")
     page.type(TAB)
-    check("its choices are reached by Tab", "text", page.run("return document.activeElement.name"))
+    page.shows("its choices are reached by Tab", "text", "return document.activeElement.name")
     page.type(ESCAPE)
-    check("Escape closes the panel", False, page.run("return document.getElementById('panel').open"))
+    page.shows("Escape closes the panel", False, "return document.getElementById('panel').open")
     page.click("#terminal")
     page.type(*"exit", RETURN)
-    check("the page is ended", "ended", page.until(STATE, "ended"))
-    check("the end has its cause", "The host has ended the session.", page.run(MESSAGE))
-    check("the button has the focus", "again", page.run(FOCUS))
+    page.shows("the page is ended", "ended", STATE)
+    page.shows("the end has its cause", "The host has ended the session.", MESSAGE)
+    page.shows("the button has the focus", "again", FOCUS)
     check_list(page, "an end")
     page.type(RETURN)
-    check("the form is there again", "idle", page.until(STATE, "idle"))
+    page.shows("the form is there again", "idle", STATE)
     check_list(page, "the forms")
     page.close()

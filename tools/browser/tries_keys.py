@@ -23,7 +23,7 @@ SENT = [
 def try_key_table(driver, telnet, web):
     page, stream = opened(driver, telnet, web)
     page.type(*LISTEN, RETURN)
-    page.until("return document.querySelector('#text').textContent === ''", True)
+    page.shows("the screen is clear", "", "return document.querySelector('#text').textContent")
     for name, keys, wanted in SENT:
         # A line feed is Control and J, and begins a line.
         page.type("<", *keys, ">", [CONTROL, "j"])
@@ -43,13 +43,13 @@ def try_buttons(driver, telnet, web):
     """The row of keys of a touch screen, which is shown here by hand."""
     page, stream = opened(driver, telnet, web)
     page.type(*LISTEN, RETURN)
-    page.until("return document.querySelector('#text').textContent === ''", True)
+    page.shows("the screen is clear", "", "return document.querySelector('#text').textContent")
     page.run("document.getElementById('touch').style.display = 'flex'")
     for name in ("Escape", "Tab", "ArrowUp", "ArrowLeft", "Control"):
         page.click(f"#touch [data-key={name}]")
-    check("a button keeps the focus in the terminal", "keys", page.run(FOCUS))
-    check("Control is held", "true", page.run("return document.querySelector('#touch [data-key=Control]').getAttribute('aria-pressed')"))
+    page.shows("a button keeps the focus in the terminal", "keys", FOCUS)
+    page.shows("Control is held", "true", "return document.querySelector('#touch [data-key=Control]').getAttribute('aria-pressed')")
     page.type("c", "d")
     until_shown(page, stream, "^[^I^[[A^[[D^Cd", "the buttons")
-    check("Control is held for one key", "false", page.run("return document.querySelector('#touch [data-key=Control]').getAttribute('aria-pressed')"))
+    page.shows("Control is held for one key", "false", "return document.querySelector('#touch [data-key=Control]').getAttribute('aria-pressed')")
     page.close()

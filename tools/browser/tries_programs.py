@@ -1,10 +1,9 @@
 """Programs that use the whole screen, in windows of three sizes: the characters that the page has are those that `look`
 reads of the same frames, the pixels are the gateway's, and a picture of each page is kept to be looked at."""
 import shutil
-import time
 
 from services import ADDRESS, TOP, owner, until_prompt
-from sessions import DOWN, ESCAPE, F, RETURN, STATE, check_picture, check_text, until_shown, until_still
+from sessions import DOWN, ESCAPE, F, RETURN, STATE, check_picture, check_text, until_ready, until_shown, until_still
 
 # The program, how it is begun, what is typed then, and what is shown in the end.
 PROGRAMS = [
@@ -25,24 +24,24 @@ def try_programs(driver, gateway, telnet, web, folder, terminal_type="", columns
     stream = lambda: first.text  # noqa: E731
     until_prompt(stream)
     page = driver.page(f"http://{ADDRESS}:{web.port}/#id={first.id}&keep-size")
-    page.until(STATE, "open")
+    page.shows("the page is open", "open", STATE)
     page.type(*f"export PAGER=cat LESSHISTFILE=- {terminal_type}; clear", RETURN)
     for name, command, keys, wanted in PROGRAMS:
         if not shutil.which(name):
             print(f"skipped: {name} isn't there")
             continue
         page.type(*f"clear; {command}", RETURN)
-        until_shown(page, stream, wanted, name, 40)
+        until_shown(page, stream, wanted, name)
         until_still(page)
         page.type(*keys)
         until_still(page)
         for width, height in WINDOWS:
             page.resize(width, height)
-            time.sleep(0.5)
+            page.rest()
             check_picture(f"the pixels of {name} in a window of {width}", page, stream)
             check_text(f"the text of {name} in a window of {width}", page, stream)
             (folder / f"{name}-{width}-{driver.name}.png").write_bytes(page.screenshot())
         page.type(*ENDS[name])
-        until_still(page)
+        until_ready(page, stream)
     page.close()
     first.close()

@@ -1,14 +1,13 @@
 """A session that follows the window of whoever types: what the page tells in windows of several sizes, on a phone, and
-where another page tells another size; and, where the gateway changes sizes, what `stty size` says to that, and what
-stays of a selection and of the lines above."""
+where another page tells another size; what `stty size` says to that, and what stays of a selection and of the lines
+above."""
 import itertools
 import re
 import shutil
-import time
 
-from checks import check
-from services import ADDRESS, TOP, instruction, owner, screen_of, until_prompt
-from sessions import ABOVE, LINES, RETURN, SHIFT, STATE, check_picture, check_text, opened, place_of, until_shown, until_still
+from checks import check, eventually, until
+from services import ADDRESS, TOP, owner, screen_of, until_prompt
+from sessions import ABOVE, LINES, RETURN, SHIFT, STATE, check_picture, check_text, opened, place_of, until_latest, until_ready, until_shown, until_still
 
 CELLS = "const it = document.getElementById('picture'); return [it.width / 8, it.height / 16]"
 # What is left of the window beside and below the terminal, in pixels of the page.
@@ -29,19 +28,6 @@ LAST_SEEN = """
     return terminal.bottom < room.bottom + 1;
 """
 WINDOWS = [(1400, 900), (1000, 700), (1250, 640)]
-RESTED = 1.0
-
-
-def changes_sizes(gateway, telnet):
-    """Whether a viewer of the gateway's own protocol can give a running session another size."""
-    first = owner(gateway.port, telnet.port, "control")
-    until_prompt(lambda: first.text)
-    first.socket.sendall(instruction("size", "800", "480", "96"))
-    end = time.time() + 3
-    while instruction("size", "0", "800", "480") not in first.text and time.time() < end:
-        time.sleep(0.05)
-    first.close()
-    return instruction("size", "0", "800", "480") in first.text
 
 
 def sizes_of(web, tunnel):
@@ -59,13 +45,28 @@ def joined(driver, web, session, words="", window="--window-size=1000,700"):
     """A page that joins a session, and its tunnel."""
     before = list(web.texts)
     page = driver.page(f"http://{ADDRESS}:{web.port}/#id=%24{session.id[1:]}{words}", window)
-    check("the page is open", "open", page.until(STATE, "open"))
+    page.shows("the page is open", "open", STATE)
     return page, tunnel_of(web, before)
 
 
+def turned_to(page, web, tunnel, count):
+    """The size that a page has told last, once it has told more than so many, its window has rested, and it has it."""
+    last = lambda: (sizes_of(web, tunnel) or [None])[-1]  # noqa: E731
+    until(True, lambda: len(sizes_of(web, tunnel)) > count)
+    page.rest()
+    until(True, lambda: page.run(CELLS) == last())
+    return last()
+
+
+def resized(page, web, tunnel, width, height):
+    """The size that a page tells in a window."""
+    count = len(sizes_of(web, tunnel))
+    page.resize(width, height)
+    return turned_to(page, web, tunnel, count)
+
+
 def check_fits(name, page):
-    beside, below = page.run(LEFT)
-    check(f"{name} fits the window", True, 0 <= beside < 45 and 0 <= below < 45)
+    page.shows(f"{name} fits the window", True, f"const [beside, below] = (() => {{ {LEFT} }})(); return 0 <= beside && beside < 45 && 0 <= below && below < 45")
 
 
 asked = itertools.count(1)
@@ -77,49 +78,45 @@ def stty(page, stream):
     number = next(asked)
     page.type(*f"clear; stty size; echo $((1000 + {number}))", RETURN)
     answer = re.compile(rf"^([0-9]+) ([0-9]+)\n{1000 + number}$", re.M)
-    end = time.time() + 10
-    while not (found := answer.search(screen_of(stream()))) and time.time() < end:
-        time.sleep(0.1)
+    until(True, lambda: answer.search(screen_of(stream())) is not None)
+    until_ready(page, stream)
+    found = answer.search(screen_of(stream()))
     return [int(found[2]), int(found[1])] if found else screen_of(stream())[-200:]
 
 
-def try_window(driver, telnet, web, is_sized):
+def try_window(driver, telnet, web):
     """A page that opens a session: the host has the window's size from the beginning, and follows it."""
     before = list(web.texts)
-    page, stream = opened(driver, telnet, web)
+    page, stream = opened(driver, telnet, web, fields="")
     tunnel = tunnel_of(web, before)
     first = page.run(CELLS)
     check("the host has the window's size", first, stty(page, stream))
     check_fits("a session that is opened", page)
-    told = sizes_of(web, tunnel)
-    check("and is told no other", [], told)
+    page.rest()
+    check("and is told no other", [], sizes_of(web, tunnel))
+    told = first
     for width, height in WINDOWS:
-        before = (told or [first])[-1]
-        page.resize(width, height)
-        time.sleep(RESTED)
-        told = sizes_of(web, tunnel)
-        check(f"a window of {width} is told", True, told != [] and told[-1] != before)
-        if is_sized:
-            check(f"the page has the size of a window of {width}", told[-1], page.until(CELLS, told[-1], 5))
-            check(f"the host has the size of a window of {width}", told[-1], stty(page, stream))
-            check_fits(f"a window of {width}", page)
-            check_picture(f"the pixels in a window of {width}", page, stream)
-            check_text(f"the text in a window of {width}", page, stream)
+        before, told = told, resized(page, web, tunnel, width, height)
+        check(f"a window of {width} is told", True, told not in (None, before))
+        page.shows(f"the page has the size of a window of {width}", told, CELLS)
+        check(f"the host has the size of a window of {width}", told, stty(page, stream))
+        check_fits(f"a window of {width}", page)
+        check_picture(f"the pixels in a window of {width}", page, stream)
+        check_text(f"the text in a window of {width}", page, stream)
     count = len(sizes_of(web, tunnel))
     page.resize(WINDOWS[-1][0] + 1, WINDOWS[-1][1] + 1)
-    time.sleep(RESTED)
+    page.rest()
     check("a window that has no column and no row more is told nothing", count, len(sizes_of(web, tunnel)))
     page.run(KEEP, True)
     page.resize(*WINDOWS[0])
-    time.sleep(RESTED)
+    page.rest()
     check("where the size is kept the window is told nothing", count, len(sizes_of(web, tunnel)))
     page.run(KEEP, False)
-    time.sleep(RESTED)
-    check("and once it isn't it is told", count + 1, len(sizes_of(web, tunnel)))
+    eventually("and once it isn't it is told", True, lambda: len(sizes_of(web, tunnel)) > count)
     page.close()
 
 
-def try_others(driver, gateway, telnet, web, is_sized):
+def try_others(driver, gateway, telnet, web):
     """Pages of one session: one that looks on and one that keeps the size tell none, and of two that type the one whose
     window was changed last counts."""
     first = owner(gateway.port, telnet.port, "control", 720, 416)
@@ -128,22 +125,26 @@ def try_others(driver, gateway, telnet, web, is_sized):
     looking, kept = joined(driver, web, first, "&read-only"), joined(driver, web, first, "&keep-size")
     for page, _ in (looking, kept):
         page.resize(1200, 800)
-    time.sleep(RESTED)
+        page.rest()
     check("who looks on, and who keeps the size, tell none", [[], []], [sizes_of(web, tunnel) for _, tunnel in (looking, kept)])
-    check("the session has its own size", [90, 26], kept[0].run(CELLS))
-    check("the link to type keeps it too", True, kept[0].run("return document.getElementById('type').href").endswith("&keep-size"))
-    one, other = joined(driver, web, first), joined(driver, web, first)
-    for page, size in ((one[0], (1300, 900)), (other[0], (900, 640)), (one[0], (1100, 760))):
-        page.resize(*size)
-        time.sleep(2 * RESTED)
+    kept[0].shows("the session has its own size", [90, 26], CELLS)
+    kept[0].shows("the link to type keeps it too", True, "return document.getElementById('type').href.endsWith('&keep-size')")
+    one = joined(driver, web, first)
+    told = turned_to(one[0], web, one[1], 0)
+    # Its window is as large, so it has nothing to tell yet.
+    other = joined(driver, web, first)
+    other[0].shows("a page that comes later has the size of the one before", told, CELLS)
+    other[0].rest()
+    for (page, tunnel), size in ((one, (1300, 900)), (other, (900, 640)), (one, (1100, 760))):
+        resized(page, web, tunnel, *size)
     told = [sizes_of(web, tunnel) for _, tunnel in (one, other)]
     check("both have told their windows", True, all(told))
-    time.sleep(2)
+    for page, _ in (one, other):
+        page.rest(20)
     check("and don't answer each other", told, [sizes_of(web, tunnel) for _, tunnel in (one, other)])
-    if is_sized:
-        for page, _ in (looking, kept, one, other):
-            check("all have the size of the window that changed last", told[0][-1], page.until(CELLS, told[0][-1], 5))
-            check_picture("the pixels of each page", page, stream)
+    for page, _ in (looking, kept, one, other):
+        page.shows("all have the size of the window that changed last", told[0][-1], CELLS)
+        check_picture("the pixels of each page", page, stream)
     for page, _ in (looking, kept, one, other):
         page.close()
     first.close()
@@ -151,20 +152,24 @@ def try_others(driver, gateway, telnet, web, is_sized):
 
 def try_what_stays(driver, telnet, web):
     """Lines above the screen, a selection and the text stay at another size."""
-    page, stream = opened(driver, telnet, web)
-    page.type(*"clear; i=1; while [ $i -le 60 ]; do echo row $i; i=$((i+1)); sleep 0.01; done; clear; seq 101 112", RETURN)
-    until_shown(page, stream, "\n112\n", seconds=30)
+    page, stream = opened(driver, telnet, web, fields="")
+    page.type(*"clear; seq 60", RETURN)
+    until_shown(page, stream, "\n60\n")
+    until_ready(page, stream)
+    page.type(*"clear; seq 101 112", RETURN)
+    until_shown(page, stream, "\n112\n")
+    until_ready(page, stream)
     above = page.run(ABOVE)
     page.drag(place_of(page, 1, 0), place_of(page, 2, 3))
-    check("something is selected", "102\n103", page.run(SELECTED))
+    page.shows("something is selected", "102\n103", SELECTED)
     size = page.run(CELLS)
     page.resize(1400, 900)
-    check("the session has another size", True, page.until("const it = document.getElementById('picture'); return it.width / 8 > 120", True, 10) and page.run(CELLS) != size)
+    page.shows("the session has another size", True, "const it = document.getElementById('picture'); return it.width / 8 > 120")
     check("what is selected stays", "102\n103", page.run(SELECTED))
     check("the lines above stay", above, page.run(ABOVE)[: len(above)])
     check_text("the text of another size", page, stream)
     page.resize(1000, 700)
-    page.until(CELLS, size, 10)
+    page.shows("the session has its size again", size, CELLS)
     check("what is selected stays in a smaller window", "102\n103", page.run(SELECTED))
     check_text("the text of the first size", page, stream)
     page.close()
@@ -180,7 +185,9 @@ DRAWING = [
 def try_programs_turned(driver, telnet, web):
     """Programs that draw on while the window changes: the pixels and the text are those of the gateway's frames, and the
     program ends up with the window's size."""
-    page, stream = opened(driver, telnet, web)
+    before = list(web.texts)
+    page, stream = opened(driver, telnet, web, fields="")
+    tunnel = tunnel_of(web, before)
     for name, command, keys, end in DRAWING:
         if not shutil.which(name):
             print(f"skipped: {name} isn't there")
@@ -191,15 +198,16 @@ def try_programs_turned(driver, telnet, web):
             page.type(*keys)
             page.resize(width, height)
             page.type(*keys)
+            count = len(sizes_of(web, tunnel))
             page.resize(width - 90, height - 60)
             page.type(*keys)
-            time.sleep(RESTED)
+            turned_to(page, web, tunnel, count)
             until_still(page)
             check_picture(f"the pixels of {name} in a window of {width} that changed while it drew", page, stream)
             check_text(f"the text of {name} in a window of {width} that changed while it drew", page, stream)
-            check(f"{name} is shown to its last row", True, page.until(LAST_SEEN, True, 2))
+            page.shows(f"{name} is shown to its last row", True, LAST_SEEN)
         page.type(*end, RETURN)
-        until_still(page)
+        until_ready(page, stream)
         check(f"the host has the size behind {name}", page.run(CELLS), stty(page, stream))
     page.close()
 
@@ -210,29 +218,28 @@ def try_phone(driver, telnet, web):
     page = driver.page(f"http://{ADDRESS}:{web.port}/#hostname={ADDRESS}&port={telnet.port}")
     turned(page, 390, 760)
     page.click("#open > button")
-    page.until(STATE, "open")
+    page.shows("the page is open", "open", STATE)
     tunnel = tunnel_of(web, before)
     stream = lambda: web.given(tunnel)  # noqa: E731
     until_prompt(stream)
+    until_latest(page, stream)
     columns, rows = page.run(CELLS)
     check("a phone has columns that can be read", True, 40 <= columns < 60 and rows > 24)
     check("the host has the phone's size", [columns, rows], stty(page, stream))
     turned(page, 390, 420)
-    time.sleep(RESTED)
+    page.rest()
     check("the keyboard leaves the session as it is", ([], [columns, rows]), (sizes_of(web, tunnel), page.run(CELLS)))
     page.type(*"echo here", RETURN)
     until_shown(page, stream, "\nhere")
-    check("the cursor is seen above the keyboard", True, page.run(SEEN)[0])
+    page.shows("the cursor is seen above the keyboard", True, f"return (() => {{ {SEEN} }})()[0]")
     page.type(*"seq 100", RETURN)
     until_shown(page, stream, "\n100\n")
-    time.sleep(0.3)
-    check("and so it is at the end of the screen", [True, True], page.run(SEEN))
+    page.shows("and so it is at the end of the screen", [True, True], SEEN)
     turned(page, 390, 760)
-    time.sleep(RESTED)
+    page.rest()
     check("and so does its going", [], sizes_of(web, tunnel))
     turned(page, 760, 390)
-    time.sleep(RESTED)
-    check("a phone that is turned tells its size", 1, len(sizes_of(web, tunnel)))
+    eventually("a phone that is turned tells its size", True, lambda: len(sizes_of(web, tunnel)) > 0)
     page.close()
 
 
@@ -244,25 +251,20 @@ def turned(page, width, height):
 def try_zoom(driver, telnet, web):
     """A page that is enlarged."""
     before = list(web.texts)
-    page, _ = opened(driver, telnet, web)
+    page, _ = opened(driver, telnet, web, fields="")
     tunnel = tunnel_of(web, before)
     columns, rows = page.run(CELLS)
     page.zoom(1.25)
-    time.sleep(RESTED)
-    told = sizes_of(web, tunnel)
-    check("an enlarged page tells fewer columns", True, len(told) == 1 and 80 <= told[0][0] < columns and told[0][1] <= rows)
+    told = turned_to(page, web, tunnel, 0)
+    check("an enlarged page tells fewer columns", True, told is not None and 80 <= told[0] < columns and told[1] <= rows)
     page.close()
 
 
 def try_sizes(driver, gateway, telnet, web):
-    is_sized = changes_sizes(gateway, telnet)
-    if not is_sized:
-        print("skipped: what a session does with another size, since the gateway doesn't change sizes yet")
-    try_window(driver, telnet, web, is_sized)
-    try_others(driver, gateway, telnet, web, is_sized)
-    if is_sized:
-        try_what_stays(driver, telnet, web)
-        try_programs_turned(driver, telnet, web)
+    try_window(driver, telnet, web)
+    try_others(driver, gateway, telnet, web)
+    try_what_stays(driver, telnet, web)
+    try_programs_turned(driver, telnet, web)
     try_zoom(driver, telnet, web)
     if driver.has_input_methods:
         try_phone(driver, telnet, web)

@@ -4,8 +4,25 @@ import contextlib
 import json
 import subprocess
 import time
+import urllib.error
 import urllib.request
 
+from checks import PATIENCE, check
+
+# Lets so many timers of the page pass, each of 50 milliseconds, while nothing about its window changes. Whatever rests
+# for a shorter time in the page is over then, however slow the machine is.
+REST = """
+    const [turns, done] = arguments;
+    const now = () => [innerWidth, innerHeight, devicePixelRatio, document.getElementById('picture')?.width].join();
+    let [last, left] = [now(), turns];
+    const look = () => {
+      left = now() === last ? left - 1 : turns;
+      last = now();
+      if (left > 0) setTimeout(look, 50);
+      else done();
+    };
+    look();
+"""
 ELEMENT = "element-6066-11e4-a52e-4f735466cecf"
 
 
@@ -32,7 +49,7 @@ class Driver:
 
     def __enter__(self):
         self.process = subprocess.Popen(["chromedriver", f"--port={self.port}"], stdout=subprocess.DEVNULL, stderr=subprocess.DEVNULL)
-        for _ in range(100):
+        for _ in range(10 * PATIENCE):
             try:
                 self.call("GET", "/status")
                 return self
@@ -50,7 +67,7 @@ class Driver:
     def call(self, method, path, given=None):
         body = json.dumps(given).encode() if given is not None else None
         request = urllib.request.Request(f"http://127.0.0.1:{self.port}{path}", data=body, method=method)
-        with urllib.request.urlopen(request, timeout=60) as answer:
+        with urllib.request.urlopen(request, timeout=2 * PATIENCE) as answer:
             return json.load(answer)["value"]
 
 
@@ -80,12 +97,24 @@ class Page:
     def run(self, script, *arguments):
         return self.post("/execute/sync", script=script, args=list(arguments))
 
-    def until(self, script, wanted, seconds=20):
-        """Waits until the script gives what is wanted, and answers what it gave last."""
+    def until(self, script, wanted, seconds=PATIENCE):
+        """Waits until the script gives what is wanted, and answers what it gave last. A page that is about to be another
+        one gives nothing."""
         end = time.time() + seconds
-        while (found := self.run(script)) != wanted and time.time() < end:
+        while time.time() < end:
+            with contextlib.suppress(urllib.error.HTTPError, RuntimeError):
+                if (found := self.run(script)) == wanted:
+                    return found
             time.sleep(0.05)
-        return found
+        return self.run(script)
+
+    def shows(self, name, wanted, script, seconds=PATIENCE):
+        """Waits until the script gives what is wanted, which is a check."""
+        check(name, wanted, self.until(script, wanted, seconds))
+
+    def rest(self, turns=12):
+        """Waits until the page's window has rested, and all in the page that waits for that."""
+        self.post("/execute/async", script=REST, args=[turns])
 
     def element(self, selector):
         return self.post("/element", using="css selector", value=selector)[ELEMENT]
