@@ -21,6 +21,7 @@ use Rattle.frame_draw.specs.Strokes.{scroll, scrolling}
 use Rattle.frame_draw.specs.Cells.{Places, AreDrawn, mixed}
 use Rattle.dirty_region.specs.Places.{place_of}
 use Rattle.frame_draw.specs.Along.{Along, Fits, count_below}
+use Rattle.frame_draw.specs.Moved.{old_places}
 use Rattle.frame_draw.specs.Fresh.{are_same, fresh, is_fresh, kept_key}
 use Rattle.frame_draw.proofs.Copied.{from_layers, other_stays, scrolled, still, to_layers}
 use Rattle.frame_draw.proofs.NewKeys.{same_is}
@@ -30,9 +31,6 @@ use Rattle.frame_draw.proofs.Left.{count_all}
 use Rattle.frame_draw.proofs.Going.{mixed_all}
 
 -- ---- the places of the old screen, scrolled
-abbrev pub old_places : KeyGrid → ℕ → Places
-old_places old shift place = Some (old_key old shift place)
-
 not_false : (b : Bool) → not b ≡ false → b ≡ true
 not_false true e = refl
 not_false false e = absurd (cc)

@@ -190,7 +190,7 @@ pub known_fits : (now : KeyGrid) (flags : List Bool) → Fits now (known now fla
 known_fits now flags place e = unless (is_on flags place) false (key_at now.keys place) e
 
 -- what is known of the places of the screen
-knows_within : (m : Layers) (cols rows : ℕ) (at next : Places) (keys : Buffers) → ((p : ℕ) (k : Key) → p < rows * cols → next p ≡ Some k → at p ≡ Some k) → AreDrawn m cols rows at keys → AreDrawn m cols rows next keys
+pub knows_within : (m : Layers) (cols rows : ℕ) (at next : Places) (keys : Buffers) → ((p : ℕ) (k : Key) → p < rows * cols → next p ≡ Some k → at p ≡ Some k) → AreDrawn m cols rows at keys → AreDrawn m cols rows next keys
 knows_within m cols rows at next keys less a = record {
   width = a.width;
   height = a.height;

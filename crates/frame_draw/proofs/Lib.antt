@@ -10,6 +10,7 @@ mod Counts
 mod Strips
 mod Moving
 mod Leading
+mod Banding
 mod Holding
 mod Walking
 pub mod Alike

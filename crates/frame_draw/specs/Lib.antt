@@ -6,3 +6,4 @@ pub mod Along
 pub mod Leads
 pub mod Matches
 pub mod Recent
+pub mod Moved

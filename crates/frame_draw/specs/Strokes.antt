@@ -4,6 +4,7 @@ use Rattle.gate_model.specs.declared.instr.Instr.{Instr}
 use Rattle.gate_model.specs.declared.instr.Instr.TheVariants.{Size, Rect, Copy}
 use Rattle.gate_model.specs.declared.key.Key.{Key}
 use Rattle.glyph_strokes.specs.Strokes.{covering, fill}
+use Rattle.dirty_region.specs.declared.band.Band.{Band}
 use Rattle.glyph_cache.specs.declared.slot.SlotKind.{SlotKind}
 use Rattle.glyph_cache.specs.declared.slot.SlotKind.TheVariants.{Held, Made, Reused}
 
@@ -32,3 +33,7 @@ filling cols place width height paper = Rect (pos 0) (8 * (place % cols)) (16 * 
 -- so many cells of the visible layer come from others of it
 unfoldable pub run_copy : ℕ → ℕ → ℕ → ℕ → Instr
 run_copy cols from to count = Copy (pos 0) (8 * (from % cols)) (16 * (from / cols)) (8 * count) 16 (pos 0) (8 * (to % cols)) (16 * (to / cols))
+
+-- a band of whole rows of the visible layer comes from where it stood
+unfoldable pub band_copy : ℕ → Band → Instr
+band_copy cols b = Copy (pos 0) 0 (16 * b.from) (8 * cols) (16 * b.height) (pos 0) 0 (16 * b.top)

@@ -60,7 +60,7 @@ fn fill_strip(
 }
 
 // A space, of which the paper alone is seen.
-fn is_blank(key: Key) -> bool
+pub(crate) fn is_blank(key: Key) -> bool
     ensures { result ≡ is_blank key }
 {
     key.face == ' ' && !key.under

@@ -1,9 +1,9 @@
 //! Frames that draw what changed: each key on the screen has a glyph buffer, into which it is painted
 //! once, and each cell that changed is copied from there (this project's own).
 
-ghost use Rattle.std.specs.Prelude.{◌≡◌, ◌+◌, ◌*◌, ◌≤◌, ◌<◌, ℕ, [], ◌++◌, length, true, IfOk, OnOk, OnErr, Bool};
+ghost use Rattle.std.specs.Prelude.{◌≡◌, map, ◌+◌, ◌*◌, ◌≤◌, ◌<◌, ℕ, [], ◌++◌, length, true, IfOk, OnOk, OnErr, Bool};
 ghost use Rattle.gate_model.specs.picture.Buffers.{AreLayers, Renews, is_held, new_keys};
-ghost use Rattle.gate_model.specs.session.Cost.{changes, cost};
+ghost use Rattle.gate_model.specs.session.Cost.{changes, cost, is_changed};
 ghost use Rattle.gate_model.specs.picture.Layers.{draw, nothing};
 ghost use Rattle.gate_model.specs.terminal.Screens.{AreColoured, IsColoured};
 ghost use Rattle.gate_model.specs.picture.Shape.{OpensScreen, Shape};
@@ -11,14 +11,17 @@ ghost use Rattle.gate_model.specs.session.Steps.{IsScreenSize};
 ghost use Rattle.frame_draw.specs.Along.{Along, Fits, Holds, IsLeft};
 ghost use Rattle.frame_draw.specs.Fresh.{fresh};
 ghost use Rattle.frame_draw.specs.Leads.{AreFlags};
+ghost use Rattle.dirty_region.specs.Places.{place_of};
+ghost use Rattle.frame_draw.specs.Moved.{old_places};
 ghost use Rattle.frame_draw.specs.Recent.{AreBuffers, remembered};
 ghost use Rattle.frame_draw.specs.Cells.{Places};
 
+use crate::bands::band_of;
 use crate::blanks::fill_blanks;
 use crate::runs::copy_runs;
-use crate::strokes::{copy_to, paint, scroll};
+use crate::strokes::{copy_band, copy_to, paint, scroll};
 use crate::wanted::{Wanted, flags_of, is_few, is_next};
-use dirty_region::changes;
+use dirty_region::{changes, left};
 use gate_model::{Instr, Instrs, Key, NoMemory, Shown};
 use glyph_cache::{Cache, SlotKind};
 use std::alloc::Global;
@@ -82,7 +85,8 @@ pub fn resized(
 }
 
 /// A frame from the old screen to the new one. `shift` is by how many lines the whole screen was scrolled
-/// up meanwhile: by that it is moved first, where something of it is left. Then every key of the new screen
+/// up meanwhile: by that it is moved first, where something of it is left, and then a band of rows that moved beside
+/// that, where its copy is fewer instructions. Then every key of the new screen
 /// has a buffer, and each place that differs is copied from its own. `stamp` is that of the sync, which
 /// stands last. Refused, it leaves the cache with buffers that nothing drew; where every key has a buffer
 /// already, it leaves the cache's keys as they were.
@@ -109,7 +113,7 @@ pub fn frame(
     let places = changed.as_slice();
     let mut drawn = Vec::with_capacity(alloc, places.len() + 2)?;
     scroll(&mut drawn, new.cols(), new.rows(), shift)?;
-    draw(alloc, &mut drawn, cache, new, Wanted::Listed(places))?;
+    draw_changed(alloc, &mut drawn, cache, old, new, shift, places)?;
     drawn.push(Instr::Sync { stamp })?;
     Ok(Instrs::of(drawn))
 }
@@ -122,6 +126,35 @@ const RECENT: usize = 128;
 struct Held {
     key: Key,
     layer: i32,
+}
+
+// The places that changed, over the old screen scrolled up: those of a band of rows that moved by its copy, which comes first.
+fn draw_changed(
+    alloc: Global,
+    list: &mut Vec<Instr>,
+    cache: &mut Cache,
+    old: &Shown,
+    new: &Shown,
+    shift: u32,
+    places: &[(u16, u16)],
+) -> Result<(), NoMemory>
+    requires size { IsScreenSize new.now.cols new.now.rows }
+    requires same_columns { old.now.cols ≡ new.now.cols }
+    requires same_rows { old.now.rows ≡ new.now.rows }
+    requires coloured { AreColoured new.now.keys }
+    requires listed { places.now ≡ map (place_of new.now.cols) (changes old.now new.now shift) }
+    ensures along { OnOk result (Along new.now list.old.items cache.old.keys (old_places old.now shift) (is_changed old.now new.now shift) (length new.now.keys) (length new.now.keys) list.new.items cache.new.keys) }
+    ensures kept { new_keys cache.old.keys new.now.keys ≡ [] → cache.new.keys ≡ cache.old.keys }
+    ensures full { OnOk result (length new.now.keys ≡ new.now.rows * new.now.cols) }
+{
+    if let Some(band) = band_of(old, new, shift, places.len()) {
+        let rest = left(alloc, old, new, shift, band)?;
+        if rest.as_slice().len() < places.len() {
+            list.push(copy_band(new.cols(), band))?;
+            return draw(alloc, list, cache, new, Wanted::Listed(rest.as_slice()));
+        }
+    }
+    draw(alloc, list, cache, new, Wanted::Listed(places))
 }
 
 // Runs of blank places are filled, and the other places that are wanted are copied. Of a few places none is worth a fill.

@@ -103,7 +103,7 @@ fn pair_of(first: Key, second: Key) -> usize
 }
 
 // Some number of a key, most of which differ.
-fn number_of(key: Key) -> usize
+pub(crate) fn number_of(key: Key) -> usize
     ensures { result < 2097152 }
 {
     (key.face as usize % 65_536) * 8

@@ -1,7 +1,8 @@
 ghost use Rattle.std.specs.Prelude.{◌≡◌, ◌+◌, ◌-◌, ◌*◌, ◌/◌, ◌%◌, ◌<◌, ◌≤◌, pos, [], ◌∷◌, ◌++◌, OnOk};
 ghost use Rattle.gate_model.specs.terminal.Screens.{IsColoured};
-ghost use Rattle.frame_draw.specs.Strokes.{cell_copy, filling, painting, run_copy, scrolling};
+ghost use Rattle.frame_draw.specs.Strokes.{band_copy, cell_copy, filling, painting, run_copy, scrolling};
 
+use dirty_region::Band;
 use gate_model::{Instr, Key, NoMemory};
 use glyph_cache::{Slot, SlotKind};
 use glyph_strokes::{cover, fill_with};
@@ -71,6 +72,23 @@ pub(crate) fn scroll(
         })?;
     }
     Ok(())
+}
+
+// The copy of a band of whole rows of the visible layer to where it comes to stand.
+#[tactic(auto, unfolding(crate::specs::Strokes::band_copy))]
+pub(crate) fn copy_band(cols: u16, band: Band) -> Instr
+    ensures { result ≡ band_copy cols band }
+{
+    Instr::Copy {
+        from: 0,
+        x: 0,
+        y: 16 * band.from as u32,
+        width: 8 * cols as u32,
+        height: 16 * band.height as u32,
+        to: 0,
+        to_x: 0,
+        to_y: 16 * band.top as u32,
+    }
 }
 
 // So many columns and rows of cells from a place on get a paper.
