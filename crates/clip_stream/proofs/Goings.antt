@@ -1,9 +1,12 @@
 -- Bytes that came and bytes that were given, one call after the other.
-use Rattle.std.proofs.Common.{◌≡◌, ℕ, ◌+◌, List, length-append, arith, [], ◌++◌, Option, refl, ap, sym, subst, ◌∙◌, append_assoc, true, inl, inr}
+use Rattle.std.proofs.Common.{◌≡◌, ◌<◌, ◌≤◌, ℕ, ◌+◌, List, length, Bool, Some, None, length-append, arith, [], ◌++◌, Option, refl, ap, sym, subst, ◌∙◌, append_assoc, true, false, take, inl, inr}
 use Rattle.std.specs.Prelude.{◌⊎◌, Result, Ok, Err, OnErr}
 use Rattle.gate_outside.specs.Edge.{AtEnd, came}
 use Rattle.gate_outside.proofs.Moved.{came-came, came-none}
-use Rattle.clip_stream.specs.Sources.{Gave, Keeps, Went, WentFar, has_ended, rest_of}
+use Rattle.clip_stream.specs.Sources.{Gave, IsOver, Keeps, Went, WentFar, counted, has_ended, on_left, rest_of, unread_of, waits}
+use Rattle.std.proofs.lemmas.Bool.{false_from_ne_true, false≢true}
+use Rattle.std.proofs.lemmas.List.{length-take-le}
+use Rattle.clip_stream.proofs.Steps.{rest-over}
 use Rattle.clip_stream.specs.declared.paster.Paster.{Paster}
 
 abbrev pub went_gave : (left : Option (List ℕ)) (s t : Paster) (given : List ℕ) → Gave s t given → has_ended t ≡ has_ended s → Went left left s t given
@@ -51,3 +54,35 @@ far_keeps n a b s t u v keeps same = (went_then a b b s t u [] [] v.0 (went_keep
 pub on_err : {A E : Type 0} (r : Result A E) (P : Type 0) → P → OnErr r P
 on_err (Ok a) P p = tt
 on_err (Err e) P p = p
+
+-- where nothing is given at the end, nothing is to be given any more
+pub is_over : (s t : Paster) (into : List ℕ) (n : ℕ) → Gave s t (take n into) → has_ended t ≡ true → has_ended s ≡ true → s.is_raw ≡ true → (waits s ≡ true → 0 < n) → n ≡ 0 → IsOver t
+is_over s t into n gave ended was raw some is =
+    let idle = false_from_ne_true (waits s) (λ e. let less : 0 < n = some e in omega (arith, less, is)) in (
+      ended,
+      λ more. sym (gave more ∙ ap (λ k. take k into ++ rest_of t more) is) ∙ rest-over s.is_raw s.is_ended s.clip.clip s.kept s.held more s.clip.waiting was raw idle,
+    )
+
+-- at the end nothing that comes counts
+counted_same : (s : Paster) (more : List ℕ) → has_ended s ≡ true → rest_of s more ≡ rest_of s []
+counted_same s more e = ap (λ (b : Bool). s.clip.waiting ++ unread_of s.is_raw s.kept s.clip.clip s.held (counted b more)) e ∙ sym (ap (λ (b : Bool). s.clip.waiting ++ unread_of s.is_raw s.kept s.clip.clip s.held (counted b [])) e)
+
+-- what was given was still to be given, where the source tells what is left
+pub went_left : (before after : Option (List ℕ)) (s t : Paster) (given : List ℕ) → Went before after s t given → on_left s before ≡ came given (on_left t after)
+went_left before None s t given w = ap (on_left s) w.came_is
+went_left before (Some y) s t given w = ap (on_left s) w.came_is ∙ ap Some (by_end (has_ended t) refl)
+  where
+    at_end : has_ended t ≡ true → (has_ended s ≡ true) ⊎ AtEnd (Some y) → rest_of s (w.read ++ y) ≡ given ++ rest_of t y
+    at_end e (inl was) = counted_same s (w.read ++ y) was ∙ sym (counted_same s (w.read ++ []) was) ∙ w.so [] (λ ended. refl) ∙ ap (λ x. given ++ x) (sym (counted_same t y e))
+    at_end e (inr none) = w.so y (λ ended. none)
+
+    by_end : (b : Bool) → has_ended t ≡ b → rest_of s (w.read ++ y) ≡ given ++ rest_of t y
+    by_end false e = w.so y (λ ended. absurd (false≢true (sym e ∙ ended)))
+    by_end true e = at_end e (w.ends e)
+
+-- of an end nothing is given
+pub none_given : (left : Option (List ℕ)) (into : List ℕ) (n : ℕ) → n ≤ length into → Some [] ≡ came (take n into) left → n ≡ 0
+none_given None into n fits e = cc
+none_given (Some rest) into n fits e =
+    let same : [] ≡ take n into ++ rest = cc in
+    omega (arith, ap length same, length-append (take n into) rest, length-take-le n into fits)

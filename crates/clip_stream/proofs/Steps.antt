@@ -1,6 +1,6 @@
 -- What is still to be given stays, or is given, as the held bytes are taken up.
 use Rattle.std.proofs.Common.{◌≡◌, ℕ, zero, suc, ◌+◌, ◌-◌, ◌<◌, ◌≤◌, List, [], ◌∷◌, ◌++◌, length, length-append, length-take, take, drop, Bool, true, false, refl, ap, sym, subst, ◌∙◌, arith, append_assoc, append-nil, inl, inr}
-use Rattle.std.proofs.lemmas.List.{take-append-drop, drop-drop, take_all}
+use Rattle.std.proofs.lemmas.List.{take-append-drop, take-append-le, drop-append-le, drop-drop, take_all}
 use Rattle.std.proofs.Math.Seq.{take-add}
 use Rattle.std.specs.Prelude.{◌⊎◌, ◌||◌, ◌&&◌, nat_lt}
 use Rattle.std.proofs.lemmas.Bool.Decides.{nat_tests}
@@ -105,12 +105,31 @@ ends-raw false clip kept held (inr is) e =
     ∙ ap (pasted_on clip) (append-nil held) ∙ pasted-none clip held is.none ∙ sym (append-nil held)
 
 -- what comes stands behind what is held
+pub feeds : (raw : Bool) (clip : Clip) (kept : ℕ) (held now bytes more : List ℕ) → kept ≤ length held → now ≡ held ++ bytes → unread_of raw kept clip held (bytes ++ more) ≡ unread_of raw kept clip now more
+feeds true clip kept held now bytes more k e = sym (append_assoc held bytes more) ∙ ap (λ t. t ++ more) (sym e)
+feeds false clip kept held now bytes more k e =
+    ap (λ t. take kept held ++ pasted_on clip t) (sym (append_assoc (drop kept held) bytes more))
+    ∙ ap (λ t. take kept held ++ pasted_on clip (t ++ more)) (sym (drop-append-le kept held bytes k))
+    ∙ ap (λ t. t ++ pasted_on clip (drop kept (held ++ bytes) ++ more)) (sym (take-append-le kept held bytes k))
+    ∙ ap (λ x. unread_of false kept clip x more) (sym e)
+
 pub reads : (raw : Bool) (clip : Clip) (kept : ℕ) (held now bytes more : List ℕ) → kept ≡ 0 → now ≡ held ++ bytes → unread_of raw kept clip held (bytes ++ more) ≡ unread_of raw kept clip now more
-reads true clip kept held now bytes more k e = sym (append_assoc held bytes more) ∙ ap (λ t. t ++ more) (sym e)
-reads false clip kept held now bytes more k e =
-    ap (λ n. unread_of false n clip held (bytes ++ more)) k
-    ∙ ap (pasted_on clip) (sym (append_assoc held bytes more) ∙ ap (λ t. t ++ more) (sym e))
-    ∙ ap (λ n. unread_of false n clip now more) (sym k)
+reads raw clip kept held now bytes more k e = feeds raw clip kept held now bytes more (omega (arith, k)) e
+
+-- at the end nothing that comes counts
+pub counted_none : (ended : Bool) → counted ended [] ≡ []
+counted_none true = refl
+counted_none false = refl
+
+-- where the source was at its end what is unfinished may be given as it is
+pub rest-ends : (raw ended : Bool) (clip : Clip) (kept : ℕ) (held more waiting : List ℕ) → ended ≡ true → ((raw ≡ true) × (held ≡ [])) ⊎ IsUnfinished held → kept ≡ 0
+    → waiting ++ unread_of true kept clip held (counted ended more) ≡ waiting ++ unread_of raw kept clip held (counted ended more)
+rest-ends raw ended clip kept held more waiting e done k =
+    let at : Bool → List ℕ = λ b. waiting ++ unread_of b kept clip held (counted ended more) in
+    let none : counted ended more ≡ [] = ap (λ (b : Bool). counted b more) e in
+    ap (λ x. waiting ++ unread_of true kept clip held x) none
+    ∙ ap (λ t. waiting ++ t) (sym (ends-raw raw clip kept held done k))
+    ∙ ap (λ x. waiting ++ unread_of raw kept clip held x) (sym none)
 
 -- before the end all that comes counts
 pub counted_all : (ended : Bool) (more : List ℕ) → ended ≡ false → counted ended more ≡ more
@@ -171,3 +190,13 @@ some_given [] held (suc kept) most false none e within k r = let m : most ≡ su
 some_given [] [] zero most true none e within k r = cc
 some_given [] (x ∷ held) zero most true none e within k r = let m : most ≡ length (x ∷ held) = r refl in omega arith
 some_given [] held zero most false none e within k r = cc
+
+-- where nothing waits then, nothing is to be given any more
+pub rest-over : (raw ended : Bool) (clip : Clip) (kept : ℕ) (held more waiting : List ℕ) → ended ≡ true → raw ≡ true → (has_some waiting || (nat_lt 0 kept || (raw && has_some held))) ≡ false
+    → waiting ++ unread_of raw kept clip held (counted ended more) ≡ []
+rest-over true true clip zero [] more [] e r idle = refl
+rest-over true true clip zero (x ∷ held) more [] e r idle = cc
+rest-over true true clip (suc kept) held more [] e r idle = absurd (omega (arith, idle_kept [] held (suc kept) true idle))
+rest-over true true clip kept held more (x ∷ waiting) e r idle = cc
+rest-over false ended clip kept held more waiting e r idle = cc
+rest-over true false clip kept held more waiting e r idle = cc

@@ -1,5 +1,5 @@
 -- What a source of pasted text is still to give, and what it has given (this project's own).
-use Rattle.std.specs.Prelude.{◌≡◌, ◌≤◌, ◌⊎◌, ℕ, ◌+◌, min, List, length, [], ◌++◌, take, drop, Bool, true, false, ◌||◌, ◌&&◌, nat_lt, Option, option_map}
+use Rattle.std.specs.Prelude.{◌≡◌, ◌<◌, ◌≤◌, ◌⊎◌, ℕ, ◌+◌, min, List, length, [], ◌++◌, take, drop, Bool, true, false, ◌||◌, ◌&&◌, nat_lt, Option, option_map}
 use Rattle.gate_outside.specs.Edge.{AtEnd, Rose, came, most_faults, one_more}
 use Rattle.guac_framing.specs.Found.{IsUnfinished}
 use Rattle.clip_stream.specs.Clips.{Clip}
@@ -32,6 +32,10 @@ waits s = has_some s.clip.waiting || (nat_lt 0 s.kept || (s.is_raw && has_some s
 -- nothing can, and the source is to be read
 abbrev pub IsDone : Paster → Type 0
 IsDone s = ((s.is_raw ≡ true) × (s.held ≡ [])) ⊎ IsUnfinished s.held
+
+-- more can be fed
+abbrev pub HasRoom : Paster → Type 0
+HasRoom s = length s.held < 8192
 
 -- the same is still to be given, whatever comes
 abbrev pub Keeps : Paster → Paster → Type 0

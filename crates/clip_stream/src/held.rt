@@ -1,6 +1,6 @@
 //! Bytes that came and weren't given yet.
 
-ghost use Rattle.std.specs.Prelude.{◌≡◌, ℕ, List};
+ghost use Rattle.std.specs.Prelude.{◌≡◌, ℕ, List, length, min, take};
 
 use gate_model::NoMemory;
 use gate_model::limits::MOST_INSTRUCTION;
@@ -28,7 +28,7 @@ impl Model for Held {
 }
 
 impl Held {
-    ghost use Rattle.std.specs.Prelude.{◌≡◌, ◌<◌, ◌≤◌, ◌++◌, [], List, ℕ, true, false, length, drop, take, min, IfOk, OnErr};
+    ghost use Rattle.std.specs.Prelude.{◌≡◌, ◌<◌, ◌≤◌, ◌++◌, ◌-◌, [], List, ℕ, true, false, length, drop, take, min, IfOk, OnErr};
     ghost use Rattle.gate_outside.specs.Edge.{AtEnd, Rose, came, most_faults};
 
     /// None, with room for an instruction.
@@ -78,6 +78,19 @@ impl Held {
         n
     }
 
+    /// Puts bytes behind those that are there, as many as there is room for, and answers how many.
+    pub(crate) fn fill(&mut self, bytes: &[u8]) -> usize
+        ensures count { result ≡ min (length bytes.now) (8192 - length self.old) }
+        ensures moved { self.new ≡ self.old ++ take result bytes.now }
+    {
+        self.bytes.rotate_left(self.start);
+        self.end -= self.start;
+        self.start = 0;
+        let count = copy_front(bytes, &mut self.bytes[self.end..]);
+        self.end += count;
+        count
+    }
+
     /// Reads once, and answers whether bytes came; they stand behind those that are there. Where none came the source
     /// is at its end. There is room for at least one more.
     pub(crate) fn read<S: Source>(&mut self, source: &mut S) -> Result<bool, Failed>
@@ -97,4 +110,14 @@ impl Held {
         self.end += count;
         Ok(count > 0)
     }
+}
+
+// Copies the first bytes to the front of a room, as many as there is room for, and answers how many.
+fn copy_front(bytes: &[u8], into: &mut [u8]) -> usize
+    ensures count { result ≡ min (length bytes.now) (length into.old) }
+    ensures copied { take result into.new ≡ take result bytes.now }
+{
+    let count = bytes.len().min(into.len());
+    into[..count].copy_from_slice(&bytes[..count]);
+    count
 }

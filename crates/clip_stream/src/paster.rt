@@ -9,7 +9,8 @@ use gate_outside::{Failed, Source};
 use guac_framing::{Next, next_instruction};
 use std::alloc::Global;
 
-/// What makes keys of pasted text. It is lent a source at each read, and has all its memory from its making on.
+/// What makes keys of pasted text. It is lent a source at each read, or fed by who reads a source by himself. It has all
+/// its memory from its making on.
 #[derive(Drop)]
 pub struct Paster {
     held: Held,
@@ -21,14 +22,13 @@ pub struct Paster {
     is_ended: bool,
     clip: Clip,
     ghost within: { kept ≤ length held },
-    ghost raw_at_end: { is_ended ≡ true → is_raw ≡ true },
 }
 
 impl Paster {
-    ghost use Rattle.std.specs.Prelude.{◌≡◌, ◌<◌, ◌≤◌, ℕ, List, [], None, Some, true, false, length, take, drop, IfOk, OnErr, IfSome, Ok};
+    ghost use Rattle.std.specs.Prelude.{◌≡◌, ◌<◌, ◌≤◌, ℕ, List, [], None, Some, true, false, length, take, drop, ◌++◌, IfOk, OnErr, IfSome, Ok};
     ghost use Rattle.gate_outside.specs.Edge.{Rose, most_faults};
     ghost use Rattle.clip_stream.specs.Pasted.{pasted};
-    ghost use Rattle.clip_stream.specs.Sources.{Gave, IsDone, IsOver, Keeps, Went, WentFar, has_ended, rest_of, unread_of, waits};
+    ghost use Rattle.clip_stream.specs.Sources.{Gave, HasRoom, IsDone, IsOver, Keeps, Went, WentFar, has_ended, rest_of, unread_of, waits};
 
     /// One that has read nothing: room for an instruction and for 262,144 pasted bytes.
     pub fn new(alloc: Global) -> Result<Paster, NoMemory>
@@ -84,7 +84,7 @@ impl Paster {
     }
 
     // Takes up whole instructions until something waits to be given, or none is whole.
-    fn settle(&mut self)
+    fn take_up(&mut self)
         ensures keeps { Keeps self.old self.new }
         ensures ended { self.new.is_ended ≡ self.old.is_ended }
         ensures done { waits self.new ≡ false → IsDone self.new }
@@ -92,6 +92,19 @@ impl Paster {
         let mut goes_on = true;
         while goes_on {
             goes_on = self.step();
+        }
+    }
+
+    // .. and where the source was at its end gives what is unfinished as it is.
+    fn settle(&mut self)
+        ensures keeps { Keeps self.old self.new }
+        ensures ended { self.new.is_ended ≡ self.old.is_ended }
+        ensures done { waits self.new ≡ false → IsDone self.new }
+        ensures raw { self.new.is_ended ≡ true → waits self.new ≡ false → self.new.is_raw ≡ true }
+    {
+        self.take_up();
+        if self.is_ended && !self.waits() {
+            self.is_raw = true;
         }
     }
 
@@ -115,6 +128,7 @@ impl Paster {
         ensures within { result ≤ length into.old }
         ensures gave { Gave self.old self.new (take result into.new) }
         ensures ended { self.new.is_ended ≡ self.old.is_ended }
+        ensures no_more { length self.new.held ≤ length self.old.held }
     {
         if self.clip.waits() {
             return self.clip.give(into);
@@ -134,6 +148,7 @@ impl Paster {
         ensures went { Went (S.left source.old) (S.left source.new) self.old self.new [] }
         ensures came { result ≡ Ok true → WentFar 1 (S.left source.old) (S.left source.new) self.old self.new [] }
         ensures end { result ≡ Ok false → self.new.is_ended ≡ true }
+        ensures raw { result ≡ Ok false → self.new.is_raw ≡ true }
         ensures fault { OnErr result (Rose (S.faults source.old) (S.faults source.new)) }
         ensures later { S.faults source.old ≤ S.faults source.new }
         ensures few { S.faults source.old ≤ most_faults → S.faults source.new ≤ most_faults }
@@ -144,6 +159,39 @@ impl Paster {
             self.is_ended = true;
         }
         Ok(more)
+    }
+
+    /// Takes up bytes of a source, as many as there is room for, and answers how many.
+    pub fn feed(&mut self, bytes: &[u8]) -> usize
+        requires { has_ended self.old ≡ false }
+        ensures within { result ≤ length bytes.now }
+        ensures some { HasRoom self.old → 0 < length bytes.now → 0 < result }
+        ensures fed { (more : List ℕ) → rest_of self.old (take result bytes.now ++ more) ≡ rest_of self.new more }
+        ensures begun { has_ended self.new ≡ false }
+    {
+        self.held.fill(bytes)
+    }
+
+    /// Says that nothing more comes of the source.
+    pub fn finish(&mut self)
+        ensures ended { has_ended self.new ≡ true }
+        ensures none_comes { (more : List ℕ) → rest_of self.new more ≡ rest_of self.old [] }
+    {
+        self.is_ended = true;
+    }
+
+    /// Gives what is due for what was fed: at least one byte, or none where nothing is due before more is fed, for which
+    /// there is room then, or nothing is due any more.
+    pub fn pull(&mut self, into: &mut [u8]) -> usize
+        requires { 0 < length into.old }
+        ensures within { result ≤ length into.old }
+        ensures gave { Gave self.old self.new (take result into.new) }
+        ensures ended { has_ended self.new ≡ has_ended self.old }
+        ensures room { result ≡ 0 → HasRoom self.new }
+        ensures over { result ≡ 0 → has_ended self.old ≡ true → IsOver self.new }
+    {
+        self.settle();
+        self.give(into)
     }
 
     /// Gives what is due for what comes of the source: at least one byte, or none at its end, after which the source

@@ -1,6 +1,6 @@
 use Rattle.std.proofs.Common.{◌≡◌, ◌+◌, false, cond, length, drop}
 use Rattle.clip_stream.specs.Sources.{IsDone, Keeps, waits}
-use Rattle.clip_stream.proofs.paster.Paster.settle.Given as goal
+use Rattle.clip_stream.proofs.paster.Paster.take_up.Given as goal
 
 abbrev pub invariant-loop-goes_on : goal.invariant-loop-goes_on
 invariant-loop-goes_on l = record {
