@@ -1,10 +1,10 @@
 -- The words of the program (this project's own): `draw COLS ROWS`, `script`, `script ENTRIES`, `load SEED
--- ROUNDS`, `play info`, `play at STAMP`, `play keys`.
+-- ROUNDS`, `play info`, `play at STAMP`, `play keys`, `clip`.
 use Rattle.std.specs.Prelude.{ℕ, ◌*◌, ◌-◌, ◌^◌, ◌<◌, ◌≤◌, List, [], ◌∷◌, Bool, ◌&&◌, nat_le, if◌then◌else◌, Option, Some, None, codes, bytes_eq}
 use Rattle.gate_model.specs.Limits.{most_columns, most_rows, most_cells, most_entries}
 use Rattle.gate_model.specs.session.Steps.{IsScreenSize}
 use Rattle.script_lines.specs.declared.form.Form.{Form}
-use Rattle.script_lines.specs.declared.form.Form.TheVariants.{Text, Load, Play}
+use Rattle.script_lines.specs.declared.form.Form.TheVariants.{Text, Load, Play, Clip}
 use Rattle.script_lines.specs.declared.play_form.PlayForm.TheVariants.{Info, At, Keys}
 use Rattle.script_lines.specs.declared.text_form.TextForm.{TextForm}
 use Rattle.script_lines.specs.declared.text_form.TextForm.TheVariants.{Draw, Script}
@@ -53,7 +53,9 @@ playing_at told (Some stamp) = if bytes_eq told (codes "at") then Some (Play (At
 
 -- the form of the words, if they are of one
 abbrev pub form_of : List (List ℕ) → Option Form
-form_of (name ∷ []) = if bytes_eq name (codes "script") then Some (Text (Script most_entries)) else None
+form_of (name ∷ []) =
+    if bytes_eq name (codes "script") then Some (Text (Script most_entries)) else (
+    if bytes_eq name (codes "clip") then Some Clip else None)
 form_of (name ∷ word ∷ []) =
     if bytes_eq name (codes "script") then of_text (counted (number_of word)) else (
     if bytes_eq name (codes "play") then playing word else None)
@@ -72,3 +74,4 @@ abbrev pub IsForm : Form → Type 0
 IsForm (Text form) = IsTextForm form
 IsForm (Load seed rounds) = (seed < 2 ^ 64) × (rounds ≤ most_rounds)
 IsForm (Play told) = Unit {0}
+IsForm Clip = Unit {0}

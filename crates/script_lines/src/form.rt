@@ -10,4 +10,6 @@ pub enum Form {
     Load(u64, u32),
     /// Tell of the recording that the input is.
     Play(PlayForm),
+    /// Copy the input with the pasted text in it typed as keys.
+    Clip,
 }

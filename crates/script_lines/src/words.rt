@@ -17,15 +17,17 @@ const MOST_ENTRIES: u64 = 1 << 40;
 /// The most rounds of a load (this project's own rule).
 const MOST_ROUNDS: u128 = 1_000_000;
 
-/// The form of the words, if they are of one: `draw COLS ROWS`, `script`, `script ENTRIES`, `load SEED
-/// ROUNDS`, `play info`, `play at STAMP` or `play keys`. Numbers are of 1 to 20 decimal digits: 1 to 512 columns, 1 to 256 rows, at most 8,192 cells, 1 to
-/// 2^40 entries (2^40 where none is given), a seed and a stamp below 2^64, 0 to 1,000,000 rounds.
+/// The form of the words, if they are of one: `draw COLS ROWS`, `script`, `script ENTRIES`, `load SEED ROUNDS`, `play
+/// info`, `play at STAMP`, `play keys` or `clip`. Numbers are of 1 to 20 decimal digits: 1 to 512 columns, 1 to 256
+/// rows, at most 8,192 cells, 1 to 2^40 entries (2^40 where none is given), a seed and a stamp below 2^64, 0 to
+/// 1,000,000 rounds.
 pub fn form_of(words: &[String]) -> Option<Form>
     ensures exact { result ≡ form_of (map string_bytes words.now) }
     ensures in_range { IfSome result IsForm }
 {
     match words {
         [name] if name.as_str() == "script" => Some(Form::Text(TextForm::Script(MOST_ENTRIES))),
+        [name] if name.as_str() == "clip" => Some(Form::Clip),
         [name, entries] if name.as_str() == "script" => of_text(script(number(entries.as_bytes()))),
         [name, told] if name.as_str() == "play" => play(told.as_str()),
         [name, cols, rows] if name.as_str() == "draw" => {
