@@ -34,6 +34,7 @@ impl Paster {
     pub fn new(alloc: Global) -> Result<Paster, NoMemory>
         ensures pasted { IfOk result (λ it. (more : List ℕ) → rest_of it more ≡ pasted more) }
         ensures begun { IfOk result (λ it. has_ended it ≡ false) }
+        ensures room { IfOk result HasRoom }
     {
         Ok(Paster {
             held: Held::new(alloc)?,

@@ -21,3 +21,4 @@ pub mod LoadRun
 pub mod PlayEndings
 pub mod PlayTelling
 pub mod PlayReading
+pub mod ClipLaws

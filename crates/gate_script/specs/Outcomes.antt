@@ -9,7 +9,7 @@ use Rattle.gate_model.specs.declared.act.Act.{Act}
 use Rattle.gate_model.specs.declared.event.Event.TheVariants.{Write as write_acts}
 use Rattle.script_lines.specs.declared.text_form.TextForm.{TextForm}
 use Rattle.script_lines.specs.declared.form.Form.{Form}
-use Rattle.script_lines.specs.declared.form.Form.TheVariants.{Text, Load, Play as play_form}
+use Rattle.script_lines.specs.declared.form.Form.TheVariants.{Text, Load, Clip, Play as play_form}
 use Rattle.script_lines.specs.declared.totals.Totals.{Totals}
 use Rattle.load_lines.specs.Words.{drawn}
 use Rattle.load_lines.specs.Rounds.{load_orders}
@@ -23,6 +23,7 @@ use Rattle.script_lines.specs.Grammar.{whole_lines, all_lines}
 use Rattle.script_lines.specs.Lines.{line_in, told_by}
 use Rattle.gate_script.specs.declared.refused.Refused.{Refused}
 use Rattle.gate_script.specs.declared.refused.Refused.TheVariants.{BadLine, Worn}
+use Rattle.gate_script.specs.Clipping.{ClipOutcome}
 use Rattle.gate_script.specs.PlayOutcomes.{PlayOutcome}
 use Rattle.gate_script.specs.Told.{bad_line, worn_line, worn_by}
 use Rattle.gate_script.specs.Plays.{AreTotals, Play, Does, Plays, event_of, Tells}
@@ -219,3 +220,4 @@ abbrev pub Outcome : ℕ → Form → Option (List ℕ) → List ℕ → List �
 Outcome status (Text form) left bytes a f = LinesOutcome status form left bytes a f
 Outcome status (Load seed rounds) left bytes a f = LoadOutcome status seed rounds bytes a f
 Outcome status (play_form told) left bytes a f = PlayOutcome status told left bytes a f
+Outcome status Clip left bytes a f = ClipOutcome status left bytes a f

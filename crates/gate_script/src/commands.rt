@@ -8,6 +8,7 @@ ghost use Rattle.gate_script.specs.Outcomes.{IsStatus, LinesOutcome, LoadOutcome
 ghost use Rattle.gate_script.specs.Sinks.{held};
 ghost use Rattle.gate_script.specs.Running.{Ended, HasCause, HasRead, Put, RunEnds, refused_status, status_after};
 
+use crate::clip::clip;
 use crate::halt::Halt;
 use crate::input::Input;
 use crate::load::Load;
@@ -28,11 +29,13 @@ use std::alloc::Global;
 /// - `load SEED ROUNDS`: a seed below 2^64, at most 1,000,000 rounds. Nothing is read.
 /// - `play info`, `play at STAMP` or `play keys`: a stamp below 2^64. The input is a recording, or for `keys` a
 ///   client's stream, of at most 67,108,864 bytes; no frames are written.
+/// - `clip`: the input, a client's stream, is copied to the answers, and what is pasted in it is typed as keys; no
+///   frames are written.
 ///
 /// The statuses: 0, the input was read to its end, or the rounds were done; 2, the words are of no form, and nothing is read or
 /// written; 3, a line of the script is outside the grammar; 4, the source failed; 5, a sink failed; 6,
 /// want of memory; 7, the session may have no more entries; 10, the recording has a fault, or the stream a bad
-/// byte.
+/// byte; 11, the input of `clip` has more than 67,108,864 bytes, of which the first so many were copied.
 pub fn command<S: Source, A: Sink, F: Sink>(
     alloc: Global,
     words: &[String],
@@ -61,6 +64,7 @@ pub fn command<S: Source, A: Sink, F: Sink>(
         Some(Form::Text(form)) => text(alloc, form, source, answers, frames),
         Some(Form::Load(seed, rounds)) => load(alloc, seed, rounds, answers, frames),
         Some(Form::Play(told)) => play(alloc, told, source, answers),
+        Some(Form::Clip) => clip(alloc, source, answers),
     }
 }
 

@@ -1,5 +1,6 @@
 //! The commands that run over text: `draw`, which draws what a Telnet host would have sent, `script`, which does
-//! the lines of a script, and `play`, which tells of a recording (`specs/PlayTold.antt`, `specs/PlayOutcomes.antt`).
+//! the lines of a script, `play`, which tells of a recording (`specs/PlayTold.antt`, `specs/PlayOutcomes.antt`), and
+//! `clip`, which types what is pasted (`specs/Clipping.antt`).
 //!
 //! `command` is the public call. Its contract says for each status what was read and written: the
 //! answers and the frames are just what the lines that the input makes (`specs/Grammar.antt` of
@@ -10,6 +11,7 @@
 //! after each line: the line of the frames, and then the answer.
 #![tactic(auto)]
 
+mod clip;
 mod commands;
 mod halt;
 mod input;

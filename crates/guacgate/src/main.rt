@@ -1,5 +1,6 @@
 //! The program `guacgate`: it draws what a Telnet host sent, as the instructions of the Guacamole
-//! protocol that a viewer is given, does scripts and loads, and serves viewers over the network.
+//! protocol that a viewer is given, does scripts and loads, tells of recordings, types what is pasted, and serves
+//! viewers over the network.
 //!
 //! All that it says of its input and its outputs is the contract of `gate_service::top`. What stands
 //! here is only the friendly edge: the words of the command line, `--help` and `--version`, and the ends of the
@@ -36,6 +37,7 @@ usage: guacgate draw COLS ROWS < BYTES
        guacgate play info < RECORDING
        guacgate play at STAMP < RECORDING
        guacgate play keys < BYTES
+       guacgate clip < BYTES
        guacgate serve --seed HEX [--port PORT] [--log LEVEL] [--allow HOST:PORT]
                       [--silence SECONDS] [--linger SECONDS]
 
@@ -47,6 +49,8 @@ load    does ROUNDS rounds (0 to 1000000) of lines that words drawn under SEED (
         and tells seven totals; it reads nothing
 play    tells of a recording its syncs, or what it shows at a stamp (0 to 2^64 - 1), and of what a client
         sent the keys; there are no frames
+clip    copies what a client sent, at most 67108864 bytes, with what is pasted in it typed as keys; there
+        are no frames
 serve   serves viewers, by the Guacamole protocol and over HTTP, on a port of this machine, 4822
         where none is given; the seed is read from standard input where it is -; serve --help tells
         more
@@ -55,7 +59,8 @@ The answers go to standard output, the instructions that each frame has, and tho
 given, to standard error.
 
 status: 0 done, 2 faulty words, 3 a line of the script is outside the grammar, 4 reading failed, 5
-writing failed, 6 no memory, 7 the session is full, 8 the port can't be listened on, 10 what is played has a fault
+writing failed, 6 no memory, 7 the session is full, 8 the port can't be listened on, 10 what is played has a fault,
+11 what is copied is too long
 ";
 
 fn main(rt: HostRuntime) -> ExitCode {

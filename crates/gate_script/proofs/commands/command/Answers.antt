@@ -1,7 +1,8 @@
 use Rattle.std.proofs.Common.{◌≡◌, ◌∙◌, inl, sym, subst}
 use Rattle.script_lines.specs.declared.form.Form.{Form}
-use Rattle.script_lines.specs.declared.form.Form.TheVariants.{Text, Load, Play}
+use Rattle.script_lines.specs.declared.form.Form.TheVariants.{Text, Load, Clip, Play}
 use Rattle.gate_script.specs.Outcomes.{Outcome, Ran}
+use Rattle.gate_script.proofs.ClipLaws.{clip_is_used, clip_ran}
 use Rattle.gate_script.proofs.LoadEndings.{load_is_used, load_ran, load_reads_none, same_form, text_is_used, text_ran, used}
 use Rattle.gate_script.proofs.PlayEndings.{play_is_used, play_ran}
 use Rattle.gate_script.proofs.commands.command.Goals as goal
@@ -59,3 +60,23 @@ returns-in-Some-Play-clause-outcome g c = λ form is.
 
 pub returns-in-Some-Play-clause-write_fault : goal.returns-in-Some-Play-clause-write_fault
 returns-in-Some-Play-clause-write_fault g c = λ e. inl (c.play.ensures.write_fault e)
+
+-- a client's stream
+
+pub returns-in-Some-Clip-clause-usage : goal.returns-in-Some-Clip-clause-usage
+returns-in-Some-Clip-clause-usage g c = used _ c.in-Some-Clip.field-0 c.clip.result (sym c.in-Some-Clip.ensures.exact) (λ e. clip_is_used c.clip.result c.clip.ensures.only e)
+
+pub returns-in-Some-Clip-clause-nothing : goal.returns-in-Some-Clip-clause-nothing
+returns-in-Some-Clip-clause-nothing g c = λ e. clip_is_used c.clip.result c.clip.ensures.only e
+
+pub returns-in-Some-Clip-clause-outcome : goal.returns-in-Some-Clip-clause-outcome
+returns-in-Some-Clip-clause-outcome g c = λ form is.
+    let same : Clip ≡ form = sym c.in-Some-Clip.field-0-is ∙ same_form c.in-Some-Clip.field-0 form (c.in-Some-Clip.ensures.exact ∙ is) in
+    let before = g.S.Source.left c.args.source.now in
+    let left = g.S.Source.left c.clip.new.source in
+    let framed = g.F.Sink.written c.args.frames.now in
+    subst (λ (x : Form). Ran before left (g.A.Sink.written c.args.answers.now) (g.A.Sink.written c.clip.new.answers) framed framed (Outcome c.clip.result x left)) same
+    (clip_ran c.clip.result before left (g.A.Sink.written c.args.answers.now) (g.A.Sink.written c.clip.new.answers) framed c.clip.ensures.outcome)
+
+pub returns-in-Some-Clip-clause-write_fault : goal.returns-in-Some-Clip-clause-write_fault
+returns-in-Some-Clip-clause-write_fault g c = λ e. inl (c.clip.ensures.write_fault e)
