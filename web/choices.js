@@ -8,10 +8,11 @@ const KEY = 'guacgate';
  * @property {number} size  the size of the font in pixels of the page, or 0 for what fits the window
  * @property {number} lines  how many lines are kept above the screen
  * @property {boolean} speaks  whether new lines are said
+ * @property {boolean} asks  whether it is asked before several lines are pasted
  */
 
 /** @type {Choices} */
-export const FIRST = { text: 'sharp', size: 0, lines: 10000, speaks: true };
+export const FIRST = { text: 'sharp', size: 0, lines: 10000, speaks: true, asks: true };
 
 /** The sizes of the font that can be chosen, and the numbers of lines. */
 export const SIZES = [0, 10, 12, 14, 16, 18, 20, 24, 28, 32];
@@ -26,6 +27,7 @@ export function choicesOf(text) {
     size: SIZES.includes(kept.size) ? kept.size : FIRST.size,
     lines: LINES.includes(kept.lines) ? kept.lines : FIRST.lines,
     speaks: typeof kept.speaks === 'boolean' ? kept.speaks : FIRST.speaks,
+    asks: typeof kept.asks === 'boolean' ? kept.asks : FIRST.asks,
   };
 }
 
@@ -49,6 +51,7 @@ export function choose(form, choices, changed) {
     form.elements.size.value = String(choices.size);
     form.elements.lines.value = String(choices.lines);
     form.elements.speaks.checked = choices.speaks;
+    form.elements.asks.checked = choices.asks;
   };
   const set = (next) => {
     choices = next;
@@ -61,7 +64,8 @@ export function choose(form, choices, changed) {
     size: Number(form.elements.size.value),
     lines: Number(form.elements.lines.value),
     speaks: form.elements.speaks.checked,
+    asks: form.elements.asks.checked,
   }));
   fill();
-  return { change: (part) => set({ ...choices, ...part }) };
+  return { get now() { return choices; }, change: (part) => set({ ...choices, ...part }) };
 }

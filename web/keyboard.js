@@ -12,6 +12,8 @@ export class Keyboard {
   #act;
   #isMac;
   #isSelected;
+  #paste;
+  #isPasting = false;
   // By where the key is: the keysym that it was pressed with, so that the release names the same.
   #down = new Map();
   // The modifiers that are held for the next key alone, by buttons.
@@ -21,15 +23,16 @@ export class Keyboard {
    * @param {HTMLTextAreaElement} field
    * @param {(keysym: number, isPressed: boolean) => void} send
    * @param {(action: import('./keysyms.js').Action) => void} act does what the page itself does at a key
-   * @param {{ isMac: boolean, isSelected: () => boolean }} surroundings  whether Option makes characters, and whether
-   *   text is selected
+   * @param {{ isMac: boolean, isSelected: () => boolean, paste: (text: string) => void }} surroundings  whether Option
+   *   makes characters, whether text is selected, and what takes a text that is pasted
    */
-  constructor(field, send, act, { isMac, isSelected }) {
+  constructor(field, send, act, { isMac, isSelected, paste }) {
     this.#field = field;
     this.#send = send;
     this.#act = act;
     this.#isMac = isMac;
     this.#isSelected = isSelected;
+    this.#paste = paste;
     field.addEventListener('keydown', (event) => this.press(event));
     field.addEventListener('keyup', (event) => this.#release(event.code));
     field.addEventListener('compositionstart', () => field.classList.add('composing'));
@@ -37,9 +40,12 @@ export class Keyboard {
     field.addEventListener('compositionend', () => this.#takeField());
     field.addEventListener('input', (event) => { if (!(/** @type {InputEvent} */ (event).isComposing)) this.#takeField(); });
     // What is pasted falls into the field, too. It may have come by Control, which is let go first.
-    field.addEventListener('paste', () => this.#releaseAll());
+    field.addEventListener('paste', () => {
+      this.letGo();
+      this.#isPasting = true;
+    });
     // The browser tells no release of a key that is let go elsewhere.
-    field.addEventListener('blur', () => this.#releaseAll());
+    field.addEventListener('blur', () => this.letGo());
     this.#empty();
   }
 
@@ -52,7 +58,7 @@ export class Keyboard {
     event.preventDefault();
     if (meaning === 'nothing') return;
     if ('action' in meaning) return this.#act(meaning.action);
-    if (meaning.isBare) this.#releaseAll();
+    if (meaning.isBare) this.letGo();
     else this.#holdAsIn(event, meaning);
     this.#beginHeld(meaning.keysym);
     this.#down.set(event.code, meaning.keysym);
@@ -107,7 +113,8 @@ export class Keyboard {
     this.#send(keysym, false);
   }
 
-  #releaseAll() {
+  /** Releases all keys that are down. */
+  letGo() {
     [...this.#down.keys()].forEach((code) => this.#release(code));
   }
 
@@ -116,8 +123,11 @@ export class Keyboard {
     const { value } = this.#field;
     this.#empty();
     const text = value.replaceAll(SENTINEL, '');
+    const isPasted = this.#isPasting;
+    this.#isPasting = false;
+    if (isPasted) this.#paste(text);
     // With Control held by a button, a letter is meant.
-    if (text !== '') this.type(this.#held.has(CONTROL) ? text.toLowerCase() : text);
+    else if (text !== '') this.type(this.#held.has(CONTROL) ? text.toLowerCase() : text);
     else if (value === '') this.tap(keysymNamed('Backspace'));
   }
 

@@ -6,6 +6,7 @@ import { Follow } from './follow.js';
 import { Keyboard, isPaste } from './keyboard.js';
 import { meaningOfKey } from './keysyms.js';
 import { rightsOf, wayOn, wordsOf } from './messages.js';
+import { Paster } from './paste.js';
 import { faultOf, formOf, joinBy, linkOf, requestOf, sessionOf, sizeOf, titleOf } from './request.js';
 import { Mouse, copyAsLines, copySelected, selectedText } from './selection.js';
 import { Speech } from './speech.js';
@@ -19,6 +20,8 @@ const at = (id) => document.getElementById(id);
 const PATH = location.origin + new URL('tunnel', location.href).pathname;
 const IS_MAC = /^(Mac|iP)/.test(navigator.platform);
 const FIELDS = ['hostname', 'port', 'columns', 'rows', 'terminal-type'];
+// How long, in milliseconds, what happened is told.
+const NOTICED = 20000;
 
 /** @type {View | null} */
 let view = null;
@@ -36,6 +39,13 @@ const choices = choose(at('choices'), kept(), (chosen) => {
 function tell(state, message = '') {
   document.body.dataset.state = state;
   at('message').textContent = message;
+}
+
+let noticed = 0;
+function notice(words) {
+  at('notice').textContent = words;
+  clearTimeout(noticed);
+  noticed = setTimeout(() => { at('notice').textContent = ''; }, NOTICED);
 }
 
 const told = {
@@ -78,6 +88,7 @@ async function start(asked) {
   request = asked;
   surround();
   tell('opening', 'Opening …');
+  notice('');
   display.clear();
   const size = sizeOf(request, display.measured());
   let end;
@@ -100,6 +111,7 @@ async function start(asked) {
 
 function finish(end, wasOpen) {
   const { word, isAgain, isReload } = wayOn(end, request);
+  paster.forget();
   tell('ended', wordsOf(end, wasOpen));
   at('rights').textContent = '';
   at('links').hidden = true;
@@ -166,8 +178,11 @@ function send(keysym, isPressed) {
   view.press(keysym, isPressed);
 }
 
-const keyboard = new Keyboard(at('keys'), send, (action) => act[action](), { isMac: IS_MAC, isSelected: () => selectedText(at('screen')) !== '' });
-buttonsOf(at('touch'), at('keys'), keyboard);
+const paste = (text) => paster.paste(text);
+const keyboard = new Keyboard(at('keys'), send, (action) => act[action](), { isMac: IS_MAC, isSelected: () => selectedText(at('screen')) !== '', paste });
+const paster = new Paster(at('asking'), (text) => keyboard.type(text), notice, () => choices.now.asks, () => choices.change({ asks: false }));
+at('asking').addEventListener('close', focusKeys);
+buttonsOf(at('touch'), at('keys'), keyboard, paste);
 copyAsLines(at('screen'));
 new Mouse(at('screen'), focusKeys);
 

@@ -13,6 +13,7 @@ F = [None, *(chr(0xE031 + k) for k in range(12))]
 STATE = "return document.body.dataset.state"
 MESSAGE = "return document.getElementById('message').textContent"
 RIGHTS = "return document.getElementById('rights').textContent"
+NOTICE = "return document.getElementById('notice').textContent"
 FOCUS = "return document.activeElement.id || document.activeElement.tagName"
 LINES = "return [...document.querySelectorAll('#text .line')].map((it) => it.textContent)"
 STAMP_AND_LINES = "return [document.body.dataset.stamp, [...document.querySelectorAll('#text .line')].map((it) => it.textContent)]"

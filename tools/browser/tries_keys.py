@@ -28,10 +28,10 @@ def try_key_table(driver, telnet, web):
         # A line feed is Control and J, and begins a line.
         page.type("<", *keys, ">", [CONTROL, "j"])
         until_shown(page, stream, f"<{wanted}>", name)
-    paste(page, "one €\r\ntwo", [CONTROL, SHIFT, "v"])
-    until_shown(page, stream, "one M-bM-^BM-,^Mtwo", "what Control-Shift-V pastes")
+    paste(page, "one €", [CONTROL, SHIFT, "v"])
+    until_shown(page, stream, "one M-bM-^BM-,", "what Control-Shift-V pastes")
     paste(page, "three", [SHIFT, INSERT])
-    until_shown(page, stream, "twothree", "what Shift-Insert pastes")
+    until_shown(page, stream, ",three", "what Shift-Insert pastes")
     check("each is pasted once", (1, 1), (screen_of(stream()).count("one"), screen_of(stream()).count("three")))
     if driver.has_input_methods:
         page.compose(["'", "'e"], "é")

@@ -26,9 +26,9 @@ class Field extends EventTarget {
 }
 
 function keyboard({ isMac = false, selected = '' } = {}) {
-  const [field, sent, acts] = [new Field(), [], []];
-  const it = new Keyboard(field, (keysym, isPressed) => sent.push(`${isPressed ? '+' : '-'}${keysym.toString(16)}`), (action) => acts.push(action), { isMac, isSelected: () => selected !== '' });
-  return { field, sent, acts, it };
+  const [field, sent, acts, pasted] = [new Field(), [], [], []];
+  const it = new Keyboard(field, (keysym, isPressed) => sent.push(`${isPressed ? '+' : '-'}${keysym.toString(16)}`), (action) => acts.push(action), { isMac, isSelected: () => selected !== '', paste: (text) => pasted.push(text) });
+  return { field, sent, acts, pasted, it };
 }
 
 test('a key, and its release by where it is', () => {
@@ -104,13 +104,23 @@ test('Backspace of a keyboard that tells no key', () => {
   assert.deepEqual(sent, ['+ff08', '-ff08']);
 });
 
-test('what is pasted, behind the Control that it came by', () => {
-  const { field, sent } = keyboard();
+test('what is pasted is handed on, behind the release of the Control that it came by', () => {
+  const { field, sent, pasted, it } = keyboard();
   field.tell('keydown', { key: 'Control', code: 'ControlLeft', ctrlKey: true });
   field.tell('paste');
   field.value += 'a\nb';
   field.tell('input', { isComposing: false });
-  assert.deepEqual(sent, ['+ffe3', '-ffe3', '+61', '-61', '+ff0d', '-ff0d', '+62', '-62']);
+  assert.deepEqual([sent, pasted], [['+ffe3', '-ffe3'], ['a\nb']]);
+  it.type('a\nb');
+  assert.deepEqual(sent.slice(2), ['+61', '-61', '+ff0d', '-ff0d', '+62', '-62']);
+});
+
+test('a key that is held while all are let go is pressed anew for the next', () => {
+  const { field, sent, it } = keyboard();
+  field.tell('keydown', { key: 'Control', code: 'ControlLeft', ctrlKey: true });
+  it.letGo();
+  field.tell('keydown', { key: 'c', code: 'KeyC', ctrlKey: true });
+  assert.deepEqual(sent, ['+ffe3', '-ffe3', '+ffe3', '+63', '-ffe3']);
 });
 
 test('a button holds Control for the next key alone', () => {
