@@ -75,10 +75,17 @@ export class Display {
     this.clear();
   }
 
-  /** Begins anew, with layers that have no pixels, and nothing above a black screen. */
-  clear() {
+  /** What is drawn begins anew, with layers that have no pixels. What is shown stays until the next sync, and lines may be
+   *  missing between them. */
+  renew() {
     this.#cells = new Cells();
     this.#layers = this.#cells.layers = new Layers(this.#cells);
+    this.#scrollback.add([null]);
+  }
+
+  /** Begins anew, with nothing above a black screen. */
+  clear() {
+    this.renew();
     this.#shown = new Int32Array(0);
     this.#columns = 0;
     this.#cursor = -1;

@@ -14,22 +14,42 @@ function endOf(text, start, characters) {
   return at;
 }
 
-/** The instructions of a text, each a list of its elements. The text has whole instructions alone. */
-export function* instructionsOf(text) {
-  let at = 0;
+/** The instructions of a text from a place on, each with the place behind it. One that isn't finished is left out. */
+export function* instructionsFrom(text, start) {
+  let at = start;
   while (at < text.length) {
-    const elements = [];
-    for (let separator = ','; separator === ','; at++) {
+    const instruction = [];
+    for (let separator = ','; separator === ',';) {
       const dot = text.indexOf('.', at);
-      const length = text.slice(at, dot);
-      if (dot < 0 || !/^[0-9]{1,5}$/.test(length)) throw new Unreadable(`no length at ${at}`);
+      const length = text.slice(at, dot < 0 ? text.length : dot);
+      if (dot < 0 && /^[0-9]{0,5}$/.test(length)) return;
+      if (!/^[0-9]{1,5}$/.test(length)) throw new Unreadable(`no length at ${at}`);
       const end = endOf(text, dot + 1, Number(length));
-      elements.push(text.slice(dot + 1, end));
-      at = end;
-      separator = text[at];
-      if (separator !== ',' && separator !== ';') throw new Unreadable(`no end at ${at}`);
+      if (end >= text.length) return;
+      instruction.push(text.slice(dot + 1, end));
+      separator = text[end];
+      if (separator !== ',' && separator !== ';') throw new Unreadable(`no end at ${end}`);
+      at = end + 1;
     }
-    yield elements;
+    yield { instruction, end: at };
+  }
+}
+
+/** Reads instructions of a text that comes in pieces. */
+export class Reader {
+  #rest = '';
+
+  /** The instructions, each a list of its elements, that are finished by a piece. */
+  read(piece) {
+    const text = this.#rest + piece;
+    const found = [...instructionsFrom(text, 0)];
+    this.#rest = text.slice(found.at(-1)?.end ?? 0);
+    return found.map(({ instruction }) => instruction);
+  }
+
+  /** Whether no instruction is left unfinished. */
+  get isWhole() {
+    return this.#rest === '';
   }
 }
 

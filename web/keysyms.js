@@ -9,13 +9,16 @@ const NAMED = {
 };
 
 // By where the key is, since the left one and the right one are held each for itself. Shift changes nothing there.
-const MODIFIERS = { ControlLeft: 0xffe3, ControlRight: 0xffe4, AltLeft: 0xffe9, AltRight: 0xffea };
+const PLACES = { ControlLeft: 0xffe3, ControlRight: 0xffe4, AltLeft: 0xffe9, AltRight: 0xffea };
 
 /** Control and Alt, which change what other keys send. */
-export const { ControlLeft: CONTROL, AltLeft: ALT } = MODIFIERS;
+export const { ControlLeft: CONTROL, AltLeft: ALT } = PLACES;
+
+/** All of them. */
+export const MODIFIERS = Object.values(PLACES);
 
 /** Whether the keysym is Control or Alt. */
-export const isModifier = (keysym) => Object.values(MODIFIERS).includes(keysym);
+export const isModifier = (keysym) => MODIFIERS.includes(keysym);
 
 /** The keysym of a key by its name, as Tab. */
 export const keysymNamed = (name) => NAMED[name];
@@ -60,7 +63,7 @@ const EVER = ['Backspace', 'Enter', 'Escape', 'Delete'];
 export function meaningOfKey(event, isMac) {
   const { key, code } = event;
   if (event.metaKey) return 'browser';
-  if (key === 'Control' || (key === 'Alt' && !isMac)) return code in MODIFIERS ? { keysym: MODIFIERS[code] } : 'browser';
+  if (key === 'Control' || (key === 'Alt' && !isMac)) return code in PLACES ? { keysym: PLACES[code] } : 'browser';
   if (key === 'AltGraph' || key === 'Dead' || key === 'Process' || key === 'Unidentified') return 'browser';
   if ([...key].length === 1) return character(event, isMac);
   return named(event, isMac);

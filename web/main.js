@@ -5,14 +5,14 @@ import { Display } from './display.js';
 import { Follow } from './follow.js';
 import { Keyboard, isPaste } from './keyboard.js';
 import { meaningOfKey } from './keysyms.js';
-import { rightsOf, wayOn, wordsOf } from './messages.js';
+import { BACK, LOST, THROWN, rightsOf, wayOn, wordsOf, wordsOfLink } from './messages.js';
 import { Paster } from './paste.js';
-import { faultOf, formOf, joinBy, linkOf, requestOf, sessionOf, sizeOf, titleOf } from './request.js';
+import { faultOf, formOf, joinBy, linkOf, remember, remembered, requestOf, sessionOf, sizeOf, titleOf } from './request.js';
 import { Mouse, copyAsLines, copySelected, selectedText } from './selection.js';
 import { Speech } from './speech.js';
 import { buttonsOf } from './touch.js';
-import { Tunnel } from './tunnel.js';
-import { View, endOf } from './view.js';
+import { HttpTunnel } from './tunnel.js';
+import { View } from './view.js';
 
 /** @type {(id: string) => any} */
 const at = (id) => document.getElementById(id);
@@ -26,6 +26,7 @@ const NOTICED = 20000;
 /** @type {View | null} */
 let view = null;
 let request = null;
+let isLeaving = false;
 const speech = new Speech(at('news'));
 speech.isOn = kept().speaks;
 const follow = new Follow((size) => view?.resize(size));
@@ -48,15 +49,36 @@ function notice(words) {
   noticed = setTimeout(() => { at('notice').textContent = ''; }, NOTICED);
 }
 
+// What became of keys while the link was bad, until it is told that it is back.
+let trouble = '';
+function tellTrouble(words) {
+  trouble = words;
+  notice(words);
+}
+
 const told = {
   shown(stamp) {
     document.body.dataset.stamp = stamp;
     follow.shows(display.size);
   },
-  stalled(isStalled) {
-    tell(isStalled ? 'stalled' : 'open', isStalled ? 'The gateway hasn’t answered for 5 seconds. What you type is sent when it does.' : '');
+  changed(state) {
+    const before = document.body.dataset.state;
+    if (state === before) return;
+    tell(state, wordsOfLink(state, view?.types));
+    at('rights').textContent = state === 'open' ? rightsOf(request) : '';
+    at('again').hidden = state !== 'lost';
+    if (state === 'lost') keyboard.letGo();
+    if (state !== 'open') return;
+    if (before === 'opening') opened();
+    else notice(`${BACK} ${trouble}`.trim());
+    trouble = '';
   },
   answered(isAnswered) { at('rights').textContent = rightsOf(request, isAnswered); },
+  lost() {
+    keyboard.letGo();
+    tellTrouble(LOST);
+  },
+  thrown() { tellTrouble(THROWN); },
 };
 
 // What is seen around the terminal while a request is under way.
@@ -64,6 +86,11 @@ function surround() {
   at('forms').hidden = true;
   at('again').hidden = true;
   at('screen').hidden = false;
+  at('again').textContent = 'Try now';
+  at('again').onclick = () => {
+    view?.hurry();
+    focusKeys();
+  };
   at('rights').textContent = '';
   at('links').hidden = !request.id;
   at('type').hidden = request.readOnly;
@@ -91,28 +118,27 @@ async function start(asked) {
   notice('');
   display.clear();
   const size = sizeOf(request, display.measured());
-  let end;
-  try {
-    view = new View(await Tunnel.open(PATH, formOf(request, size)), display, request.readOnly, told);
-    follow.begin(request.id ? null : size);
-    letFollow(!request.readOnly && !request.keepsSize);
-    focusKeys();
-    tell('open');
-    at('rights').textContent = rightsOf(request);
-    end = await view.run();
-  } catch (fault) {
-    end = endOf(fault);
-  }
-  const wasOpen = view !== null;
+  follow.begin(request.id ? null : size);
+  view = new View(() => new HttpTunnel(PATH), display, request.readOnly, told);
+  const end = await view.run(formOf(request, size));
+  if (isLeaving) return;
   view = null;
   letFollow(false);
-  finish(end, wasOpen);
+  finish(end);
 }
 
-function finish(end, wasOpen) {
+// The session is there.
+function opened() {
+  remember(request);
+  letFollow(!request.readOnly && !request.keepsSize);
+  focusKeys();
+}
+
+function finish(end) {
   const { word, isAgain, isReload } = wayOn(end, request);
+  remember(null);
   paster.forget();
-  tell('ended', wordsOf(end, wasOpen));
+  tell('ended', wordsOf(end, !request.id));
   at('rights').textContent = '';
   at('links').hidden = true;
   at('again').textContent = word;
@@ -228,14 +254,23 @@ at('keep').addEventListener('change', () => {
   request.keepsSize = at('keep').checked;
   letFollow(view !== null && !request.keepsSize);
   if (!request.id) return;
+  remember(request);
   history.replaceState(null, '', linkOf(request, location.href));
   linkOthers();
 });
 // What is wrong in a part of a form that is folded would be told nowhere.
 at('open').addEventListener('invalid', (event) => event.target.closest('details')?.setAttribute('open', ''), true);
-addEventListener('hashchange', () => location.reload());
-addEventListener('pagehide', () => view?.leave());
+addEventListener('hashchange', () => {
+  remember(null);
+  location.reload();
+});
+addEventListener('pagehide', () => {
+  isLeaving = true;
+  view?.leave();
+});
+// A page that the browser has kept has left its session.
+addEventListener('pageshow', (event) => { if (event.persisted) location.reload(); });
 // Nobody can come back to a session that was opened here, so the browser asks before it is left.
-addEventListener('beforeunload', (event) => { if (view && !request.id) event.preventDefault(); });
-begin(requestOf(location.hash));
+addEventListener('beforeunload', (event) => { if (view && !request.id && document.body.dataset.state !== 'opening') event.preventDefault(); });
+begin(requestOf(location.hash) ?? remembered());
 for (const id of ['open', 'join']) judge(at(id));

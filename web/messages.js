@@ -35,6 +35,7 @@ export function wordsOf(end, wasOpen) {
     case 'host': return 'The host has ended the session.';
     case 'error': return meaningOf({ code: end.code, status: 0 });
     case 'refusal': return (wasOpen && WHILE_OPEN[end.code]) || meaningOf(end);
+    case 'unreachable': return 'The link to the gateway was lost, and this session can’t be reached from here any more.';
     case 'unreadable': return 'The gateway sent something that this page can’t read.';
     default: return 'This page has a fault, and can’t go on.';
   }
@@ -51,9 +52,21 @@ export function wayOn(end, request) {
   return { word: 'Open another', isAgain: false };
 }
 
+/** How the link is, `types` where keys are sent. */
+export function wordsOfLink(state, types) {
+  const kept = types ? ' What you type is kept for 10 seconds.' : '';
+  if (state === 'lost') return `The link to the gateway is lost. This page comes back by itself.${kept}`;
+  return state === 'unstable' ? `The gateway doesn’t answer.${kept}` : '';
+}
+
+/** What became of what was typed while the link was bad. */
+export const LOST = 'Some of what you typed may not have come to the host.';
+export const THROWN = 'What you typed was thrown away, since the link is lost for more than 10 seconds.';
+export const BACK = 'The link is back.';
+
 /** Who may type. The gateway tells nobody whose keys count, so of who joins it is said what is done, and what came of it. */
 export function rightsOf({ id, readOnly }, isAnswered = true) {
   if (readOnly) return 'You look on. Your keys are not sent.';
-  if (!id) return 'You may type. Nobody else may join.';
+  if (!id) return isAnswered ? 'You may type. Nobody else may join.' : 'You may type. The host doesn’t answer.';
   return isAnswered ? 'Your keys are sent.' : 'Your keys are sent, and nothing answers. This session may let you look on alone.';
 }

@@ -1,7 +1,7 @@
 // A player of recordings: the text of instructions is read once, from its beginning, and any of its syncs is shown
 // from the picture that was kept before it. It knows of no canvas, so it can be tried without a browser.
 
-import { Unreadable } from './instructions.js';
+import { Unreadable, instructionsFrom } from './instructions.js';
 import { Layers } from './layers.js';
 
 /** A picture is kept every so many characters of the recording, or sooner, where drawing took long. */
@@ -11,37 +11,6 @@ const KEPT_AFTER = 30;
 const MOST_KEPT = 512;
 /** How long a part of the reading takes, in milliseconds, before whoever shows it has a turn. */
 const PART = 25;
-
-// Where the value of so many characters ends that begins at a place. A character has two units where it is a surrogate
-// pair.
-function endOf(text, start, characters) {
-  const end = start + characters;
-  if (!/[\ud800-\udfff]/.test(text.slice(start, end))) return end;
-  let at = start;
-  for (let n = 0; n < characters && at < text.length; n++) at += text.codePointAt(at) > 0xffff ? 2 : 1;
-  return at;
-}
-
-/** The instructions of a text from a place on, each with the place behind it. One that isn't finished is left out. */
-function* instructionsFrom(text, start) {
-  let at = start;
-  while (at < text.length) {
-    const instruction = [];
-    for (let separator = ','; separator === ',';) {
-      const dot = text.indexOf('.', at);
-      const length = text.slice(at, dot < 0 ? text.length : dot);
-      if (dot < 0 && /^[0-9]{0,5}$/.test(length)) return;
-      if (!/^[0-9]{1,5}$/.test(length)) throw new Unreadable(`no length at ${at}`);
-      const end = endOf(text, dot + 1, Number(length));
-      if (end >= text.length) return;
-      instruction.push(text.slice(dot + 1, end));
-      separator = text[end];
-      if (separator !== ',' && separator !== ';') throw new Unreadable(`no end at ${end}`);
-      at = end + 1;
-    }
-    yield { instruction, end: at };
-  }
-}
 
 // Pixels in a quarter of the room, where they have few colours, as those of a terminal do.
 function packed(pixels) {

@@ -52,6 +52,23 @@ export function faultOf(name, value) {
   }
 }
 
+// Where a tab keeps the session that it shows.
+const KEY = 'guacgate';
+
+/** Keeps a session whose ID is known, so that a reload comes back to it, or forgets it. */
+export function remember(request) {
+  try {
+    if (request?.id) sessionStorage.setItem(KEY, JSON.stringify({ id: request.id, readOnly: request.readOnly, keepsSize: request.keepsSize }));
+    else sessionStorage.removeItem(KEY);
+  } catch { /* Then the address alone leads back. */ }
+}
+
+/** The session that this tab has shown, where it is loaded again, or null. */
+export function remembered() {
+  const [way] = /** @type {PerformanceNavigationTiming[]} */ (performance.getEntriesByType('navigation'));
+  try { return way?.type === 'reload' ? JSON.parse(sessionStorage.getItem(KEY) ?? 'null') : null; } catch { return null; }
+}
+
 const idIn = (text) => text.replace('%24', '$').match(/\$[0-9a-f]{8}(-[0-9a-f]{4}){3}-[0-9a-f]{12}/)?.[0];
 
 /** The address that others join by, where the session's ID is known. */

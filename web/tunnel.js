@@ -1,7 +1,29 @@
-// A tunnel to the gateway over plain HTTP requests (docs/PROTOCOL.md, "The HTTP tunnel"): one request opens it,
-// others read what the viewer is given and write what it sends.
+// Ways to the gateway. A tunnel carries instructions there and back and tells how the link is, as those of Guacamole's
+// own client do; a view knows nothing of what it stands on.
 
-import { textOf } from './instructions.js';
+import { Reader, Unreadable, textOf } from './instructions.js';
+import { READS, Rest, TRIES } from './rest.js';
+
+/** @typedef {'connecting' | 'open' | 'unstable' | 'closed'} State */
+
+/**
+ * Who is told of a tunnel: each new state, and with `closed` the fault, where it is closed by one; and the instructions
+ * that came together.
+ * @typedef {object} Hearer
+ * @property {(state: State, fault?: Error) => void} changed
+ * @property {(instructions: string[][]) => void} given
+ */
+
+/**
+ * A tunnel, for one connection.
+ * @typedef {object} Tunnel
+ * @property {State} state
+ * @property {(form: Record<string, string>, hearer: Hearer) => void} connect  opens a session, or joins one
+ * @property {(text: string) => Promise<void>} send  sends whole instructions, and ends once they have come to the gateway
+ * @property {() => void} cut  gives the link up, as if it was lost
+ * @property {() => void} disconnect  leaves, also while the page goes away
+ * @property {() => Promise<void>} giveBack  gives back the place of a closed tunnel, or fails where nothing is reached
+ */
 
 /** A request that was refused, or had no answer: `code` is the status of Guacamole, 0 where there is none. */
 export class Refusal extends Error {
@@ -10,74 +32,175 @@ export class Refusal extends Error {
     this.code = code;
     this.status = status;
   }
-}
 
-// The text that the answer to a request has.
-async function answerTo(url, options) {
-  let response;
-  try {
-    response = await fetch(url, { cache: 'no-store', ...options });
-    if (response.ok) return await response.text();
-  } catch {
-    throw new Refusal(0, 0);
+  /** Whether it is the link's, or the gateway's for a while, so that the same may work later. */
+  get mayPass() {
+    return this.code === 512 || (this.code === 0 && [0, 500, 502, 503, 504].includes(this.status));
   }
-  throw new Refusal(Number(response.headers.get('Guacamole-Status-Code')) || 0, response.status);
+
+  /** Whether it tells that nothing was done. A request without an answer may have been heard. */
+  get isUndone() {
+    return this.mayPass && [500, 502, 503].includes(this.status);
+  }
 }
 
-// The most instructions that one request may have.
-const MOST_INSTRUCTIONS = 4096;
+// Behind what a read gives.
+const END = '0.;';
+// In milliseconds: how long a session may take to open, and any other request but a read, which waits for news; after
+// which time without an answer a link counts as unstable; how long a page that is seen hears nothing before it asks
+// whether the gateway is there.
+const OPENING = 120000;
+const LIMIT = 15000;
+const STALLED = 5000;
+const QUIET = 10000;
+const BETWEEN_LOOKS = 500;
 
-/** A viewer's tunnel. */
-export class Tunnel {
+const isLast = ([opcode]) => opcode === 'disconnect' || opcode === 'error';
+
+/** A tunnel over plain HTTP requests (docs/PROTOCOL.md, "The HTTP tunnel"): one request opens it, others read what the
+ *  viewer is given and write what it sends. @implements {Tunnel} */
+export class HttpTunnel {
+  /** @type {State} */
+  state = 'connecting';
   #path;
-  #id;
-  #waiting = [];
-  #isWriting = false;
-  #asked = Infinity;
+  #isKnown = false;
+  #id = '';
+  /** @type {Hearer} */
+  #hearer = { changed() {}, given() {} };
+  #reader = new Reader();
+  #rest = new Rest(READS);
+  // The requests that are under way, and since when those that aren't reads have had no answer.
+  #underWay = new Set();
+  #asked = new Set();
+  #answered = 0;
+  #isLost = false;
+  #looks = 0;
 
-  constructor(path, id) {
+  constructor(path) {
     this.#path = path;
-    this.#id = id;
   }
 
-  /** Opens a tunnel: `form` has the fields of a session that begins, or the ID of one that is joined. */
-  static async open(path, form) {
-    const id = await answerTo(`${path}?connect`, { method: 'POST', body: new URLSearchParams(form) });
-    return new Tunnel(path, id);
-  }
-
-  /** For how many milliseconds a write has had no answer: 0 where none is under way. A read may wait as long as nothing
-   *  happens, so it tells nothing of the link. */
-  get silence() {
-    return Math.max(0, performance.now() - this.#asked);
-  }
-
-  /** What the viewer is given next: whole instructions, or an empty text where there is nothing new yet. */
-  async read() {
-    const text = await answerTo(`${this.#path}?read:${this.#id}`);
-    if (!text.endsWith('0.;')) throw new Refusal(0, 0);
-    return text.slice(0, -'0.;'.length);
-  }
-
-  /** Sends instructions in the order of the calls, those that wait together in one request. */
-  async write(instruction) {
-    this.#waiting.push(instruction);
-    if (this.#isWriting) return;
-    this.#isWriting = true;
+  async connect(form, hearer) {
+    this.#hearer = hearer;
+    this.#isKnown = form.id !== undefined;
     try {
-      while (this.#waiting.length > 0) {
-        const body = this.#waiting.splice(0, MOST_INSTRUCTIONS).join('');
-        this.#asked = performance.now();
-        await answerTo(`${this.#path}?write:${this.#id}`, { method: 'POST', body });
-      }
-    } finally {
-      this.#isWriting = false;
-      this.#asked = Infinity;
+      this.#id = await this.#answerTo('connect', new URLSearchParams(form), this.#isKnown ? LIMIT : OPENING);
+      this.#become('open');
+      this.#looks = setInterval(() => this.#look(), BETWEEN_LOOKS);
+      while (this.state !== 'closed') await this.#read();
+    } catch (fault) {
+      this.#close(fault);
     }
   }
 
-  /** Leaves. It can be called while the page goes away. */
-  leave() {
-    navigator.sendBeacon(`${this.#path}?write:${this.#id}`, textOf('disconnect'));
+  async #read() {
+    const text = await this.#answerTo('read');
+    if (!text.endsWith(END)) throw new Refusal(0, 0);
+    const instructions = this.#reader.read(text.slice(0, -END.length));
+    if (!this.#reader.isWhole) throw new Unreadable('an instruction without its end');
+    if (instructions.length > 0) this.#hearer.given(instructions);
+    if (instructions.some(isLast)) {
+      this.#id = '';
+      return this.#close();
+    }
+    // A gateway may answer at once though nothing is new. It isn't asked again as fast as it can answer.
+    if (instructions.length === 0 || globalThis.document?.hidden) await this.#rest.once();
+    else this.#rest.cut();
+  }
+
+  async send(text) {
+    this.#rest.cut();
+    try {
+      await this.#answerTo('write', text, LIMIT);
+    } catch (fault) {
+      // Who can join again sees the whole screen then. Who can't goes on with the reads, as long as they are answered.
+      if (this.#isKnown || !fault.mayPass) this.#close(fault);
+      else this.#regain();
+      throw fault;
+    }
+  }
+
+  cut() {
+    this.#close(new Refusal(0, 0));
+  }
+
+  disconnect() {
+    if (this.#id !== '') navigator.sendBeacon(`${this.#path}?write:${this.#id}`, textOf('disconnect'));
+    this.#id = '';
+    this.#close();
+  }
+
+  async giveBack() {
+    if (this.#id === '') return;
+    try {
+      await this.#answerTo('write', textOf('disconnect'), LIMIT);
+    } catch (fault) {
+      if (fault.mayPass) throw fault;
+    }
+    this.#id = '';
+  }
+
+  #become(state) {
+    if (state === this.state || this.state === 'closed') return;
+    this.state = state;
+    this.#hearer.changed(state);
+  }
+
+  /** @param {Error} [fault] */
+  #close(fault) {
+    if (this.state === 'closed') return;
+    this.state = 'closed';
+    clearInterval(this.#looks);
+    this.#underWay.forEach((it) => it.abort());
+    this.#hearer.changed('closed', fault);
+  }
+
+  // Whether the link gives answers. A read may wait as long as nothing happens, so it tells nothing of that.
+  #look() {
+    const now = performance.now();
+    const isSilent = now - Math.min(...this.#asked) > STALLED || globalThis.navigator?.onLine === false;
+    this.#become(isSilent || this.#isLost ? 'unstable' : 'open');
+    if (this.state === 'open' && this.#asked.size === 0 && now - this.#answered > QUIET && !globalThis.document?.hidden) this.send('').catch(() => {});
+  }
+
+  // Asks until the gateway is there again.
+  async #regain() {
+    if (this.#isLost) return;
+    this.#isLost = true;
+    this.#become('unstable');
+    const rest = new Rest(TRIES);
+    while (this.#isLost && this.state !== 'closed') {
+      await rest.once();
+      try {
+        await this.#answerTo('write', '', LIMIT);
+        this.#isLost = false;
+      } catch (fault) {
+        if (!fault.mayPass) this.#close(fault);
+      }
+    }
+    this.#become('open');
+  }
+
+  // The text that the answer to a request has.
+  /** @param {'connect' | 'read' | 'write'} what @param {BodyInit} [body] @param {number} [limit] */
+  async #answerTo(what, body = '', limit = 0) {
+    const abort = new AbortController();
+    const since = performance.now();
+    const timer = limit > 0 ? setTimeout(() => abort.abort(), limit) : 0;
+    this.#underWay.add(abort);
+    if (what === 'write') this.#asked.add(since);
+    let response;
+    try {
+      response = await fetch(`${this.#path}?${what}${what === 'connect' ? '' : `:${this.#id}`}`, { ...(what === 'read' ? {} : { method: 'POST', body }), cache: 'no-store', signal: abort.signal });
+      if (response.ok) return await response.text();
+    } catch {
+      throw new Refusal(0, 0);
+    } finally {
+      clearTimeout(timer);
+      this.#underWay.delete(abort);
+      this.#asked.delete(since);
+      this.#answered = performance.now();
+    }
+    throw new Refusal(Number(response.headers.get('Guacamole-Status-Code')) || 0, response.status);
   }
 }

@@ -1,47 +1,78 @@
-// One view of a session, from its opening to its end.
+// One view of a session, from its opening to its end, by one tunnel after the other where the link is lost.
 
 import { CELL_HEIGHT, CELL_WIDTH } from './font.js';
-import { Unreadable, instructionsOf, textOf } from './instructions.js';
-import { Rest } from './rest.js';
+import { Unreadable, textOf } from './instructions.js';
+import { Outbox } from './outbox.js';
+import { Rest, TRIES } from './rest.js';
 import { Refusal } from './tunnel.js';
 
 /**
- * How a view ended: by the host, by an `error` of the gateway or a refusal of it, by what can't be read, or by a fault
- * of the page.
- * @typedef {{ by: 'host' } | { by: 'error', code: number } | { by: 'refusal', code: number, status: number } | { by: 'unreadable' } | { by: 'fault' }} End
+ * How a view ended: by the host, by an `error` of the gateway or a refusal of it, by a link that is lost to a session
+ * that can't be joined, by what can't be read, or by a fault of the page.
+ * @typedef {{ by: 'host' } | { by: 'error', code: number } | { by: 'refusal', code: number, status: number } | { by: 'unreachable' } | { by: 'unreadable' } | { by: 'fault' }} End
  */
 
-// How long, in milliseconds, the gateway may take for a write before the link counts as stalled, and for something new
-// behind a key before the viewer is told that nothing answers.
-const STALLED = 5000;
+/**
+ * Who is told of a view: the stamp that is shown; how the link is; whether something new comes behind a key; that keys
+ * may be lost, or were thrown away.
+ * @typedef {object} Told
+ * @property {(stamp: string) => void} shown
+ * @property {(state: 'open' | 'unstable' | 'lost') => void} changed
+ * @property {(isAnswered: boolean) => void} answered
+ * @property {() => void} lost
+ * @property {() => void} thrown
+ */
+
+// How long, in milliseconds, something new may take behind a key before the viewer is told that nothing answers.
 const UNANSWERED = 3000;
 const BETWEEN_LOOKS = 500;
+// Where the clock went on by so much between two looks the machine has slept, and a link may be dead that looks open.
+// Browsers look once a minute for a page that isn't seen.
+const SLEPT = 20000;
+const SLEPT_HIDDEN = 90000;
+// A link that was open for so long begins anew with its tries.
+const STEADY = 10000;
 // Pixels to the inch, which the protocol has and the gateway passes over.
 const RESOLUTION = 96;
+// The statuses of a tunnel or a session that isn't there, and of one that is full.
+const ABSENT = 516;
+const FULL = 797;
 
 /** A viewer's way: it reads, shows and acknowledges, and sends keys. */
 export class View {
-  #tunnel;
+  #make;
+  /** @type {import('./tunnel.js').Tunnel | null} */
+  #tunnel = null;
+  // Tunnels whose places aren't given back yet.
+  #past = new Set();
   #display;
   #readOnly;
-  #rest = new Rest();
   #told;
+  #outbox;
+  #tries = new Rest(TRIES);
+  #isKnown = false;
+  #wasOpen = false;
+  /** @type {End | null} */
+  #end = null;
+  // A size that was told while there was no link.
+  #size = '';
   #sent = 0;
-  #isStalled = false;
   #isAnswered = true;
   #looks = 0;
+  #looked = { at: 0, isHidden: false };
 
   /**
-   * @param {import('./tunnel.js').Tunnel} tunnel
-   * @param {{ draw(instruction: string[]): boolean, settle(): void, show(): void }} display
+   * @param {() => import('./tunnel.js').Tunnel} make  makes a tunnel for each connection
+   * @param {{ draw(instruction: string[]): boolean, settle(): void, show(): void, renew(): void }} display
    * @param {boolean} readOnly
-   * @param {{ shown(stamp: string): void, stalled(isStalled: boolean): void, answered(isAnswered: boolean): void }} told
+   * @param {Told} told
    */
-  constructor(tunnel, display, readOnly, told) {
-    this.#tunnel = tunnel;
+  constructor(make, display, readOnly, told) {
+    this.#make = make;
     this.#display = display;
     this.#readOnly = readOnly;
     this.#told = told;
+    this.#outbox = new Outbox(told);
   }
 
   /** Whether keys are sent. */
@@ -49,77 +80,131 @@ export class View {
     return !this.#readOnly;
   }
 
-  /** Shows what the viewer is given until the session is over, and answers how it ended. @returns {Promise<End>} */
-  async run() {
+  /** Shows what the viewer is given until the session is over or can't be reached, and answers how it ended. The form
+   *  opens a session, or joins one by its ID, and joins it again where the link was lost. @returns {Promise<End>} */
+  async run(form) {
+    this.#isKnown = form.id !== undefined;
+    this.#looked.at = Date.now();
     this.#looks = setInterval(() => this.#look(), BETWEEN_LOOKS);
-    try {
-      for (;;) {
-        const text = await this.#tunnel.read();
-        const end = this.#play(text);
-        if (end) return end;
-        // A gateway may answer at once though nothing is new. It isn't asked again as fast as it can answer.
-        if (text === '') await this.#rest.once();
-        else this.#rest.cut();
+    for (;;) {
+      const end = await this.#attend(form);
+      if (end !== null) {
+        clearInterval(this.#looks);
+        this.leave();
+        return end;
       }
-    } catch (fault) {
-      this.leave();
-      return endOf(fault);
-    } finally {
-      clearInterval(this.#looks);
+      this.#told.changed('lost');
+      await this.#tries.once();
     }
   }
 
-  /** Sends a key, but for a viewer who only looks on. A fault of it is told by the read that fails with it. */
+  // One connection, from its opening to its end. It answers how the view ended, or null where it can be tried again.
+  async #attend(form) {
+    const since = Date.now();
+    let fault;
+    try {
+      for (const tunnel of this.#past) {
+        await tunnel.giveBack();
+        this.#past.delete(tunnel);
+      }
+      fault = await this.#hear(form);
+    } catch (caught) {
+      fault = caught;
+    }
+    const wasHere = this.#tunnel !== null;
+    if (this.#tunnel !== null) this.#past.add(this.#tunnel);
+    this.#tunnel = null;
+    this.#outbox.use(null);
+    if (this.#end !== null) return this.#end;
+    if (!this.#wasOpen || !(fault instanceof Refusal)) return endOf(fault);
+    if (!this.#isKnown) return fault.mayPass ? { by: 'unreachable' } : endOf(fault);
+    if (wasHere && Date.now() - since > STEADY) this.#tries.cut();
+    return fault.mayPass || fault.code === FULL || (wasHere && fault.code === ABSENT) ? null : endOf(fault);
+  }
+
+  // Hears a tunnel until it is closed, and answers by which fault.
+  #hear(form) {
+    const tunnel = this.#make();
+    return new Promise((closed) => {
+      tunnel.connect(form, {
+        given: (instructions) => this.#play(instructions),
+        changed: (state, fault) => {
+          if (state === 'open' && this.#tunnel === null) this.#begin(tunnel);
+          this.#outbox.turn();
+          if (state === 'open' || state === 'unstable') this.#told.changed(state);
+          if (state === 'closed') closed(fault);
+        },
+      });
+    });
+  }
+
+  #begin(tunnel) {
+    this.#tunnel = tunnel;
+    this.#outbox.use(tunnel);
+    if (this.#wasOpen) {
+      this.#display.renew();
+      this.#outbox.release();
+      if (this.#size !== '') this.#outbox.add(this.#size);
+    }
+    this.#wasOpen = true;
+    this.#size = '';
+    this.#sent = 0;
+  }
+
+  /** Sends a key, but for a viewer who only looks on. */
   press(keysym, isPressed) {
-    if (!this.types) return;
-    this.#tunnel.write(textOf('key', keysym, isPressed ? 1 : 0)).catch(() => {});
-    this.#rest.cut();
-    if (isPressed && this.#sent === 0) this.#sent = performance.now();
+    if (!this.types || !this.#wasOpen) return;
+    this.#outbox.add(textOf('key', keysym, isPressed ? 1 : 0), true);
+    if (isPressed && this.#sent === 0 && this.#tunnel?.state === 'open') this.#sent = performance.now();
   }
 
   /** Gives the session a size, but for a viewer who only looks on. @param {import('./follow.js').Size} size */
   resize({ columns, rows }) {
     if (!this.types) return;
-    this.#tunnel.write(textOf('size', columns * CELL_WIDTH, rows * CELL_HEIGHT, RESOLUTION)).catch(() => {});
-    this.#rest.cut();
+    const text = textOf('size', columns * CELL_WIDTH, rows * CELL_HEIGHT, RESOLUTION);
+    if (this.#tunnel === null) this.#size = text;
+    else this.#outbox.add(text);
   }
 
+  /** Tries at once to come back to a link that is lost. */
+  hurry() {
+    this.#tries.cut();
+  }
+
+  /** Leaves, also while the page goes away. */
   leave() {
-    this.#tunnel.leave();
+    this.#tunnel?.disconnect();
+    this.#past.forEach((tunnel) => tunnel.disconnect());
   }
 
-  // Draws instructions, shows them at their last sync and acknowledges it. It answers how the session ended, where one
-  // of them says so.
-  #play(text) {
+  // Draws instructions, shows them at their last sync and acknowledges it.
+  #play(instructions) {
     let stamp = null;
-    /** @type {End | null} */
-    let end = null;
-    for (const instruction of instructionsOf(text)) {
+    for (const instruction of instructions) {
       const [opcode, ...given] = instruction;
       if (opcode === 'sync') {
         stamp = given[0];
         this.#display.settle();
-      } else if (opcode === 'disconnect') end = { by: 'host' };
-      else if (opcode === 'error') end = { by: 'error', code: Number(given[1]) };
+      } else if (opcode === 'disconnect') this.#end = { by: 'host' };
+      else if (opcode === 'error') this.#end = { by: 'error', code: Number(given[1]) };
       else this.#display.draw(instruction);
     }
     if (stamp !== null) this.#show(stamp);
-    return end;
   }
 
   #show(stamp) {
     this.#display.show();
     this.#told.shown(stamp);
-    this.#tunnel.write(textOf('sync', stamp)).catch(() => {});
+    this.#outbox.add(textOf('sync', stamp));
     this.#sent = 0;
     this.#answer(true);
   }
 
   #look() {
-    const isStalled = this.#tunnel.silence > STALLED || globalThis.navigator?.onLine === false;
-    if (isStalled !== this.#isStalled) this.#told.stalled(isStalled);
-    this.#isStalled = isStalled;
-    if (this.#sent !== 0 && performance.now() - this.#sent > UNANSWERED && !isStalled) this.#answer(false);
+    const { at, isHidden } = this.#looked;
+    this.#looked = { at: Date.now(), isHidden: globalThis.document?.hidden === true };
+    if (this.#isKnown && this.#looked.at - at > (isHidden ? SLEPT_HIDDEN : SLEPT)) this.#tunnel?.cut();
+    if (this.#sent !== 0 && performance.now() - this.#sent > UNANSWERED && this.#tunnel?.state === 'open') this.#answer(false);
   }
 
   #answer(isAnswered) {

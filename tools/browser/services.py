@@ -81,13 +81,15 @@ class Gateway:
 
 class WebServer:
     """Hands out the page's files, and hands requests of `/tunnel` on. It keeps the texts that reads were given and what
-    was written, by tunnel. Where `forged` is set, reads are answered with that instead, and while `holds` is, writes have no answer."""
+    was written, by tunnel. Where `forged` is set, reads are answered with that instead, while `holds` is, writes have no
+    answer, and while `refuses` is, they aren't handed on."""
 
     def __init__(self, gateway_port):
         self.texts = {}
         self.written = {}
         self.forged = None
         self.holds = False
+        self.refuses = False
         owner = self
 
         class Handler(http.server.SimpleHTTPRequestHandler):
@@ -111,6 +113,9 @@ class WebServer:
                 end = time.time() + 4 * PATIENCE
                 while owner.holds and "?write:" in self.path and time.time() < end:
                     time.sleep(0.05)
+                if owner.refuses and "?write:" in self.path:
+                    self.send_error(502)
+                    return
                 gateway = http.client.HTTPConnection(ADDRESS, gateway_port)
                 try:
                     gateway.request(self.command, self.path, body)
@@ -154,6 +159,59 @@ class WebServer:
 
     def close(self):
         self.server.shutdown()
+
+
+class Link:
+    """A port that is another one's, as long as the link isn't cut, which ends all connections at once, and isn't silent,
+    when nothing goes through them."""
+
+    def __init__(self, port):
+        self.far = port
+        self.is_silent = False
+        self.is_cut = False
+        self.pairs = set()
+        self.listener = socket.create_server((ADDRESS, 0), backlog=64)
+        self.port = self.listener.getsockname()[1]
+        threading.Thread(target=self.serve, daemon=True).start()
+
+    def serve(self):
+        with contextlib.suppress(OSError):
+            while True:
+                near, _ = self.listener.accept()
+                pair = (near, socket.create_connection((ADDRESS, self.far)))
+                self.pairs.add(pair)
+                if self.is_cut:
+                    self.end(pair)
+                for way in (pair, pair[::-1]):
+                    threading.Thread(target=self.carry, args=(pair, *way), daemon=True).start()
+
+    def carry(self, pair, source, sink):
+        with contextlib.suppress(OSError):
+            while piece := source.recv(65536):
+                while self.is_silent:
+                    time.sleep(0.02)
+                sink.sendall(piece)
+        self.end(pair)
+
+    def end(self, pair):
+        for it in pair:
+            with contextlib.suppress(OSError):
+                it.shutdown(socket.SHUT_RDWR)
+            it.close()
+        self.pairs.discard(pair)
+
+    def cut(self):
+        self.is_cut = True
+        for pair in list(self.pairs):
+            self.end(pair)
+
+    def mend(self):
+        self.is_cut = False
+        self.is_silent = False
+
+    def close(self):
+        self.listener.close()
+        self.cut()
 
 
 def element(text):

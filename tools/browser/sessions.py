@@ -95,6 +95,16 @@ def until_still(page):
     until(True, stays)
 
 
+# Keeps all that an element tells, since what is told next stands in its place, where HEARD finds it. It is a script of
+# the page, so that it stays.
+HEAR = """
+    const [id, script] = [arguments[0], document.createElement('script')];
+    script.textContent = `new MutationObserver(() => { document.body.dataset.${id}Heard = (document.body.dataset.${id}Heard ?? '') + document.getElementById('${id}').textContent; }).observe(document.getElementById('${id}'), { childList: true });`;
+    document.head.append(script);
+"""
+HEARD = "return document.body.dataset[arguments[0] + 'Heard'] ?? ''"
+
+
 # What a session has that doesn't follow the window.
 KEPT = "&columns=100&rows=30"
 

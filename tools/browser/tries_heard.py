@@ -1,14 +1,8 @@
 """The page without a mouse and without eyes: what is said, what has the focus, and the list of what WCAG 2.1 AA wants
 of a page as far as it can be told from its elements."""
 from checks import check, eventually
-from sessions import CONTROL, ESCAPE, F, FOCUS, LINES, MESSAGE, RETURN, SHIFT, STATE, TAB, opened, until_shown
+from sessions import CONTROL, ESCAPE, F, FOCUS, HEAR, HEARD, LINES, MESSAGE, RETURN, SHIFT, STATE, TAB, opened, until_shown
 
-# Keeps all that is said, since what is said next stands in its place.
-HEAR = """
-    const script = document.createElement('script');
-    script.textContent = "new MutationObserver(() => { document.body.dataset.said = (document.body.dataset.said ?? '') + document.getElementById('news').textContent; }).observe(document.getElementById('news'), { childList: true });";
-    document.head.append(script);
-"""
 NEWS = "return document.getElementById('news').textContent"
 # Each answers the elements that lack something.
 WCAG = {
@@ -38,10 +32,10 @@ def check_list(page, where):
 def try_hearing(driver, telnet, web):
     page, stream = opened(driver, telnet, web)
     check_list(page, "a terminal")
-    page.run(HEAR)
+    page.run(HEAR, "news")
     page.type(*"echo heard; ls /nowhere", RETURN)
     until_shown(page, stream, "cannot access")
-    page.shows("new lines are said", [True, True], "return [/heard/, /cannot access/].map((it) => it.test(document.body.dataset.said))")
+    eventually("new lines are said", True, lambda: all(it in page.run(HEARD, "news") for it in ("heard", "cannot access")))
     check("a reader has the text of the screen", True, any("cannot access" in it for it in page.run(LINES)))
     if driver.has_input_methods:
         names = lambda: [it.get("name", {}).get("value", "") for it in page.command("Accessibility.getFullAXTree")["nodes"]]  # noqa: E731

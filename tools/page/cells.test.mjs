@@ -5,7 +5,7 @@ import assert from 'node:assert/strict';
 import test from 'node:test';
 import { framesOf, isBuilt, module, recordings, seen } from './page.mjs';
 
-const { instructionsOf } = await module('instructions');
+const { instructionsFrom } = await module('instructions');
 const { Layers } = await module('layers');
 const { CELL_HEIGHT, CELL_WIDTH, rowsOf } = await module('font');
 const { Cells, PICTURE, cellOf, cellsOf, textOf } = await module('cells');
@@ -49,7 +49,7 @@ function screen() {
 
 // Plays a text, and calls `atSync` with the stamp at each sync.
 function play(cells, text, atSync = () => {}) {
-  for (const instruction of instructionsOf(text)) {
+  for (const { instruction } of instructionsFrom(text, 0)) {
     if (instruction[0] !== 'sync') { cells.layers.draw(instruction); continue; }
     cells.settle();
     atSync(instruction[1]);

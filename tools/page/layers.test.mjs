@@ -4,7 +4,7 @@ import assert from 'node:assert/strict';
 import test from 'node:test';
 import { framesOf, isBuilt, module, recordings, seen } from './page.mjs';
 
-const { Unreadable, instructionsOf } = await module('instructions');
+const { Unreadable, instructionsFrom } = await module('instructions');
 const { Layers } = await module('layers');
 
 const [GREY, BLACK, CLEAR] = [0xffaaaaaa, 0xff000000, 0];
@@ -12,7 +12,7 @@ const EXAMPLE = '4.size,1.0,1.3,1.2;4.rect,1.0,1.0,1.0,1.2,1.2;5.cfill,2.14,1.0,
 
 function drawn(text) {
   const layers = new Layers();
-  for (const instruction of instructionsOf(text)) layers.draw(instruction);
+  for (const { instruction } of instructionsFrom(text, 0)) layers.draw(instruction);
   return layers.visible;
 }
 

@@ -3,7 +3,7 @@ import assert from 'node:assert/strict';
 import test from 'node:test';
 import { module } from './page.mjs';
 
-const { meaningOf, rightsOf, wayOn, wordsOf } = await module('messages');
+const { meaningOf, rightsOf, wayOn, wordsOf, wordsOfLink } = await module('messages');
 const [JOINED, OPENED] = [{ id: '$1' }, { hostname: 'h' }];
 
 test('each status of docs/PROTOCOL.md has words of its own', () => {
@@ -27,12 +27,22 @@ const ways = [
   [{ by: 'host' }, JOINED, 'To the start'], [{ by: 'error', code: 523 }, JOINED, 'To the start'], [{ by: 'refusal', code: 516, status: 404 }, JOINED, 'To the start'],
   [{ by: 'refusal', code: 771, status: 403 }, JOINED, 'To the start'], [{ by: 'refusal', code: 0, status: 0 }, JOINED, 'Join again'], [{ by: 'refusal', code: 797, status: 429 }, JOINED, 'Join again'],
   [{ by: 'unreadable' }, JOINED, 'Join again'], [{ by: 'refusal', code: 0, status: 401 }, JOINED, 'Log in'],
-  [{ by: 'host' }, OPENED, 'Open another'], [{ by: 'refusal', code: 519, status: 502 }, OPENED, 'Open another'], [{ by: 'fault' }, OPENED, 'Open another'],
+  [{ by: 'host' }, OPENED, 'Open another'], [{ by: 'refusal', code: 519, status: 502 }, OPENED, 'Open another'], [{ by: 'fault' }, OPENED, 'Open another'], [{ by: 'unreachable' }, OPENED, 'Open another'],
 ];
 for (const [end, request, word] of ways) test(`behind ${JSON.stringify(end)}: ${word}`, () => assert.equal(wayOn(end, request).word, word));
+
+test('how the link is', () => {
+  assert.equal(wordsOfLink('open', true), '');
+  for (const state of ['lost', 'unstable']) {
+    assert.match(wordsOfLink(state, true), /kept for 10 seconds/);
+    assert.doesNotMatch(wordsOfLink(state, false), /type/);
+  }
+  assert.match(wordsOf({ by: 'unreachable' }, true), /can’t be reached from here/);
+});
 
 test('who may type', () => {
   assert.match(rightsOf({ id: '$1', readOnly: true }), /not sent/);
   assert.equal(rightsOf({ hostname: 'h' }), 'You may type. Nobody else may join.');
+  assert.match(rightsOf({ hostname: 'h' }, false), /doesn’t answer/);
   assert.notEqual(rightsOf({ id: '$1' }, true), rightsOf({ id: '$1' }, false));
 });
