@@ -50,6 +50,16 @@ module _ (flags later : List Bool) (from to : ℕ) (order : from ≤ to) (s : Ar
         omega (arith, here, struck n (omega (arith, le)))
   ]
 
+-- what isn't wanted before isn't after
+pub struck_off : (flags later : List Bool) (from to : ℕ) → AreStruck flags later from to → (p : ℕ) → is_on flags p ≡ false → is_on later p ≡ false
+struck_off flags later from to s p e = elim (cases_lt p from) as (λ _. is_on later p ≡ false) [
+  | inl low ↦ s.before p low ∙ e
+  | inr le ↦ elim (cases_lt p to) as (λ _. is_on later p ≡ false) [
+    | inl high ↦ s.inside p (omega (arith, le)) high
+    | inr past ↦ s.after p (omega (arith, past)) ∙ e
+  ]
+]
+
 -- ---- one place is struck
 get_same : (xs : List Bool) (n : ℕ) (x : Bool) → n < length xs → slice_index_or (slice_set xs n x) n true ≡ x
 get_same [] n x lt = absurd (omega (arith, lt))

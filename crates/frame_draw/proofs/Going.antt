@@ -89,10 +89,10 @@ if_not held key e = some_new held key false e
 held_in : (keys held : Buffers) (key : Key) (b : Bool) → keys ≡ held → is_held keys key ≡ b → is_held held key ≡ b
 held_in keys held key b e f = sym (ap (λ (ks : Buffers). is_held ks key) e) ∙ f
 
-no_longer : (held more next : Buffers) → next ≡ held ++ more → length next ≤ 1024 → length held ≤ 1024
+pub no_longer : (held more next : Buffers) → next ≡ held ++ more → length next ≤ 1024 → length held ≤ 1024
 no_longer held more next e few = omega (arith, ap length e, length-append held more, few)
 
-exact_more : (kind : SlotKind) (n : ℕ) (key : Key) (keys more held next : Buffers) → Gets keys key kind n more → next ≡ held ++ if_new (is_held held key) key
+pub exact_more : (kind : SlotKind) (n : ℕ) (key : Key) (keys more held next : Buffers) → Gets keys key kind n more → next ≡ held ++ if_new (is_held held key) key
     → (length held ≤ 1024 → keys ≡ held) → length next ≤ 1024 → more ≡ next
 exact_more Held n key keys more held next g e same few =
     let was : keys ≡ held = same (no_longer held (if_new (is_held held key) key) next e few) in
@@ -109,13 +109,13 @@ one_new : (held : Buffers) (key : Key) → is_held held key ≡ false → length
 unfolding if_new
 one_new held key e = ap (λ (b : Bool). length (if_new b key)) e
 
-short_more : (kind : SlotKind) (n : ℕ) (k : ℤ) (key : Key) (keys more held : Buffers) → Gets keys key kind n more → (length held ≤ 1024 → keys ≡ held)
+pub short_more : (kind : SlotKind) (n : ℕ) (k : ℤ) (key : Key) (keys more held : Buffers) → Gets keys key kind n more → (length held ≤ 1024 → keys ≡ held)
     → length held ≤ 1024 → length (painting kind k key) ≤ 25 * length (if_new (is_held held key) key)
 short_more Held n k key keys more held g same few = omega (arith, ap length (held_is_painted k key))
 short_more Made n k key keys more held g same few = omega (arith, painting_length Made k key, one_new held key (held_in keys held key false (same few) g.0))
 short_more Reused n k key keys more held g same few = omega (arith, painting_length Reused k key, one_new held key (held_in keys held key false (same few) g.0))
 
-stays_more : (kind : SlotKind) (n : ℕ) (key : Key) (keys more : Buffers) → Gets keys key kind n more → length keys ≤ length more
+pub stays_more : (kind : SlotKind) (n : ℕ) (key : Key) (keys more : Buffers) → Gets keys key kind n more → length keys ≤ length more
 stays_more Held n key keys more g = omega (arith, ap length g.1)
 stays_more Made n key keys more g = omega (arith, ap length g.3, length-append keys (key ∷ []))
 stays_more Reused n key keys more g = omega (arith, ap length g.3, length-set keys n key)

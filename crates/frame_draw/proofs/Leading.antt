@@ -23,7 +23,7 @@ use Rattle.frame_draw.specs.Leads.{AreFlags, AreStruck, IsRun, IsStrip, Leads, i
 use Rattle.frame_draw.proofs.Allowed.{filling_draws, filling_length, filling_readable}
 use Rattle.frame_draw.proofs.Copied.{place_below}
 use Rattle.frame_draw.proofs.Going.{mixed_all}
-use Rattle.frame_draw.proofs.Counts.{count_same, struck}
+use Rattle.frame_draw.proofs.Counts.{count_same, struck, struck_off}
 use Rattle.frame_draw.proofs.Left.{left_copied, left_passed, next_is}
 use Rattle.frame_draw.proofs.Strips.{strip_filled}
 
@@ -36,6 +36,7 @@ leads_none now list flags = record {
   draws = refl;
   readable = tt;
   alike = refl;
+  off = λ p e. e;
   short = omega arith;
 }
 
@@ -47,6 +48,7 @@ leads_both now first second third f g h a b = record {
   draws = draws_both now.cols now.rows [] a.more b.more a.draws b.draws;
   readable = readable_both a.more b.more a.readable b.readable;
   alike = b.alike ∙ a.alike;
+  off = λ p e. b.off p (a.off p e);
   short = omega (arith, a.short, b.short, length-append a.more b.more);
 }
 
@@ -103,6 +105,7 @@ module _ (now : KeyGrid) (list longer : List Instr) (flags later : List Bool) (p
         (let lt : place / now.cols < now.rows = div_below place now.cols now.rows size.some_columns (omega (arith, in_place, full)) in omega (arith, lt, size.few_rows))
         wide high;
     alike = s.alike;
+    off = struck_off flags later place (place + w * h) s;
     short = omega (arith, filling_length now.cols place w h key.paper, counted, enough, struck flags later place (place + w * h) (omega arith) s (length now.keys) (omega (arith, within, run.within)));
   }
 
@@ -186,9 +189,6 @@ past_end [] p le = refl
 past_end (x ∷ xs) zero le = absurd (omega (arith, le))
 past_end (x ∷ xs) (suc p) le = past_end xs p (omega (arith, le))
 
-pub known_fits : (now : KeyGrid) (flags : List Bool) → Fits now (known now flags) (is_on flags)
-known_fits now flags place e = unless (is_on flags place) false (key_at now.keys place) e
-
 -- what is known of the places of the screen
 pub knows_within : (m : Layers) (cols rows : ℕ) (at next : Places) (keys : Buffers) → ((p : ℕ) (k : Key) → p < rows * cols → next p ≡ Some k → at p ≡ Some k) → AreDrawn m cols rows at keys → AreDrawn m cols rows next keys
 knows_within m cols rows at next keys less a = record {
@@ -200,7 +200,7 @@ knows_within m cols rows at next keys less a = record {
   no_paths = a.no_paths;
 }
 
-known_rest : (now : KeyGrid) (flags : List Bool) (rest : Places) (copies : ℕ → Bool) → Fits now rest copies → AreFlags flags (length now.keys) copies → (p : ℕ) (k : Key) → known now flags p ≡ Some k → rest p ≡ Some k
+pub known_rest : (now : KeyGrid) (flags : List Bool) (rest : Places) (copies : ℕ → Bool) → Fits now rest copies → AreFlags flags (length now.keys) copies → (p : ℕ) (k : Key) → known now flags p ≡ Some k → rest p ≡ Some k
 known_rest now flags rest copies fits f p k e = cases (is_on flags p) refl (sym (unless (is_on flags p) (is_on flags p) (key_at now.keys p) refl) ∙ e)
   where
     cases : (b : Bool) → is_on flags p ≡ b → (if b then None else Some (key_at now.keys p)) ≡ Some k → rest p ≡ Some k
@@ -209,23 +209,3 @@ known_rest now flags rest copies fits f p k e = cases (is_on flags p) refl (sym 
       | inl lt ↦ fits p (sym (f.told p lt) ∙ off) ∙ g
       | inr le ↦ absurd (let wrong : true ≡ false = sym (past_end flags p (omega (arith, le, f.all))) ∙ off in cc)
     ]
-
-pub along_led : (now : KeyGrid) (list between longer : List Instr) (before keys : Buffers) (rest : Places) (copies : ℕ → Bool) (flags later : List Bool)
-    → length now.keys ≡ now.rows * now.cols → Fits now rest copies → AreFlags flags (length now.keys) copies → Leads now list flags between later
-    → Along now between before (known now later) (is_on later) (length now.keys) (length now.keys) longer keys
-    → Along now list before rest copies (length now.keys) (length now.keys) longer keys
-along_led now list between longer before keys rest copies flags later full fits f a b =
-    let total : ℕ = length now.keys in
-    record {
-      more = a.more ++ b.more;
-      added = b.added ∙ (ap (λ (xs : List Instr). xs ++ b.more) a.added ∙ append_assoc list a.more b.more);
-      layers = λ m d. subst (λ (n : Layers). AreDrawn n now.cols now.rows (mixed now rest total) keys) (sym (draw-append m a.more b.more))
-          (knows_within (draw (draw m a.more) b.more) now.cols now.rows (mixed now (known now later) total) (mixed now rest total) keys
-          (λ p k lt e. mixed_all now (known now later) total p (omega (arith, lt, full)) ∙ (sym (mixed_all now rest total p (omega (arith, lt, full))) ∙ e))
-          (b.layers (draw m a.more) (a.layers m before (knows_within m now.cols now.rows rest (known now flags) before (λ p k lt e. known_rest now flags rest copies fits f p k e) d))));
-      draws = draws_both now.cols now.rows [] a.more b.more a.draws b.draws;
-      readable = readable_both a.more b.more a.readable b.readable;
-      stays = b.stays;
-      exact = b.exact;
-      short = λ few. omega (arith, length-append a.more b.more, a.short, b.short few, count_same (is_on flags) copies total f.told);
-    }

@@ -5,7 +5,7 @@ use Rattle.std.specs.List.{range_with_len}
 use Rattle.std.proofs.lemmas.Bool.Decides.{nat_tests}
 use Rattle.std.proofs.lemmas.Nat.{div-add-mod'}
 use Rattle.frame_draw.specs.declared.wanted.Wanted.{Wanted}
-use Rattle.frame_draw.specs.declared.wanted.Wanted.TheVariants.{All, Listed, Unlike, Flagged}
+use Rattle.frame_draw.specs.declared.wanted.Wanted.TheVariants.{All, Listed, Unlike}
 use Rattle.dirty_region.specs.Places.{place_of}
 use Rattle.frame_draw.specs.Along.{IsLeft, count_below, is_at, is_next}
 
@@ -59,7 +59,6 @@ some_left total p lt = omega (arith, lt)
 pub next_is : (cols total : ℕ) (copies : ℕ → Bool) (wanted : Wanted) (at p : ℕ) → p < total → IsLeft cols total copies wanted at p → is_next wanted at p cols ≡ copies p
 next_is cols total copies All at p lt left = sym (left p)
 next_is cols total copies (Unlike old new) at p lt left = sym (left p)
-next_is cols total copies (Flagged flags) at p lt left = sym (left p)
 next_is cols total copies (Listed list) at p lt left =
     ap (λ (o : Option (ℕ × ℕ)). is_at o p cols) (entry_at list.now at ∙ ap (λ (xs : List (ℕ × ℕ)). slice_get xs 0) (left ∙ ap (places cols copies p) (some_left total p lt)))
     ∙ first_of cols copies p (total - (p + 1))
@@ -67,7 +66,6 @@ next_is cols total copies (Listed list) at p lt left =
 pub left_copied : (cols total : ℕ) (copies : ℕ → Bool) (wanted : Wanted) (at p : ℕ) → p < total → copies p ≡ true → IsLeft cols total copies wanted at p → IsLeft cols total copies wanted (at + 1) (p + 1)
 left_copied cols total copies All at p lt e left = left
 left_copied cols total copies (Unlike old new) at p lt e left = left
-left_copied cols total copies (Flagged flags) at p lt e left = left
 left_copied cols total copies (Listed list) at p lt e left =
     drop_next list.now at (place_of cols p) (places cols copies (p + 1) (total - (p + 1)))
     (left ∙ (ap (places cols copies p) (some_left total p lt)
@@ -76,7 +74,6 @@ left_copied cols total copies (Listed list) at p lt e left =
 pub left_passed : (cols total : ℕ) (copies : ℕ → Bool) (wanted : Wanted) (at p : ℕ) → p < total → copies p ≡ false → IsLeft cols total copies wanted at p → IsLeft cols total copies wanted at (p + 1)
 left_passed cols total copies All at p lt e left = left
 left_passed cols total copies (Unlike old new) at p lt e left = left
-left_passed cols total copies (Flagged flags) at p lt e left = left
 left_passed cols total copies (Listed list) at p lt e left =
     left ∙ (ap (places cols copies p) (some_left total p lt)
     ∙ ap (λ (b : Bool). map (place_of cols) (if b then p ∷ filter copies (range_with_len (p + 1) (total - (p + 1))) else filter copies (range_with_len (p + 1) (total - (p + 1))))) e)

@@ -13,5 +13,6 @@ mod Leading
 mod Banding
 mod Holding
 mod Walking
+mod Drawing
 pub mod Alike
 mod Ends

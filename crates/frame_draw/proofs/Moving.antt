@@ -18,7 +18,7 @@ use Rattle.frame_draw.specs.Leads.{AreStruck, IsStrip, Leads, known}
 use Rattle.frame_draw.specs.Matches.{IsMatch}
 use Rattle.frame_draw.proofs.Allowed.{run_draws, run_readable}
 use Rattle.frame_draw.proofs.Copied.{both_true, covered_pixel, other_pixel, repainted, within}
-use Rattle.frame_draw.proofs.Counts.{struck}
+use Rattle.frame_draw.proofs.Counts.{struck, struck_off}
 use Rattle.frame_draw.proofs.Strips.{area, cell_of, outside}
 
 -- ---- what the copy leaves
@@ -113,6 +113,7 @@ module _ (now : KeyGrid) (list longer : List Instr) (flags later : List Bool) (f
     draws = run_draws now.cols now.rows from to n;
     readable = (run_readable now.cols from to n (column from) (row from from_in) (column to) (row to (omega (arith, match.to_within, some, full))) (omega (arith, match.to_row some, size.few_columns)), tt);
     alike = s.alike;
+    off = struck_off flags later to (to + n) s;
     short = omega (arith, counted, enough, struck flags later to (to + n) (omega arith) s (length now.keys) match.to_within);
   }
 

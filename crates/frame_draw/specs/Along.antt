@@ -12,7 +12,7 @@ use Rattle.glyph_cache.specs.declared.slot.SlotKind.{SlotKind}
 use Rattle.glyph_cache.specs.Cache.{Gets}
 use Rattle.dirty_region.specs.Places.{place_of}
 use Rattle.frame_draw.specs.declared.wanted.Wanted.{Wanted}
-use Rattle.frame_draw.specs.declared.wanted.Wanted.TheVariants.{All, Listed, Unlike, Flagged}
+use Rattle.frame_draw.specs.declared.wanted.Wanted.TheVariants.{All, Listed, Unlike}
 use Rattle.frame_draw.specs.Strokes.{painting}
 use Rattle.frame_draw.specs.Cells.{Places, AreDrawn, mixed}
 use Rattle.frame_draw.specs.Fresh.{is_fresh}
@@ -72,11 +72,9 @@ abbrev pub is_next : Wanted → ℕ → ℕ → ℕ → Bool
 is_next All at place cols = true
 is_next (Listed list) at place cols = is_at (slice_get list.now at) place cols
 is_next (Unlike old new) at place cols = is_fresh cols old.now new.now.keys place
-is_next (Flagged flags) at place cols = is_on flags.now place
 
 -- from its entry `at` on, the list has the places from `place` on that `copies` names
 abbrev pub IsLeft : ℕ → ℕ → (ℕ → Bool) → Wanted → ℕ → ℕ → Type 0
 IsLeft cols total copies All at place = (p : ℕ) → copies p ≡ true
 IsLeft cols total copies (Listed list) at place = drop at list.now ≡ map (place_of cols) (filter copies (range_with_len place (total - place)))
 IsLeft cols total copies (Unlike old new) at place = (p : ℕ) → copies p ≡ is_fresh cols old.now new.now.keys p
-IsLeft cols total copies (Flagged flags) at place = (p : ℕ) → copies p ≡ is_on flags.now p

@@ -27,6 +27,7 @@ pub record Leads (now : KeyGrid) (list : List Instr) (flags : List Bool) (longer
   pub draws : Draws now.cols now.rows [] more
   pub readable : AreReadable more
   pub alike : length later ≡ length flags
+  pub off : (p : ℕ) → is_on flags p ≡ false → is_on later p ≡ false
   pub short : length more + count_below (is_on later) (length now.keys) ≤ count_below (is_on flags) (length now.keys)
 
 -- from a place on, so many columns and rows of cells are the places that follow: a part of one row, or whole rows

@@ -4,6 +4,7 @@ pub mod Cells
 pub mod Fresh
 pub mod Along
 pub mod Leads
+pub mod Goes
 pub mod Matches
 pub mod Recent
 pub mod Moved

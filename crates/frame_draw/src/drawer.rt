@@ -10,6 +10,7 @@ ghost use Rattle.gate_model.specs.picture.Shape.{OpensScreen, Shape};
 ghost use Rattle.gate_model.specs.session.Steps.{IsScreenSize};
 ghost use Rattle.frame_draw.specs.Along.{Along, Fits, Holds, IsLeft};
 ghost use Rattle.frame_draw.specs.Fresh.{fresh};
+ghost use Rattle.frame_draw.specs.Goes.{Goes};
 ghost use Rattle.frame_draw.specs.Leads.{AreFlags};
 ghost use Rattle.dirty_region.specs.Places.{place_of};
 ghost use Rattle.frame_draw.specs.Moved.{old_places};
@@ -18,7 +19,7 @@ ghost use Rattle.frame_draw.specs.Cells.{Places};
 
 use crate::bands::band_of;
 use crate::blanks::fill_blanks;
-use crate::runs::copy_runs;
+use crate::runs::{add_pair, copy_run, pairs_of};
 use crate::strokes::{copy_band, copy_to, paint, scroll};
 use crate::wanted::{Wanted, flags_of, is_few, is_next};
 use dirty_region::{changes, left};
@@ -194,8 +195,37 @@ fn draw_flagged(
     ensures kept { new_keys cache.old.keys now.now.keys ≡ [] → cache.new.keys ≡ cache.old.keys }
 {
     fill_blanks(list, flags, now)?;
-    copy_runs(list, flags, now)?;
-    draw_places(list, cache, now, Wanted::Flagged(flags))
+    draw_runs(list, cache, now, flags)
+}
+
+// Place by place, row by row: the buffer of its key, and where the place is wanted a run that begins there and stands
+// elsewhere already, or else a copy from the buffer. What was drawn before the place stands there already.
+fn draw_runs(
+    list: &mut Vec<Instr>,
+    cache: &mut Cache,
+    now: &Shown,
+    wanted: &mut [bool],
+) -> Result<(), NoMemory>
+    requires size { IsScreenSize now.now.cols now.now.rows }
+    requires coloured { AreColoured now.now.keys }
+    requires all { length wanted.now ≡ length now.now.keys }
+    ensures goes { OnOk result (Goes now.now list.old.items cache.old.keys wanted.old (length now.now.keys) (length now.now.keys) list.new.items wanted.new cache.new.keys) }
+    ensures kept { new_keys cache.old.keys now.now.keys ≡ [] → cache.new.keys ≡ cache.old.keys }
+    ensures full { length now.now.keys ≡ now.now.rows * now.now.cols }
+{
+    let (keys, cols) = (now.as_slice(), now.cols() as usize);
+    let mut recent = [None; RECENT];
+    let mut pairs = pairs_of(keys, wanted);
+    for place in 0..keys.len() {
+        let buffer = hold(list, cache, &mut recent, keys[place])?;
+        copy_run(list, wanted, now, &pairs, place)?;
+        if wanted[place] {
+            list.push(copy_to(buffer.layer, place, cols))?;
+            wanted[place] = false;
+        }
+        add_pair(&mut pairs, keys, place);
+    }
+    Ok(())
 }
 
 // Place by place, row by row: the buffer of its key, and a copy from there where the place is wanted. Each

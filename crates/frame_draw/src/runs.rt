@@ -1,6 +1,6 @@
 //! Runs of cells that stand elsewhere on the screen already: one copy from there stands for the copies of their cells.
 
-ghost use Rattle.std.specs.Prelude.{◌≡◌, ◌+◌, ◌*◌, ◌<◌, ◌≤◌, length, IfOk, OnOk};
+ghost use Rattle.std.specs.Prelude.{◌≡◌, ◌+◌, ◌*◌, ◌<◌, ◌≤◌, length, OnOk};
 ghost use Rattle.gate_model.specs.session.Steps.{IsScreenSize};
 ghost use Rattle.frame_draw.specs.Leads.{Leads};
 ghost use Rattle.frame_draw.specs.Matches.{IsMatch};
@@ -13,52 +13,36 @@ use gate_model::{Instr, Key, NoMemory, Shown};
 /// How many pairs of neighbouring keys are remembered with the place where they stand.
 const PAIRS: usize = 1_024;
 
-/// Copies runs of cells, some of them wanted, from where the same keys stand already. They are wanted no more. Over layers
-/// on which every other place shows its key, these show theirs then too, and there are no more instructions than there were
-/// copies.
-pub(crate) fn copy_runs(
+/// Where each pair of neighbouring keys stands, by the number of the pair.
+pub(crate) type Pairs = [usize; PAIRS];
+
+/// Copies a run of cells to the place, where one is worth it, from where the same keys stand already. They are wanted no
+/// more. Over layers on which every other place shows its key, these show theirs then too, and there are no more
+/// instructions than there were copies.
+pub(crate) fn copy_run(
     list: &mut Vec<Instr>,
     wanted: &mut [bool],
     now: &Shown,
+    pairs: &Pairs,
+    place: usize,
 ) -> Result<(), NoMemory>
     requires size { IsScreenSize now.now.cols now.now.rows }
     requires all { length wanted.now ≡ length now.now.keys }
-    ensures { OnOk result (Leads now.now list.old.items wanted.old list.new.items wanted.new) }
-{
-    let pairs = pairs_of(now.as_slice(), wanted);
-    let mut place = 0;
-    while place < now.as_slice().len() {
-        place = copy_run(list, wanted, now, &pairs, place)?;
-    }
-    Ok(())
-}
-
-// Copies a run to the place, where one is worth it, and answers the place behind it.
-fn copy_run(
-    list: &mut Vec<Instr>,
-    wanted: &mut [bool],
-    now: &Shown,
-    pairs: &[usize; PAIRS],
-    place: usize,
-) -> Result<usize, NoMemory>
-    requires size { IsScreenSize now.now.cols now.now.rows }
-    requires all { length wanted.now ≡ length now.now.keys }
     requires inside { place < length now.now.keys }
-    ensures on { IfOk result (λ end. (place < end) × (end ≤ length now.now.keys)) }
-    ensures copies { OnOk result (Leads now.now list.old.items wanted.old list.new.items wanted.new) }
+    ensures { OnOk result (Leads now.now list.old.items wanted.old list.new.items wanted.new) }
 {
     let (keys, cols) = (now.as_slice(), now.cols() as usize);
     if !wanted[place] || place + 1 == keys.len() {
-        return Ok(place + 1);
+        return Ok(());
     }
     let from = pairs[pair_of(keys[place], keys[place + 1])];
     let length = matching(keys, wanted, from, place, cols);
     if length < FEWEST || count(wanted, place, place + length) < FEWEST {
-        return Ok(place + 1);
+        return Ok(());
     }
     list.push(copy_cells(cols, from, place, length))?;
     strike(wanted, place, place + length);
-    Ok(place + length)
+    Ok(())
 }
 
 // How many cells from one place on show the keys of those from another on already, within a row each.
@@ -83,16 +67,25 @@ fn matching(keys: &[Key], wanted: &[bool], from: usize, to: usize, cols: usize) 
     room
 }
 
-// Where pairs of neighbouring keys stand that aren't wanted, by the number of the pair. It's a guess: each is looked at again.
-fn pairs_of(keys: &[Key], wanted: &[bool]) -> [usize; PAIRS] {
+/// Where pairs of neighbouring keys stand that aren't wanted. It's a guess: each is looked at again.
+pub(crate) fn pairs_of(keys: &[Key], wanted: &[bool]) -> Pairs {
     let mut pairs = [0; PAIRS];
     let shown = keys.len().min(wanted.len());
     for place in 1..shown {
         if !wanted[place - 1] && !wanted[place] {
-            pairs[pair_of(keys[place - 1], keys[place])] = place - 1;
+            add_pair(&mut pairs, keys, place);
         }
     }
     pairs
+}
+
+/// One pair more, whose second key stands at the place.
+pub(crate) fn add_pair(pairs: &mut Pairs, keys: &[Key], place: usize)
+    requires { place < length keys.now }
+{
+    if 0 < place {
+        pairs[pair_of(keys[place - 1], keys[place])] = place - 1;
+    }
 }
 
 // The number of a pair of keys.

@@ -16,15 +16,13 @@ pub(crate) enum Wanted<'a> {
     Listed(&'a [(u16, u16)]),
     /// Those that a screen of another size hasn't, or that show another key.
     Unlike(&'a Shown, &'a Shown),
-    /// Those of which a flag says so.
-    Flagged(&'a [bool]),
 }
 
 // Whether so few places are copied that none is worth a fill.
 pub(crate) fn is_few(wanted: Wanted) -> bool {
     match wanted {
         Wanted::Listed(list) => list.len() < 4,
-        Wanted::All | Wanted::Unlike(..) | Wanted::Flagged(_) => false,
+        Wanted::All | Wanted::Unlike(..) => false,
     }
 }
 
@@ -41,10 +39,6 @@ pub(crate) fn is_next(wanted: Wanted, at: usize, place: usize, cols: usize) -> b
             None => false,
         },
         Wanted::Unlike(old, new) => is_fresh(old, new, place, cols),
-        Wanted::Flagged(flags) => match flags.get(place) {
-            Some(&on) => on,
-            None => true,
-        },
     }
 }
 
