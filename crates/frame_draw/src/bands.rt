@@ -40,7 +40,11 @@ pub(crate) fn band_of(old: &Shown, new: &Shown, shift: u32, changed: usize) -> O
     }
     let costs = costs_of(old, new, shift);
     match likeliest(old, new, shift, &costs) {
-        Some(across) => band_at(best_run(old, new, shift, &costs, across), across, new.rows()),
+        Some(across) => band_at(
+            best_run(old, new, shift, &costs, across),
+            across,
+            new.rows(),
+        ),
         None => None,
     }
 }
@@ -104,13 +108,7 @@ fn rows_by_sum(old: &Shown, shift: u32, costs: &[u32; MOST_ROWS]) -> [Option<u8>
 }
 
 // The rows whose copy saves most, where all move by as many.
-fn best_run(
-    old: &Shown,
-    new: &Shown,
-    shift: u32,
-    costs: &[u32; MOST_ROWS],
-    across: usize,
-) -> Run {
+fn best_run(old: &Shown, new: &Shown, shift: u32, costs: &[u32; MOST_ROWS], across: usize) -> Run {
     let mut run = Run {
         start: 0,
         end: 0,
@@ -157,7 +155,10 @@ fn band_at(run: Run, across: usize, rows: u16) -> Option<Band>
     let length = run.end.checked_sub(top)?;
     let is_scroll = top == 0 && 0 < from && from.saturating_add(length) == rows;
     let height = length.saturating_sub(usize::from(is_scroll));
-    if run.saved < i64::from(LEAST_SAVED) || rows < top.saturating_add(height) || rows < from.saturating_add(height) {
+    if run.saved < i64::from(LEAST_SAVED)
+        || rows < top.saturating_add(height)
+        || rows < from.saturating_add(height)
+    {
         return None;
     }
     Some(Band {

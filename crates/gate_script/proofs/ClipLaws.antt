@@ -65,9 +65,9 @@ pull_failed s t u f waiting wrote was is p front =
       λ more. (
         drop n waiting ++ rest_of t more,
         p.2 more
-        ∙ ap (λ w. (p.0 ++ w) ++ rest_of t more) (sym (take-append-drop n waiting))
-        ∙ ap (λ x. x ++ rest_of t more) (sym (append_assoc p.0 (take n waiting) (drop n waiting)))
-        ∙ append_assoc (p.0 ++ take n waiting) (drop n waiting) (rest_of t more),
+            ∙ ap (λ w. (p.0 ++ w) ++ rest_of t more) (sym (take-append-drop n waiting))
+            ∙ ap (λ x. x ++ rest_of t more) (sym (append_assoc p.0 (take n waiting) (drop n waiting)))
+            ∙ append_assoc (p.0 ++ take n waiting) (drop n waiting) (rest_of t more),
       ),
     )
 
@@ -98,13 +98,13 @@ module _ (s t u v : Paster) (at n : ℕ) (piece slice : List ℕ) (wrote was is 
     before.0 ++ d.0,
     d.1 ∙ ap (λ (w : Option (List ℕ)). gained w d.0) before.1 ∙ gained-gained wrote before.0 d.0,
     λ more.
-      let left : List ℕ = drop (at + n) piece ++ more in
-      let cut = d.2 left in (
-        cut.0,
-        ap (λ x. rest_of s (x ++ more)) (sym (take-append-drop (at + n) piece))
-        ∙ ap (rest_of s) (append_assoc (take (at + n) piece) (drop (at + n) piece) more)
-        ∙ fed_so left ∙ ap (λ x. before.0 ++ x) cut.1 ∙ sym (append_assoc before.0 d.0 cut.0),
-      ),
+        let left : List ℕ = drop (at + n) piece ++ more in
+        let cut = d.2 left in (
+          cut.0,
+          ap (λ x. rest_of s (x ++ more)) (sym (take-append-drop (at + n) piece))
+              ∙ ap (rest_of s) (append_assoc (take (at + n) piece) (drop (at + n) piece) more)
+              ∙ fed_so left ∙ ap (λ x. before.0 ++ x) cut.1 ∙ sym (append_assoc before.0 d.0 cut.0),
+        ),
   )
 
 -- all of it was fed
