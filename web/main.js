@@ -78,7 +78,11 @@ const told = {
     keyboard.letGo();
     tellTrouble(LOST);
   },
-  thrown() { tellTrouble(THROWN); },
+  thrown() {
+    // Nothing more is kept until the link is back.
+    at('message').textContent = wordsOfLink(document.body.dataset.state, false);
+    tellTrouble(THROWN);
+  },
 };
 
 // What is seen around the terminal while a request is under way.

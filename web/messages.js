@@ -54,19 +54,19 @@ export function wayOn(end, request) {
 
 /** How the link is, `types` where keys are sent. */
 export function wordsOfLink(state, types) {
-  const kept = types ? ' What you type is kept for 10 seconds.' : '';
-  if (state === 'lost') return `The link to the gateway is lost. This page comes back by itself.${kept}`;
+  const kept = types ? ' Keys are kept for 10 seconds.' : '';
+  if (state === 'lost') return `The link is lost. This page comes back by itself.${kept}`;
   return state === 'unstable' ? `The gateway doesn’t answer.${kept}` : '';
 }
 
 /** What became of what was typed while the link was bad. */
-export const LOST = 'Some of what you typed may not have come to the host.';
-export const THROWN = 'What you typed was thrown away, since the link is lost for more than 10 seconds.';
+export const LOST = 'Some keys may be lost.';
+export const THROWN = 'What you typed was thrown away.';
 export const BACK = 'The link is back.';
 
 /** Who may type. The gateway tells nobody whose keys count, so of who joins it is said what is done, and what came of it. */
 export function rightsOf({ id, readOnly }, isAnswered = true) {
   if (readOnly) return 'You look on. Your keys are not sent.';
-  if (!id) return isAnswered ? 'You may type. Nobody else may join.' : 'You may type. The host doesn’t answer.';
+  if (!id) return 'You may type. Nobody else may join.';
   return isAnswered ? 'Your keys are sent.' : 'Your keys are sent, and nothing answers. This session may let you look on alone.';
 }

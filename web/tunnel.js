@@ -25,6 +25,8 @@ import { READS, Rest, TRIES } from './rest.js';
  * @property {() => Promise<void>} giveBack  gives back the place of a closed tunnel, or fails where nothing is reached
  */
 
+const NO_MEMORY = 512;
+
 /** A request that was refused, or had no answer: `code` is the status of Guacamole, 0 where there is none. */
 export class Refusal extends Error {
   constructor(code, status) {
@@ -35,7 +37,7 @@ export class Refusal extends Error {
 
   /** Whether it is the link's, or the gateway's for a while, so that the same may work later. */
   get mayPass() {
-    return this.code === 512 || (this.code === 0 && [0, 500, 502, 503, 504].includes(this.status));
+    return this.code === NO_MEMORY || (this.code === 0 && [0, 500, 502, 503, 504].includes(this.status));
   }
 
   /** Whether it tells that nothing was done. A request without an answer may have been heard. */
@@ -94,7 +96,11 @@ export class HttpTunnel {
   }
 
   async #read() {
-    const text = await this.#answerTo('read');
+    // A gateway without memory for an answer gives it to the next read.
+    const text = await this.#answerTo('read').catch((fault) => {
+      if (fault.code !== NO_MEMORY) throw fault;
+      return END;
+    });
     if (!text.endsWith(END)) throw new Refusal(0, 0);
     const instructions = this.#reader.read(text.slice(0, -END.length));
     if (!this.#reader.isWhole) throw new Unreadable('an instruction without its end');

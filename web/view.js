@@ -2,6 +2,7 @@
 
 import { CELL_HEIGHT, CELL_WIDTH } from './font.js';
 import { Unreadable, textOf } from './instructions.js';
+import { isModifier } from './keysyms.js';
 import { Outbox } from './outbox.js';
 import { Rest, TRIES } from './rest.js';
 import { Refusal } from './tunnel.js';
@@ -143,7 +144,7 @@ export class View {
     this.#outbox.use(tunnel);
     if (this.#wasOpen) {
       this.#display.renew();
-      this.#outbox.release();
+      if (this.types) this.#outbox.release();
       if (this.#size !== '') this.#outbox.add(this.#size);
     }
     this.#wasOpen = true;
@@ -155,7 +156,7 @@ export class View {
   press(keysym, isPressed) {
     if (!this.types || !this.#wasOpen) return;
     this.#outbox.add(textOf('key', keysym, isPressed ? 1 : 0), true);
-    if (isPressed && this.#sent === 0 && this.#tunnel?.state === 'open') this.#sent = performance.now();
+    if (isPressed && !isModifier(keysym) && this.#sent === 0 && this.#tunnel?.state === 'open') this.#sent = performance.now();
   }
 
   /** Gives the session a size, but for a viewer who only looks on. @param {import('./follow.js').Size} size */

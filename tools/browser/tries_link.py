@@ -11,8 +11,8 @@ from sessions import CONTROL, HEAR, HEARD, MESSAGE, NOTICE, RETURN, STATE, check
 
 ONLINE = "dispatchEvent(new Event('online'))"
 UNREACHABLE = "The link to the gateway was lost, and this session can’t be reached from here any more."
-LOST = "Some of what you typed may not have come to the host."
-THROWN = "What you typed was thrown away, since the link is lost for more than 10 seconds."
+LOST = "Some keys may be lost."
+THROWN = "What you typed was thrown away."
 # Each once, so that it is seen which are missing and whether one came twice.
 LETTERS = string.ascii_lowercase + string.digits + string.ascii_uppercase
 # How many may be in a session (docs/TEACHING.md).
@@ -84,7 +84,7 @@ def try_kept(driver, gateway, telnet, web):
     page = joined(driver, link, first)
     link.cut()
     page.shows("a page whose link is lost", "lost", STATE)
-    check("what it says", "The link to the gateway is lost. This page comes back by itself. What you type is kept for 10 seconds.", page.run(MESSAGE))
+    check("what it says", "The link is lost. This page comes back by itself. Keys are kept for 10 seconds.", page.run(MESSAGE))
     page.shows("it offers to try at once", "Try now", "const it = document.getElementById('again'); return it.hidden ? '' : it.textContent")
     page.type(*"echo kept", RETURN)
     link.mend()
@@ -155,7 +155,7 @@ def try_quiet(driver, gateway, telnet, web):
     until_prompt(stream)
     page = joined(driver, link, first)
     link.is_silent = True
-    page.shows("a silent link is told of, though nobody types", ["unstable", "The gateway doesn’t answer. What you type is kept for 10 seconds."], "return [document.body.dataset.state, document.getElementById('message').textContent]")
+    page.shows("a silent link is told of, though nobody types", ["unstable", "The gateway doesn’t answer. Keys are kept for 10 seconds."], "return [document.body.dataset.state, document.getElementById('message').textContent]")
     page.shows("and given up", "lost", STATE)
     first.socket.sendall(b"".join(instruction("key", str(ord(it)), "1") for it in "echo meanwhile") + instruction("key", "65293", "1"))
     until(True, lambda: "\nmeanwhile\n" in screen_of(stream()))

@@ -40,13 +40,19 @@ test('a tunnel is opened by a form, and read until the session is over', async (
   assert.deepEqual(news, ['open', 'sync 1', 'disconnect', 'closed']);
 });
 
-for (const [given, code, status, mayPass] of [[answer('', 404, '516'), 516, 404, false], [answer('', 502), 0, 502, true], [answer('', 401), 0, 401, false], [answer('', 500, '512'), 512, 500, true], [new TypeError('no network'), 0, 0, true], [answer('4.sync,1'), 0, 0, true]]) {
+for (const [given, code, status, mayPass] of [[answer('', 404, '516'), 516, 404, false], [answer('', 502), 0, 502, true], [answer('', 401), 0, 401, false], [new TypeError('no network'), 0, 0, true], [answer('4.sync,1'), 0, 0, true]]) {
   test(`a read that is answered with ${status} and ${code} closes it`, async () => {
     const fault = await network({ read: [given] }).closed;
     assert.ok(fault instanceof Refusal);
     assert.deepEqual([fault.code, fault.status, fault.mayPass], [code, status, mayPass]);
   });
 }
+
+test('a read that has no memory is made again', async () => {
+  const { asked, closed } = network({ read: [answer('', 500, '512'), END] });
+  assert.equal(await closed, undefined);
+  assert.equal(asked.length, 3);
+});
 
 test('a request that can’t open it closes it', async () => {
   const { news, closed } = network({ connect: [answer('', 404, '516')] });
