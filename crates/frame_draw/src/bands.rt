@@ -1,7 +1,7 @@
 //! Bands of rows that moved: one copy of a band brings its rows to where they stand now. Which band is worth a copy is a
 //! guess, of which nothing is promised but that the band lies on the screen.
 
-ghost use Rattle.std.specs.Prelude.{◌≡◌, ◌<◌, IfSome};
+ghost use Rattle.std.specs.Prelude.{◌≡◌, ◌<◌, ◌≤◌, IfSome};
 ghost use Rattle.dirty_region.specs.Bands.{IsBand};
 
 use crate::blanks::is_blank;
@@ -52,7 +52,7 @@ pub(crate) fn band_of(old: &Shown, new: &Shown, shift: u32, changed: usize) -> O
 // What each row costs where no band is copied.
 fn costs_of(old: &Shown, new: &Shown, shift: u32) -> [u32; MOST_ROWS] {
     let mut costs = [0; MOST_ROWS];
-    for y in 0..MOST_ROWS {
+    for y in 0..rows_of(new) {
         costs[y] = cost_of(before(old, shift, y), row_of(new, y));
     }
     costs
@@ -63,7 +63,7 @@ fn likeliest(old: &Shown, new: &Shown, shift: u32, costs: &[u32; MOST_ROWS]) -> 
     let stood = rows_by_sum(old, shift, costs);
     let mut votes = [0_u32; 2 * MOST_ROWS];
     let (mut best, mut most) = (None, 0);
-    for y in 0..MOST_ROWS {
+    for y in 0..rows_of(new) {
         let after = row_of(new, y);
         if let Some(from) = moved_from(old, shift, after, &stood, y, costs[y]) {
             let across = MOST_ROWS + from as usize - y;
@@ -99,7 +99,7 @@ fn moved_from(
 // The rows of the old screen that change, by the sum of their keys; of more with one sum the last.
 fn rows_by_sum(old: &Shown, shift: u32, costs: &[u32; MOST_ROWS]) -> [Option<u8>; SUMS] {
     let mut rows = [None; SUMS];
-    for y in 0..MOST_ROWS {
+    for y in 0..rows_of(old) {
         if 0 < costs[y] {
             rows[sum_of(before(old, shift, y))] = Some(y as u8);
         }
@@ -115,9 +115,9 @@ fn best_run(old: &Shown, new: &Shown, shift: u32, costs: &[u32; MOST_ROWS], acro
         saved: 0,
     };
     let mut best = run;
-    for y in 0..MOST_ROWS {
+    for y in 0..rows_of(new) {
         if let Some(from) = y.saturating_add(across).checked_sub(MOST_ROWS) {
-            if from < MOST_ROWS {
+            if from < rows_of(old) {
                 let left = cost_of(before(old, shift, from), row_of(new, y));
                 run = longer(run, y, i64::from(costs[y]) - i64::from(left));
                 best = if best.saved < run.saved { run } else { best };
@@ -204,6 +204,13 @@ fn before(old: &Shown, shift: u32, y: usize) -> &[Key]
     } else {
         row_of(old, y)
     }
+}
+
+// How many rows the screen has.
+fn rows_of(shown: &Shown) -> usize
+    ensures { result ≤ 256 }
+{
+    (shown.rows() as usize).min(MOST_ROWS)
 }
 
 // The keys of a row, or none where there is no such row.
