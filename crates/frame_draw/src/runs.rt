@@ -45,7 +45,8 @@ pub(crate) fn copy_run(
     Ok(())
 }
 
-// How many cells from one place on show the keys of those from another on already, within a row each.
+// How many cells from one place on show the keys of those from another on already, within a row each. In the first row it's
+// never a whole one: who looks on takes a copy of the last row there for a scroll of the whole screen.
 fn matching(keys: &[Key], wanted: &[bool], from: usize, to: usize, cols: usize) -> usize
     requires columns { 1 ≤ cols }
     requires few { cols ≤ 512 }
@@ -57,7 +58,8 @@ fn matching(keys: &[Key], wanted: &[bool], from: usize, to: usize, cols: usize) 
     if keys.len() <= from {
         return 0;
     }
-    let most = (cols - from % cols).min(cols - to % cols);
+    let whole = if to < cols { cols - 1 } else { cols };
+    let most = (cols - from % cols).min(cols - to % cols).min(whole);
     let room = most.min(keys.len() - from).min(keys.len() - to);
     for step in 0..room {
         if wanted[from + step] || differ(keys[from + step], keys[to + step]) {
