@@ -1,6 +1,6 @@
 -- Bytes that are fed, what is given of them, and how `clip` ends.
 use Rattle.std.proofs.Common.{◌≡◌, ℕ, ◌+◌, ◌-◌, ◌<◌, ◌≤◌, List, [], ◌++◌, length, length-append, length-take, take, drop, ◌⊎◌, inl, inr, refl, ap, sym, ◌∙◌, subst, arith, append_assoc, append-nil}
-use Rattle.std.proofs.lemmas.List.{take-append-drop, take-take, take_all, length-take-le}
+use Rattle.std.proofs.lemmas.List.{take-append-drop, take-take, take_all, take_min, length-take-le}
 use Rattle.std.proofs.Math.Seq.{take-add, take-append-add}
 use Rattle.std.specs.Prelude.{Option, Result, Ok, Err, min}
 use Rattle.clip_stream.specs.Pasted.{pasted}
@@ -124,7 +124,7 @@ ends_well s f t Fault status wrote is none w over =
 pub ends_cut : (s f t : Paster) (Fault : Type 0) (e : Failed) (status : ℕ) (wrote is : Option (List ℕ)) → ((more : List ℕ) → rest_of f more ≡ rest_of s []) → HasWritten (Err e) f [] t wrote is → Fault → EndsWith status Fault (rest_of s []) wrote is 5
 ends_cut s f t Fault e status wrote is none w fault =
     let cut = w.2 [] in
-    inr (refl, fault, w.0, w.1, cut.0, sym (none []) ∙ cut.1)
+    inr (refl, fault, w.0, w.1, (cut.0, sym (none []) ∙ cut.1))
 
 -- ---- piece by piece
 
@@ -141,14 +141,15 @@ counted_more bytes piece few =
 
 -- of a piece that many of which count
 counted_piece : (into : List ℕ) (count few left : ℕ) → count ≤ length into → few ≡ min count left → take few into ≡ take left (take count into)
-counted_piece into count few left fits e = by (omega arith)
-  where
-    by : (left ≤ count) ⊎ (count ≤ left) → take few into ≡ take left (take count into)
-    by (inl less) = ap (λ n. take n into) (omega (arith, e, less)) ∙ sym (take-take left count into less)
-    by (inr less) = ap (λ n. take n into) (omega (arith, e, less)) ∙ sym (take_all left (take count into) (omega (arith, less, length-take-le count into fits)))
+counted_piece into count few left fits e =
+    let long : length (take count into) ≡ count = length-take-le count into fits in
+    let same : few ≡ min left (length (take count into)) = omega (arith, e, long) in
+    ap (λ n. take n into) same
+    ∙ sym (take-take (min left (length (take count into))) count into (omega (arith, long)))
+    ∙ take_min left (take count into)
 
 module _ (t : Paster) (read count few : ℕ) (into : List ℕ) (left0 left left' wrote0 wrote : Option (List ℕ)) (c : Copied left0 left wrote0 wrote t read) (below : read ≤ most_clip) (came_is : left ≡ came (take count into) left') (fits : count ≤ length into) (few_is : few ≡ min count (most_clip - read)) where
-  bytes_now : List ℕ
+  abbrev bytes_now : List ℕ
   bytes_now = c.bytes ++ take count into
 
   counted_now : take most_clip bytes_now ≡ take most_clip c.bytes ++ take few into

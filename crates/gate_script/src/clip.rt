@@ -86,17 +86,18 @@ fn copy<S: Source, A: Sink>(
 {
     let mut read = 0;
     while read <= MOST_BYTES {
-        let Ok(count) = source.read(piece) else {
-            return 4;
+        let count = match source.read(piece) {
+            Ok(count) => count,
+            Err(Failed) => return 4,
         };
         if count == 0 {
             return end(paster, answers, keys, 0);
         }
         let few = count.min(MOST_BYTES - read);
-        if paste(paster, &piece[..few], answers, keys).is_err() {
-            return 5;
+        match paste(paster, &piece[..few], answers, keys) {
+            Ok(()) => read += count,
+            Err(Failed) => return 5,
         }
-        read += count;
     }
     end(paster, answers, keys, 11)
 }
@@ -120,7 +121,10 @@ fn paste<A: Sink>(
     let mut at = 0;
     while at < piece.len() {
         at += paster.feed(&piece[at..]);
-        drain(paster, answers, keys)?;
+        match drain(paster, answers, keys) {
+            Ok(()) => {}
+            Err(Failed) => return Err(Failed),
+        }
     }
     Ok(())
 }
@@ -137,8 +141,10 @@ fn drain<A: Sink>(paster: &mut Paster, answers: &mut A, keys: &mut [u8]) -> Resu
 {
     let mut count = paster.pull(keys);
     while count > 0 {
-        write_all(answers, &keys[..count])?;
-        count = paster.pull(keys);
+        match write_all(answers, &keys[..count]) {
+            Ok(()) => count = paster.pull(keys),
+            Err(Failed) => return Err(Failed),
+        }
     }
     Ok(())
 }
