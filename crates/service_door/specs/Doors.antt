@@ -1,11 +1,21 @@
 -- What the calls of the service's door leave of the table (this project's own).
-use Rattle.std.specs.Prelude.{◌≡◌, ◌≢◌, ℕ, List, Option, Some, None, Result, Ok, Err}
+use Rattle.std.specs.Prelude.{◌≡◌, ◌≢◌, ℕ, true, false, List, Option, Some, None, Result, Ok, Err}
 use Rattle.gate_model.specs.Sequences.{IsLater}
+use Rattle.gate_model.specs.session.History.{is_closed}
+use Rattle.gate_model.specs.session.Rights.{is_live}
+use Rattle.gate_model.specs.declared.answer.Answer.TheVariants.{Close as closed, Leave as left}
+use Rattle.gate_model.specs.declared.cause.Cause.TheVariants.{Stopped}
+use Rattle.gate_model.specs.declared.closed.Closed.{Closed}
+use Rattle.gate_model.specs.declared.entry.Entry.{Entry}
+use Rattle.gate_model.specs.declared.event.Event.TheVariants.{Close, Leave}
+use Rattle.gate_model.specs.declared.no_viewer.NoViewer.{NoViewer}
 use Rattle.gate_model.specs.declared.sharing.Asked.{Asked}
 use Rattle.guac_handshake.specs.declared.refused.Refused.{Refused}
 use Rattle.guac_handshake.specs.declared.welcome.Welcome.{Welcome}
 use Rattle.id_table.specs.Maps.{Shelved}
+use Rattle.shared_desk.specs.Called.{Called}
 use Rattle.shared_desk.specs.declared.place.Place.{Place}
+use Rattle.turn_lock.specs.declared.view.View.{View}
 use Rattle.service_door.specs.Begun.{HasJoinedLast}
 use Rattle.service_door.specs.Sessions.{SessionState, one_less, one_more}
 
@@ -36,9 +46,28 @@ Both P (Some (Some s)) after = (t : SessionState) × (after ≡ Some (Some t)) �
 abbrev pub JoinChanges : Option (List ℕ) → Asked → Result (Welcome Place) Refused → Table → Table → Type 0
 JoinChanges name asked result m n = ((id : List ℕ) → name ≡ Some id → Both (JoinLeaves asked result) (m id) (n id)) × OthersStay name m n
 
+-- a viewer left by a turn of its own pass, which knew v before, or wasn't there
+pub record HasLeft (viewer : ℕ) (v : View Entry) : Type 0 where
+  pub now : View Entry
+  pub result : Result (Unit {0}) NoViewer
+  pub called : Called v (Leave viewer) (Ok (left result)) now
+  pub gone : is_live now.seen viewer ≡ false
+
 -- a place that is given back changes the number of places of the session of its name alone
 abbrev pub IsCounted : SessionState → SessionState → Type 0
 IsCounted s t = t ≡ record s { places = one_less s.places }
 
 abbrev pub GiveChanges : Option (List ℕ) → Table → Table → Type 0
 GiveChanges name m n = ((id : List ℕ) → name ≡ Some id → Both IsCounted (m id) (n id)) × OthersStay name m n
+
+-- the session was closed with Stopped, or was closed before
+pub record IsStopped (s t : SessionState) : Type 0 where
+  pub goes_on : GoesOn s t
+  pub result : Result (Unit {0}) Closed
+  pub called : Called s.host.view (Close Stopped) (Ok (closed result)) t.host.view
+  pub shut : is_closed t.host.view.seen ≡ true
+  pub places : t.places ≡ s.places
+
+-- the session that was under this name was stopped
+abbrev pub StopsUnder : Option (List ℕ) → Table → Type 0
+StopsUnder name m = (id : List ℕ) → name ≡ Some id → (s : SessionState) → m id ≡ Some (Some s) → (t : SessionState) × IsStopped s t

@@ -4,7 +4,7 @@ ghost use Rattle.std.specs.Prelude.{◌≡◌, IfErr, IfOk, Some, true};
 ghost use Rattle.guac_handshake.specs.Doors.{IsAbsent, IsJoinRefusal, MeetsTold};
 ghost use Rattle.guac_handshake.specs.Names.{id_of_name};
 ghost use Rattle.shared_desk.specs.Hosts.{IsFresh};
-ghost use Rattle.service_door.specs.Doors.{JoinLeaves};
+ghost use Rattle.service_door.specs.Doors.{HasLeft, JoinLeaves};
 ghost use Rattle.service_door.specs.Sessions.{NoneLent};
 
 use crate::jobs::{PumpJob, SenderJob};
@@ -12,7 +12,7 @@ use crate::making::{Made, Parts, make};
 use crate::recorder::RecorderJob;
 use crate::refusals::refused_of;
 use crate::session::Session;
-use gate_model::{Asked, Bytes, Cause, Text};
+use gate_model::{Asked, Bytes, Text};
 use gate_outside::{Bell, Counted, DialFault, Helper, Way};
 use guac_handshake::{Ask, Begun, Door, NAME_BYTES, Refused, Welcome, id_named, name_in, name_of};
 use id_table::{AddRefusal, Shelf};
@@ -67,13 +67,13 @@ impl<'a, T: Shelf<Session>, H: Helper, B: Bell + Send + 'static> Counted
 
 impl<'a, T: Shelf<Session>, H: Helper, B: Bell + Send + 'static> Door for ServiceDoor<'a, T, H, B> {
     ghost use Rattle.std.specs.Prelude.{◌≡◌, None, IfErr, IfOk, IfSome, is_some};
-    ghost use Rattle.guac_handshake.specs.Doors.{IsAbsent, IsJoinRefusal, KeepsIds, MeetsHistory, at_name, logged, one_more_out, option_less};
+    ghost use Rattle.guac_handshake.specs.Doors.{IsAbsent, IsJoinRefusal, KeepsIds, MeetsHistory, RemovedOne, at_name, logged, one_more_out, option_less};
     ghost use Rattle.guac_handshake.specs.declared.request.Request.TheVariants.{Join as join_request};
     ghost use Rattle.guac_handshake.specs.Names.{id_of_name};
     ghost use Rattle.id_table.specs.Maps.{Told};
     ghost use Rattle.shared_desk.specs.Hosts.{IsFresh};
     ghost use Rattle.service_door.specs.Begun.{IsBegun};
-    ghost use Rattle.service_door.specs.Doors.{GiveChanges, JoinChanges};
+    ghost use Rattle.service_door.specs.Doors.{GiveChanges, HasLeft, JoinChanges, StopsUnder};
     ghost use Rattle.service_door.specs.Sessions.{sessions_of};
 
     type Place = Place;
@@ -169,13 +169,20 @@ impl<'a, T: Shelf<Session>, H: Helper, B: Bell + Send + 'static> Door for Servic
         self.helper.note();
     }
 
-    fn undo<R: Wait>(&mut self, rt: &R, id: &Text) {
+    fn undo<R: Wait>(&mut self, rt: &R, id: &Text)
+        ensures dials { H.dial_faults self.new.helper.now ≡ H.dial_faults self.old.helper.now }
+        ensures starts { H.start_faults self.new.helper.now ≡ H.start_faults self.old.helper.now }
+        ensures gone { Told (sessions_of (T.told self.old.sessions.now)) (sessions_of (T.told self.new.sessions.now)) (RemovedOne (id_of_name id.now)) }
+        ensures out { None ≡ option_less None }
+
+        // Of this door alone.
+        ensures stopped { IfSome (T.told self.old.sessions.now) (StopsUnder (id_of_name id.now)) }
+    {
         let Some(key) = id_named(id.as_str()) else {
             return;
         };
         if let Some(mut session) = self.sessions.remove(rt, &key) {
-            let _ = session.close(rt, Cause::Stopped);
-            self.bell.ring_all(session.spots());
+            session.stop(rt, self.bell);
         }
     }
 
@@ -218,6 +225,7 @@ impl<'a, T: Shelf<Session>, H: Helper, B: Bell + Send + 'static> Door for Servic
         ensures out { None ≡ option_less None }
 
         // Of this door alone.
+        ensures left { HasLeft place.reader.viewer place.reader.view }
         ensures given { Told (T.told self.old.sessions.now) (T.told self.new.sessions.now) (GiveChanges (id_of_name id.now)) }
     {
         leave(rt, place);
@@ -262,7 +270,9 @@ fn welcome<R: Wait>(
 }
 
 // The viewer of the place leaves, where it is there, and its passes go.
-fn leave<R: Wait>(rt: &R, place: Place) {
+fn leave<R: Wait>(rt: &R, place: Place)
+    ensures { HasLeft place.reader.viewer place.reader.view }
+{
     let Place {
         mut reader,
         writer,

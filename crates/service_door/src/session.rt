@@ -33,7 +33,13 @@ impl Model for Session {
 }
 
 impl Session {
+    ghost use Rattle.std.specs.Prelude.{Ok, true};
+    ghost use Rattle.gate_model.specs.session.History.{is_closed};
+    ghost use Rattle.gate_model.specs.declared.answer.Answer.TheVariants.{Close as closed};
+    ghost use Rattle.gate_model.specs.declared.event.Event.TheVariants.{Close};
+    ghost use Rattle.shared_desk.specs.Called.{Called};
     ghost use Rattle.shared_desk.specs.Hosts.{JoinEnds};
+    ghost use Rattle.service_door.specs.Doors.{GoesOn, IsStopped};
     ghost use Rattle.service_door.specs.Sessions.{one_less, one_more};
 
     /// Lets a viewer join, by `HostPass::join`. Its place is then out.
@@ -62,7 +68,12 @@ impl Session {
     }
 
     /// Closes the session where it is open.
-    pub(crate) fn close<R: Wait>(&mut self, rt: &R, cause: Cause) -> Result<(), Closed> {
+    pub(crate) fn close<R: Wait>(&mut self, rt: &R, cause: Cause) -> Result<(), Closed>
+        ensures called { Called self.old.host.view (Close cause) (Ok (closed result)) self.new.host.view }
+        ensures goes_on { GoesOn self.old self.new }
+        ensures shut { is_closed self.new.host.view.seen ≡ true }
+        ensures places { self.new.places ≡ self.old.places }
+    {
         self.host.close(rt, cause)
     }
 
@@ -79,7 +90,9 @@ impl Session {
     }
 
     /// Closes the session with Stopped, where it is open, and rings for all who wait for news of it.
-    pub fn stop<R: Wait, B: Bell>(&mut self, rt: &R, bell: &B) {
+    pub fn stop<R: Wait, B: Bell>(&mut self, rt: &R, bell: &B)
+        ensures { IsStopped self.old self.new }
+    {
         let _ = self.close(rt, Cause::Stopped);
         bell.ring_all(self.spots());
     }

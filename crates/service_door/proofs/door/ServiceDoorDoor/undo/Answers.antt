@@ -2,6 +2,7 @@ use Rattle.std.proofs.Common.{◌∙◌, ap, sym}
 use Rattle.guac_handshake.specs.Names.{id_of_name}
 use Rattle.service_door.proofs.Tables.{not_lent}
 use Rattle.service_door.proofs.Adding.{gone, take_unlent}
+use Rattle.service_door.proofs.Stopping.{stops_none, stops_taken, stops_unnamed}
 use Rattle.service_door.proofs.door.ServiceDoorDoor.undo.Goals as goal
 
 pub remove-requires : goal.remove-requires
@@ -15,3 +16,12 @@ returns-in-Some-remove-clause-gone g c = gone (g.T.Shelf.told c.args.self.now.se
 
 pub returns-in_default-remove-clause-gone : goal.returns-in_default-remove-clause-gone
 returns-in_default-remove-clause-gone g c = gone (g.T.Shelf.told c.args.self.now.sessions.now) (g.T.Shelf.told c.remove.new.self) (id_of_name c.args.id.now) c.in-Some.key c.remove.result (sym (c.in-Some.ensures ∙ ap id_of_name c.as_str.ensures)) c.remove.ensures
+
+pub returns-in_default-clause-stopped : goal.returns-in_default-clause-stopped
+returns-in_default-clause-stopped g c = stops_unnamed (g.T.Shelf.told c.args.self.now.sessions.now) (id_of_name c.args.id.now) (sym (c.in_default.ensures ∙ ap id_of_name c.as_str.ensures))
+
+pub returns-in_default-remove-clause-stopped : goal.returns-in_default-remove-clause-stopped
+returns-in_default-remove-clause-stopped g c = stops_none (g.T.Shelf.told c.args.self.now.sessions.now) (g.T.Shelf.told c.remove.new.self) (id_of_name c.args.id.now) c.in-Some.key (sym (c.in-Some.ensures ∙ ap id_of_name c.as_str.ensures)) c.in_default-remove.ensures
+
+pub returns-in-Some-remove-clause-stopped : goal.returns-in-Some-remove-clause-stopped
+returns-in-Some-remove-clause-stopped g c = stops_taken (g.T.Shelf.told c.args.self.now.sessions.now) (g.T.Shelf.told c.remove.new.self) (id_of_name c.args.id.now) c.in-Some.key c.in-Some-remove.session c.stop.new.self (sym (c.in-Some.ensures ∙ ap id_of_name c.as_str.ensures)) c.in-Some-remove.ensures c.stop.ensures
