@@ -20,13 +20,13 @@ const at = (id) => document.getElementById(id);
 const PATH = location.origin + new URL('tunnel', location.href).pathname;
 const IS_MAC = /^(Mac|iP)/.test(navigator.platform);
 const FIELDS = ['hostname', 'port', 'columns', 'rows', 'terminal-type'];
-// How long, in milliseconds, what happened is told.
+// How long, in milliseconds, what happened is told, and what a page that leaves is given to be gone.
 const NOTICED = 20000;
+const LEAVING = 3000;
 
 /** @type {View | null} */
 let view = null;
 let request = null;
-let isLeaving = false;
 const speech = new Speech(at('news'));
 speech.isOn = kept().speaks;
 const follow = new Follow((size) => view?.resize(size));
@@ -125,7 +125,8 @@ async function start(asked) {
   follow.begin(request.id ? null : size);
   view = new View(() => new HttpTunnel(PATH), display, request.readOnly, told);
   const end = await view.run(formOf(request, size));
-  if (isLeaving) return;
+  // A page that is about to be another one needs no word of it.
+  if (end.by === 'left') await new Promise((passed) => setTimeout(passed, LEAVING));
   view = null;
   letFollow(false);
   finish(end);
@@ -140,7 +141,7 @@ function opened() {
 
 function finish(end) {
   const { word, isAgain, isReload } = wayOn(end, request);
-  remember(null);
+  if (end.by !== 'left') remember(null);
   paster.forget();
   tell('ended', wordsOf(end, !request.id));
   at('rights').textContent = '';
@@ -268,13 +269,15 @@ addEventListener('hashchange', () => {
   remember(null);
   location.reload();
 });
-addEventListener('pagehide', () => {
-  isLeaving = true;
-  view?.leave();
-});
+addEventListener('pagehide', () => view?.leave());
 // A page that the browser has kept has left its session.
 addEventListener('pageshow', (event) => { if (event.persisted) location.reload(); });
-// Nobody can come back to a session that was opened here, so the browser asks before it is left.
-addEventListener('beforeunload', (event) => { if (view && !request.id && document.body.dataset.state !== 'opening') event.preventDefault(); });
+// Nobody can come back to a session that was opened here, so the browser asks before it is left. Any other is left now:
+// Firefox may end a page before it sends what is sent at its end.
+addEventListener('beforeunload', (event) => {
+  if (view === null || document.body.dataset.state === 'opening') return;
+  if (request.id) view.leave();
+  else event.preventDefault();
+});
 begin(requestOf(location.hash) ?? remembered());
 for (const id of ['open', 'join']) judge(at(id));

@@ -35,6 +35,7 @@ export function wordsOf(end, wasOpen) {
     case 'host': return 'The host has ended the session.';
     case 'error': return meaningOf({ code: end.code, status: 0 });
     case 'refusal': return (wasOpen && WHILE_OPEN[end.code]) || meaningOf(end);
+    case 'left': return 'You have left the session.';
     case 'unreachable': return 'The link to the gateway was lost, and this session can’t be reached from here any more.';
     case 'unreadable': return 'The gateway sent something that this page can’t read.';
     default: return 'This page has a fault, and can’t go on.';

@@ -8,9 +8,9 @@ import { Rest, TRIES } from './rest.js';
 import { Refusal } from './tunnel.js';
 
 /**
- * How a view ended: by the host, by an `error` of the gateway or a refusal of it, by a link that is lost to a session
- * that can't be joined, by what can't be read, or by a fault of the page.
- * @typedef {{ by: 'host' } | { by: 'error', code: number } | { by: 'refusal', code: number, status: number } | { by: 'unreachable' } | { by: 'unreadable' } | { by: 'fault' }} End
+ * How a view ended: by the host, by whoever left, by an `error` of the gateway or a refusal of it, by a link that is lost
+ * to a session that can't be joined, by what can't be read, or by a fault of the page.
+ * @typedef {{ by: 'host' } | { by: 'left' } | { by: 'error', code: number } | { by: 'refusal', code: number, status: number } | { by: 'unreachable' } | { by: 'unreadable' } | { by: 'fault' }} End
  */
 
 /**
@@ -53,6 +53,7 @@ export class View {
   #tries = new Rest(TRIES);
   #isKnown = false;
   #wasOpen = false;
+  #hasLeft = false;
   /** @type {End | null} */
   #end = null;
   // A size that was told while there was no link.
@@ -87,16 +88,15 @@ export class View {
     this.#isKnown = form.id !== undefined;
     this.#looked.at = Date.now();
     this.#looks = setInterval(() => this.#look(), BETWEEN_LOOKS);
-    for (;;) {
-      const end = await this.#attend(form);
-      if (end !== null) {
-        clearInterval(this.#looks);
-        this.leave();
-        return end;
-      }
+    let end = null;
+    while (!this.#hasLeft && (end = await this.#attend(form)) === null) {
       this.#told.changed('lost');
       await this.#tries.once();
     }
+    clearInterval(this.#looks);
+    const how = this.#hasLeft ? /** @type {const} */ ({ by: 'left' }) : end;
+    this.leave();
+    return how;
   }
 
   // One connection, from its opening to its end. It answers how the view ended, or null where it can be tried again.
@@ -116,7 +116,7 @@ export class View {
     if (this.#tunnel !== null) this.#past.add(this.#tunnel);
     this.#tunnel = null;
     this.#outbox.use(null);
-    if (this.#end !== null) return this.#end;
+    if (this.#end !== null || this.#hasLeft) return this.#end;
     if (!this.#wasOpen || !(fault instanceof Refusal)) return endOf(fault);
     if (!this.#isKnown) return fault.mayPass ? { by: 'unreachable' } : endOf(fault);
     if (wasHere && Date.now() - since > STEADY) this.#tries.cut();
@@ -132,7 +132,7 @@ export class View {
         changed: (state, fault) => {
           if (state === 'open' && this.#tunnel === null) this.#begin(tunnel);
           this.#outbox.turn();
-          if (state === 'open' || state === 'unstable') this.#told.changed(state);
+          if (!this.#hasLeft && (state === 'open' || state === 'unstable')) this.#told.changed(state);
           if (state === 'closed') closed(fault);
         },
       });
@@ -140,6 +140,7 @@ export class View {
   }
 
   #begin(tunnel) {
+    if (this.#hasLeft) return tunnel.disconnect();
     this.#tunnel = tunnel;
     this.#outbox.use(tunnel);
     if (this.#wasOpen) {
@@ -174,6 +175,8 @@ export class View {
 
   /** Leaves, also while the page goes away. */
   leave() {
+    this.#hasLeft = true;
+    this.#tries.cut();
     this.#tunnel?.disconnect();
     this.#past.forEach((tunnel) => tunnel.disconnect());
   }

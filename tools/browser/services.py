@@ -82,14 +82,14 @@ class Gateway:
 class WebServer:
     """Hands out the page's files, and hands requests of `/tunnel` on. It keeps the texts that reads were given and what
     was written, by tunnel. Where `forged` is set, reads are answered with that instead, while `holds` is, writes have no
-    answer, and while `refuses` is, they aren't handed on."""
+    answer, and while `refuses` is set, they aren't handed on: they are answered with that status, or with nothing for 0."""
 
     def __init__(self, gateway_port):
         self.texts = {}
         self.written = {}
         self.forged = None
         self.holds = False
-        self.refuses = False
+        self.refuses = None
         owner = self
 
         class Handler(http.server.SimpleHTTPRequestHandler):
@@ -113,8 +113,9 @@ class WebServer:
                 end = time.time() + 4 * PATIENCE
                 while owner.holds and "?write:" in self.path and time.time() < end:
                     time.sleep(0.05)
-                if owner.refuses and "?write:" in self.path:
-                    self.send_error(502)
+                if owner.refuses is not None and "?write:" in self.path:
+                    if owner.refuses != 0:
+                        self.send_error(owner.refuses)
                     return
                 gateway = http.client.HTTPConnection(ADDRESS, gateway_port)
                 try:

@@ -5,7 +5,7 @@ import string
 import threading
 import time
 
-from checks import check, eventually, until
+from checks import PATIENCE, check, eventually, until
 from services import ADDRESS, Link, instruction, owner, screen_of, until_prompt
 from sessions import CONTROL, HEAR, HEARD, MESSAGE, NOTICE, RETURN, STATE, check_picture, check_text, opened, until_latest, until_ready, until_shown
 
@@ -13,6 +13,7 @@ ONLINE = "dispatchEvent(new Event('online'))"
 UNREACHABLE = "The link to the gateway was lost, and this session can’t be reached from here any more."
 LOST = "Some keys may be lost."
 THROWN = "What you typed was thrown away."
+PRESS = "document.getElementById('keys').dispatchEvent(new KeyboardEvent(arguments[0], { key: 'Control', code: 'ControlLeft', ctrlKey: arguments[1] }))"
 # Each once, so that it is seen which are missing and whether one came twice.
 LETTERS = string.ascii_lowercase + string.digits + string.ascii_uppercase
 # How many may be in a session (docs/TEACHING.md).
@@ -25,6 +26,11 @@ def is_part(part, whole):
     return all(letter in rest for letter in part)
 
 
+def is_timely(began):
+    """Whether keys that were typed since then were kept for all that time. On a machine that is slower they aren't."""
+    return time.time() - began < 9.5
+
+
 def joined(driver, link, first, words="&keep-size"):
     page = driver.page(f"http://{ADDRESS}:{link.port}/#id=%24{first.id[1:]}{words}")
     page.shows("the page is open", "open", STATE)
@@ -33,11 +39,13 @@ def joined(driver, link, first, words="&keep-size"):
 
 
 def typed_over(page, link, stream, seconds):
-    """Types letters while the link is cut for so long, and answers those that came to the host."""
+    """Types letters while the link is cut for so long, and answers them, those that came to the host, and what was told."""
     page.type(*"clear", RETURN)
     until(True, lambda: screen_of(stream()).startswith(("$", "#")))
     until_ready(page, stream)
     page.type(*"echo ")
+    until_shown(page, stream, " echo\n")
+    heard = len(page.run(HEARD, "notice"))
     blip = threading.Thread(target=lambda: (time.sleep(0.3), link.cut(), time.sleep(seconds), link.mend()))
     blip.start()
     letters = iter(LETTERS)
@@ -48,11 +56,12 @@ def typed_over(page, link, stream, seconds):
             typed += letter
             page.type(letter)
         time.sleep(seconds / 80)
+    told = lambda: page.run(HEARD, "notice")[heard:]  # noqa: E731
+    eventually(f"that it is back is told behind {seconds} seconds", True, lambda: "The link is back." in told())
     page.shows(f"a page is back behind {seconds} seconds", "open", STATE)
     page.type(RETURN)
-    until_shown(page, stream, "\n", f"the screen behind {seconds} seconds")
     until(True, lambda: len(screen_of(stream()).rstrip().split("\n")) >= 3 and screen_of(stream()).rstrip()[-1:] in ("$", "#"))
-    return typed, screen_of(stream()).split("\n")[1]
+    return typed, screen_of(stream()).split("\n")[1], told()
 
 
 def try_blips(driver, gateway, telnet, web):
@@ -62,12 +71,9 @@ def try_blips(driver, gateway, telnet, web):
     until_prompt(stream)
     page = joined(driver, link, first)
     for seconds in (0.7, 5, 20):
-        before = len(page.run(HEARD, "notice"))
-        typed, came = typed_over(page, link, stream, seconds)
-        told = page.run(HEARD, "notice")[before:]
+        typed, came, told = typed_over(page, link, stream, seconds)
         check(f"no letter comes twice or too early over {seconds} seconds", True, is_part(came, typed))
         check(f"where one is missing it is told, over {seconds} seconds", True, came == typed or LOST in told or THROWN in told)
-        check(f"that it is back is told behind {seconds} seconds", True, "The link is back." in told)
         until_latest(page, stream)
         check_picture(f"the pixels behind {seconds} seconds", page, stream)
         check_text(f"the text behind {seconds} seconds", page, stream)
@@ -77,7 +83,7 @@ def try_blips(driver, gateway, telnet, web):
 
 
 def try_kept(driver, gateway, telnet, web):
-    """What is typed while the link is lost comes within 10 seconds, and is thrown away then; a Control that was held isn't."""
+    """What is typed while the link is lost is sent where it is back within 10 seconds, and else thrown away."""
     first, link = owner(gateway.port, telnet.port, "control"), Link(web.port)
     stream = lambda: first.text  # noqa: E731
     until_prompt(stream)
@@ -86,12 +92,14 @@ def try_kept(driver, gateway, telnet, web):
     page.shows("a page whose link is lost", "lost", STATE)
     check("what it says", "The link is lost. This page comes back by itself. Keys are kept for 10 seconds.", page.run(MESSAGE))
     page.shows("it offers to try at once", "Try now", "const it = document.getElementById('again'); return it.hidden ? '' : it.textContent")
+    began = time.time()
     page.type(*"echo kept", RETURN)
     link.mend()
     # It may be back before a click of the mouse.
     page.run("document.getElementById('again').click()")
     page.shows("it is back", "open", STATE)
-    until_shown(page, stream, "\nkept\n")
+    if is_timely(began):
+        until_shown(page, stream, "\nkept\n")
     link.cut()
     page.shows("the link is lost again", "lost", STATE)
     page.click("#screen")
@@ -101,7 +109,7 @@ def try_kept(driver, gateway, telnet, web):
     link.mend()
     page.run(ONLINE)
     page.shows("the event online brings it back", "open", STATE)
-    check("and so it is told when it is back", f"The link is back. {THROWN}", page.run(NOTICE))
+    eventually("and so it is told when it is back", True, lambda: f"The link is back. {THROWN}" in page.run(HEARD, "notice"))
     page.type(*"echo then", RETURN)
     until_shown(page, stream, "\nthen\n")
     check("what was thrown away doesn't come", (False, False), ("gone" in screen_of(stream()), "late" in screen_of(stream())))
@@ -110,16 +118,28 @@ def try_kept(driver, gateway, telnet, web):
     first.close()
 
 
-def places_left(port, session):
-    """How many more may join a session."""
-    for count in range(MOST_VIEWERS + 1):
-        ask = http.client.HTTPConnection(ADDRESS, port, timeout=60)
-        ask.request("POST", "/tunnel?connect", f"id={session}")
-        status = ask.getresponse().status
+def post(port, query, body):
+    """The status and the body of what a gateway answers."""
+    ask = http.client.HTTPConnection(ADDRESS, port, timeout=PATIENCE)
+    try:
+        ask.request("POST", f"/tunnel?{query}", body)
+        answer = ask.getresponse()
+        return answer.status, answer.read().decode()
+    finally:
         ask.close()
+
+
+def places_left(port, session):
+    """How many more may join a session. They leave it again."""
+    tunnels = []
+    while len(tunnels) <= MOST_VIEWERS:
+        status, tunnel = post(port, "connect", f"id={session}")
         if status != 200:
-            return count
-    return None
+            break
+        tunnels.append(tunnel)
+    for tunnel in tunnels:
+        post(port, f"write:{tunnel}", instruction("disconnect"))
+    return len(tunnels)
 
 
 def try_places(driver, gateway, telnet, web):
@@ -142,7 +162,7 @@ def try_places(driver, gateway, telnet, web):
     page.run("history.replaceState(null, '', location.pathname); location.reload()")
     page.shows("by what the tab keeps, too", ["open", "You look on. Your keys are not sent."], "return [document.body.dataset.state, document.getElementById('rights').textContent]")
     check_picture("the pixels behind it all", page, stream)
-    check("places are left for all others", MOST_VIEWERS - 2, places_left(gateway.port, first.id))
+    eventually("places are left for all others", MOST_VIEWERS - 2, lambda: places_left(gateway.port, first.id))
     page.close()
     link.close()
     first.close()
@@ -170,6 +190,26 @@ def try_quiet(driver, gateway, telnet, web):
     first.close()
 
 
+def try_release(page, stream, web):
+    """The write with the release of Control is lost. The letter behind it is a letter all the same, and ends no program."""
+    until_ready(page, stream)
+    page.type(*"cat", RETURN, *"one", RETURN)
+    until_shown(page, stream, "\none\none\n")
+    page.run(PRESS, "keydown", True)
+    until(True, lambda: any(it.endswith(instruction("key", "65507", "1")) for it in web.written.values()))
+    web.refuses = 0
+    page.run(PRESS, "keyup", False)
+    page.shows("a write that has no answer is told of", "unstable", STATE)
+    web.refuses = None
+    page.run(ONLINE)
+    page.shows("it goes on", "open", STATE)
+    eventually("that keys may be lost is told", True, lambda: f"The link is back. {LOST}" in page.run(HEARD, "notice"))
+    page.type("c", RETURN)
+    until_shown(page, stream, "\nc\nc\n")
+    page.type([CONTROL, "d"])
+    until_ready(page, stream)
+
+
 def try_alone(driver, telnet, web):
     """A session that nobody can join: a write that wasn't done is done again, one that may have been done isn't, and a
     lost link is the end."""
@@ -177,16 +217,18 @@ def try_alone(driver, telnet, web):
     near = type("Near", (), {"port": link.port, "texts": web.texts, "given": staticmethod(web.given)})
     page, stream = opened(driver, telnet, near)
     page.run(HEAR, "notice")
-    web.refuses = True
-    page.type(*"echo ")
+    web.refuses = 502
+    began = time.time()
+    page.type(*"echo again")
     page.shows("a write that fails is told of", "unstable", STATE)
-    page.type(*"again")
-    web.refuses = False
+    web.refuses = None
+    page.run(ONLINE)
     page.shows("it is mended", "open", STATE)
     page.type(RETURN)
-    until_shown(page, stream, "\nagain\n")
+    if is_timely(began):
+        until_shown(page, stream, "\nagain\n")
     check("nothing is told of lost keys", False, LOST in page.run(HEARD, "notice"))
-    until_ready(page, stream)
+    try_release(page, stream, web)
     link.cut()
     page.shows("a lost link is the end of it", ["ended", UNREACHABLE], "return [document.body.dataset.state, document.getElementById('message').textContent]")
     link.mend()

@@ -26,7 +26,7 @@ test('a view that the gateway no longer knows isn’t told as one that never was
 const ways = [
   [{ by: 'host' }, JOINED, 'To the start'], [{ by: 'error', code: 523 }, JOINED, 'To the start'], [{ by: 'refusal', code: 516, status: 404 }, JOINED, 'To the start'],
   [{ by: 'refusal', code: 771, status: 403 }, JOINED, 'To the start'], [{ by: 'refusal', code: 0, status: 0 }, JOINED, 'Join again'], [{ by: 'refusal', code: 797, status: 429 }, JOINED, 'Join again'],
-  [{ by: 'unreadable' }, JOINED, 'Join again'], [{ by: 'refusal', code: 0, status: 401 }, JOINED, 'Log in'],
+  [{ by: 'unreadable' }, JOINED, 'Join again'], [{ by: 'left' }, JOINED, 'Join again'], [{ by: 'refusal', code: 0, status: 401 }, JOINED, 'Log in'],
   [{ by: 'host' }, OPENED, 'Open another'], [{ by: 'refusal', code: 519, status: 502 }, OPENED, 'Open another'], [{ by: 'fault' }, OPENED, 'Open another'], [{ by: 'unreachable' }, OPENED, 'Open another'],
 ];
 for (const [end, request, word] of ways) test(`behind ${JSON.stringify(end)}: ${word}`, () => assert.equal(wayOn(end, request).word, word));

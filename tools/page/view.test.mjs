@@ -109,6 +109,17 @@ test('tries go on while nothing is reached, and end where the session is over', 
   assert.deepEqual(happened.filter((did) => did === 'link lost').length, 4);
 });
 
+test('who leaves is told no end of it, and doesn’t come back', async () => {
+  const leaving = view([[() => leaving.it.leave(), LOST]]);
+  assert.deepEqual(await leaving.it.run(KNOWN), { by: 'left' });
+  const lost = view([['', LOST]]);
+  const end = lost.it.run(KNOWN);
+  await new Promise((passed) => setTimeout(passed, 50));
+  lost.it.leave();
+  assert.deepEqual(await end, { by: 'left' });
+  assert.ok(lost.happened.includes('disconnect'));
+});
+
 test('a size that a window has while the link is lost is told behind it', async () => {
   const { happened, it } = view([['', LOST], ['', OVER]]);
   const end = it.run(KNOWN);
