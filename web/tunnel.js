@@ -164,9 +164,11 @@ export class HttpTunnel {
   // Whether the link gives answers. A read may wait as long as nothing happens, so it tells nothing of that.
   #look() {
     const now = performance.now();
-    const isSilent = now - Math.min(...this.#asked) > STALLED || globalThis.navigator?.onLine === false;
+    const isSilent = now - Math.min(...this.#asked) > STALLED;
     this.#become(isSilent || this.#isLost ? 'unstable' : 'open');
-    if (this.state === 'open' && this.#asked.size === 0 && now - this.#answered > QUIET && !globalThis.document?.hidden) this.send('').catch(() => {});
+    // A machine without a network may be the gateway's own.
+    const quiet = globalThis.navigator?.onLine === false ? BETWEEN_LOOKS : QUIET;
+    if (this.state === 'open' && this.#asked.size === 0 && now - this.#answered > quiet && !globalThis.document?.hidden) this.send('').catch(() => {});
   }
 
   // Asks until the gateway is there again.

@@ -127,6 +127,23 @@ test('a page that is seen asks after 10 quiet seconds whether the gateway is the
   tunnel.cut();
 });
 
+test('a machine that is offline asks at once, and its link is good as long as it is answered', async (t) => {
+  let now = 0;
+  t.mock.method(performance, 'now', () => now);
+  t.mock.method(globalThis, 'setInterval', (look) => { globalThis.look = look; return 1; });
+  const before = Object.getOwnPropertyDescriptor(globalThis, 'navigator');
+  Object.defineProperty(globalThis, 'navigator', { value: { onLine: false }, configurable: true });
+  t.after(() => (before ? Object.defineProperty(globalThis, 'navigator', before) : delete globalThis.navigator));
+  const { tunnel, asked } = network({ write: [answer(''), new TypeError('no network')] });
+  await new Promise((end) => setTimeout(end, 10));
+  for (now = 501; tunnel.state === 'open' && now < 5000; now += 501) {
+    globalThis.look();
+    await new Promise((end) => setTimeout(end, 1));
+  }
+  assert.equal(tunnel.state, 'closed');
+  assert.equal(asked.filter((it) => it === 'POST /tunnel?write:T ').length, 2);
+});
+
 test('a place is given back where the gateway is reached, and once', async () => {
   const { tunnel, asked } = network({ read: [new TypeError('no network')], write: [new TypeError('no network'), answer('')] });
   await new Promise((end) => setTimeout(end, 10));
