@@ -18,6 +18,7 @@ import { READS, Rest, TRIES } from './rest.js';
  * A tunnel, for one connection.
  * @typedef {object} Tunnel
  * @property {State} state
+ * @property {string} session  the ID of the session once it is open, or nothing where the tunnel isn't told it
  * @property {(form: Record<string, string>, hearer: Hearer) => void} connect  opens a session, or joins one
  * @property {(text: string) => Promise<void>} send  sends whole instructions, and ends once they have come to the gateway
  * @property {() => void} cut  gives the link up, as if it was lost
@@ -64,8 +65,8 @@ const isLast = ([opcode]) => opcode === 'disconnect' || opcode === 'error';
 export class HttpTunnel {
   /** @type {State} */
   state = 'connecting';
+  session = '';
   #path;
-  #isKnown = false;
   #id = '';
   /** @type {Hearer} */
   #hearer = { changed() {}, given() {} };
@@ -84,9 +85,9 @@ export class HttpTunnel {
 
   async connect(form, hearer) {
     this.#hearer = hearer;
-    this.#isKnown = form.id !== undefined;
+    this.session = form.id ?? '';
     try {
-      this.#id = await this.#answerTo('connect', new URLSearchParams(form), this.#isKnown ? LIMIT : OPENING);
+      this.#id = await this.#answerTo('connect', new URLSearchParams(form), this.session !== '' ? LIMIT : OPENING);
       this.#become('open');
       this.#looks = setInterval(() => this.#look(), BETWEEN_LOOKS);
       while (this.state !== 'closed') await this.#read();
@@ -120,7 +121,7 @@ export class HttpTunnel {
       await this.#answerTo('write', text, LIMIT);
     } catch (fault) {
       // Who can join again sees the whole screen then. Who can't goes on with the reads, as long as they are answered.
-      if (this.#isKnown || !fault.mayPass) this.#close(fault);
+      if (this.session !== '' || !fault.mayPass) this.#close(fault);
       else this.#regain();
       throw fault;
     }

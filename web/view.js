@@ -51,7 +51,9 @@ export class View {
   #told;
   #outbox;
   #tries = new Rest(TRIES);
-  #isKnown = false;
+  // What the next tunnel opens or joins.
+  /** @type {Record<string, string>} */
+  #form = {};
   #wasOpen = false;
   #hasLeft = false;
   /** @type {End | null} */
@@ -83,24 +85,27 @@ export class View {
   }
 
   /** Shows what the viewer is given until the session is over or can't be reached, and answers how it ended. The form
-   *  opens a session, or joins one by its ID, and joins it again where the link was lost. @returns {Promise<End>} */
+   *  opens a session, or joins one by its ID. It is joined again where the link was lost and its ID is known.
+   *  @returns {Promise<End>} */
   async run(form) {
-    this.#isKnown = form.id !== undefined;
+    this.#form = form;
     this.#looked.at = Date.now();
     this.#looks = setInterval(() => this.#look(), BETWEEN_LOOKS);
+    /** @type {End | null} */
     let end = null;
-    while (!this.#hasLeft && (end = await this.#attend(form)) === null) {
+    while (!this.#hasLeft && (end = await this.#attend()) === null) {
       this.#told.changed('lost');
       await this.#tries.once();
     }
     clearInterval(this.#looks);
-    const how = this.#hasLeft ? /** @type {const} */ ({ by: 'left' }) : end;
+    if (end === null || this.#hasLeft) end = { by: 'left' };
     this.leave();
-    return how;
+    return end;
   }
 
   // One connection, from its opening to its end. It answers how the view ended, or null where it can be tried again.
-  async #attend(form) {
+  /** @returns {Promise<End | null>} */
+  async #attend() {
     const since = Date.now();
     let fault;
     try {
@@ -108,7 +113,7 @@ export class View {
         await tunnel.giveBack();
         this.#past.delete(tunnel);
       }
-      fault = await this.#hear(form);
+      fault = await this.#hear();
     } catch (caught) {
       fault = caught;
     }
@@ -118,16 +123,16 @@ export class View {
     this.#outbox.use(null);
     if (this.#end !== null || this.#hasLeft) return this.#end;
     if (!this.#wasOpen || !(fault instanceof Refusal)) return endOf(fault);
-    if (!this.#isKnown) return fault.mayPass ? { by: 'unreachable' } : endOf(fault);
+    if (this.#form.id === undefined) return fault.mayPass ? { by: 'unreachable' } : endOf(fault);
     if (wasHere && Date.now() - since > STEADY) this.#tries.cut();
     return fault.mayPass || fault.code === FULL || (wasHere && fault.code === ABSENT) ? null : endOf(fault);
   }
 
   // Hears a tunnel until it is closed, and answers by which fault.
-  #hear(form) {
+  #hear() {
     const tunnel = this.#make();
     return new Promise((closed) => {
-      tunnel.connect(form, {
+      tunnel.connect(this.#form, {
         given: (instructions) => this.#play(instructions),
         changed: (state, fault) => {
           if (state === 'open' && this.#tunnel === null) this.#begin(tunnel);
@@ -142,6 +147,7 @@ export class View {
   #begin(tunnel) {
     if (this.#hasLeft) return tunnel.disconnect();
     this.#tunnel = tunnel;
+    if (tunnel.session !== '') this.#form = { id: tunnel.session, 'read-only': String(this.#readOnly) };
     this.#outbox.use(tunnel);
     if (this.#wasOpen) {
       this.#display.renew();
@@ -207,7 +213,7 @@ export class View {
   #look() {
     const { at, isHidden } = this.#looked;
     this.#looked = { at: Date.now(), isHidden: globalThis.document?.hidden === true };
-    if (this.#isKnown && this.#looked.at - at > (isHidden ? SLEPT_HIDDEN : SLEPT)) this.#tunnel?.cut();
+    if (this.#form.id !== undefined && this.#looked.at - at > (isHidden ? SLEPT_HIDDEN : SLEPT)) this.#tunnel?.cut();
     if (this.#sent !== 0 && performance.now() - this.#sent > UNANSWERED && this.#tunnel?.state === 'open') this.#answer(false);
   }
 
@@ -217,7 +223,8 @@ export class View {
   }
 }
 
-/** How a fault ends a view. A frame that can't be read ends it, as all that isn't foreseen does. @returns {End} */
+/** How a fault ends a view. A frame that can't be read ends it, as all that isn't foreseen does.
+ *  @returns {End} */
 export function endOf(fault) {
   if (fault instanceof Refusal) return { by: 'refusal', code: fault.code, status: fault.status };
   if (fault instanceof Unreadable) return { by: 'unreadable' };

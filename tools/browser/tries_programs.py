@@ -7,7 +7,7 @@ from sessions import DOWN, ESCAPE, F, RETURN, STATE, check_picture, check_text, 
 
 # The program, how it is begun, what is typed then, and what is shown in the end.
 PROGRAMS = [
-    ("vim", f"vim -u NONE -N +'syntax on' +'set nu nowrap hlsearch' {TOP}/web/rest.js", [*"/rest", RETURN], "rest"),
+    ("vim", f"vim -n -u NONE -N +'syntax on' +'set nu nowrap hlsearch' {TOP}/web/rest.js", [*"/rest", RETURN], "rest"),
     ("mc", f"mc -a {TOP} {TOP}/web", [DOWN, DOWN], "web"),
     ("dialog", "LC_ALL=C dialog --ascii-lines --title Choose --menu 'What is next?' 15 50 6 a 'The first' b 'The second' c 'The third'", [DOWN], "second"),
     ("htop", "htop -d 300", [], "PID"),

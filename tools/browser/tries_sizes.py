@@ -177,7 +177,7 @@ def try_what_stays(driver, telnet, web):
 
 # What is begun, the keys by which it draws on and on, and how it is ended.
 DRAWING = [
-    ("vim", f"vim -u NONE -N +'set nu laststatus=2' {TOP}/web/main.js", "jjjjjjjjjjkkkkkjjjjjjjjjjjjjjj", ":q!"),
+    ("vim", f"vim -n -u NONE -N +'set nu laststatus=2' {TOP}/web/main.js", "jjjjjjjjjjkkkkkjjjjjjjjjjjjjjj", ":q!"),
     ("less", f"LESSHISTFILE=- less {TOP}/README.md", "jjjjjkjjjjjjbjjjjjjjjjkjjjjjjj", "q"),
 ]
 

@@ -9,13 +9,16 @@ const { Refusal } = await module('tunnel');
 
 /** A view whose tunnels do what a list tells: a text is given, a fault closes a tunnel, and a function is called. One that
  *  begins with a fault is never open. */
-function view(lives, { readOnly = false } = {}) {
+function view(lives, { readOnly = false, session = '' } = {}) {
   const happened = [];
   const note = (name) => (...given) => { happened.push([name, ...given].join(' ')); };
   const make = () => {
     const tunnel = {
       state: 'connecting',
+      session,
       async connect(form, hearer) {
+        note('connect')(JSON.stringify(form));
+        tunnel.session ||= form.id ?? '';
         const change = (state, fault) => { tunnel.state = state; hearer.changed(state, fault); };
         tunnel.cut = () => change('closed', new Refusal(0, 0));
         try {
@@ -44,6 +47,7 @@ function view(lives, { readOnly = false } = {}) {
   return { happened, it: new View(make, display, readOnly, { shown: note('shown'), changed: note('link'), answered: note('answered'), lost: note('lost'), thrown: note('thrown') }) };
 }
 
+const JOINS = 'connect {"id":"$1"}';
 const LOST = new Refusal(0, 0);
 const KNOWN = { id: '$1' };
 const OVER = '10.disconnect;';
@@ -51,7 +55,7 @@ const OVER = '10.disconnect;';
 test('frames are drawn, and shown and acknowledged at the last sync', async () => {
   const { happened, it } = view([['4.size,1.0,1.1,1.1;4.sync,1.1;4.copy;4.sync,1.2;', OVER]]);
   assert.deepEqual(await it.run(KNOWN), { by: 'host' });
-  assert.deepEqual(happened, ['link open', 'draw size', 'settle', 'draw copy', 'settle', 'show', 'shown 2', 'send 4.sync,1.2;', 'disconnect']);
+  assert.deepEqual(happened, [JOINS, 'link open', 'draw size', 'settle', 'draw copy', 'settle', 'show', 'shown 2', 'send 4.sync,1.2;', 'disconnect']);
 });
 
 const ends = [
@@ -74,14 +78,14 @@ test('a fault of the page ends a view, which leaves', async (t) => {
   t.mock.method(console, 'error', () => {});
   const { happened, it } = view([['3.bad;4.sync,1.1;']]);
   assert.deepEqual(await it.run(KNOWN), { by: 'fault' });
-  assert.deepEqual(happened, ['link open', 'disconnect']);
+  assert.deepEqual(happened, [JOINS, 'link open', 'disconnect']);
 });
 
 test('who only looks on sends no key and no size', async () => {
   const act = (it) => { it.press(0x61, true); it.resize({ columns: 132, rows: 50 }); };
   const looking = view([[() => act(looking.it), OVER]], { readOnly: true });
   await looking.it.run(KNOWN);
-  assert.deepEqual(looking.happened, ['link open', 'disconnect']);
+  assert.deepEqual(looking.happened, [JOINS, 'link open', 'disconnect']);
   const typing = view([[() => act(typing.it), OVER]]);
   await typing.it.run(KNOWN);
   assert.deepEqual(typing.happened.filter((did) => did.startsWith('send')).join('').replaceAll('send ', ''), '3.key,2.97,1.1;4.size,4.1056,3.800,2.96;');
@@ -97,6 +101,12 @@ test('a session is joined again where its link is lost, once its place is given 
   assert.deepEqual(happened.filter((did) => order.includes(did)), order);
   const sent = happened.filter((did) => did.startsWith('send')).join(' ');
   assert.match(sent, /65507,1\.0;.*65514,1\.0;3\.key,2\.97,1\.1;/);
+});
+
+test('a session whose tunnel tells its ID is joined by it, as what it was', async () => {
+  const { happened, it } = view([['', LOST], [OVER]], { session: '$7' });
+  assert.deepEqual(await it.run({ hostname: 'h' }), { by: 'host' });
+  assert.deepEqual(happened.filter((did) => did.startsWith('connect')), ['connect {"hostname":"h"}', 'connect {"id":"$7","read-only":"false"}']);
 });
 
 test('tries go on while nothing is reached, and end where the session is over', async () => {
