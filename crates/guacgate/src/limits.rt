@@ -13,7 +13,9 @@ pub(crate) fn limits_of<R: AllocGlobal + Eprint>(rt: &R, words: &[String]) -> Re
     match options_of(rt.alloc(), options) {
         Ok(options) => limits_in(rt, &options),
         Err(WordsFault::Usage) => {
-            say(rt, &cause(rt.alloc(), options).map_err(|_| 6)?);
+            if let Some(said) = cause(rt.alloc(), options).map_err(|_| 6)? {
+                say(rt, &said);
+            }
             Ok(Limits::none())
         }
         Err(WordsFault::NoMemory) => Err(6),

@@ -1,5 +1,5 @@
 -- In reading order: the parts of a text round its last colon, what a parse of the words says of the options that they
 -- give.
 mod Colons
-mod Addresses
+mod Joined
 mod Parsed

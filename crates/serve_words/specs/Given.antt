@@ -1,11 +1,10 @@
 -- The options that the words after `serve` give: the command is this project's own, and how its words are read is what
 -- `clap` states of a simple command.
-use Rattle.std.specs.Prelude.{ℕ, List, [], ◌∷◌, Option, Some, None, true, codes, option_and_then}
+use Rattle.std.specs.Prelude.{List, [], ◌∷◌, Option, Some, None, true, codes, option_and_then}
 use Rattle.clap.specs.Simple.{on_top}
 use Rattle.clap.specs.Words.{App, Kinds, Rule, Text, all_of, fault_of, first_of, matches_of, new_app, new_rule, with_rule}
-use Rattle.clap.specs.declared.builder.action.ArgAction.TheVariants.{Append}
-use Rattle.log.specs.declared.level.LevelFilter.{LevelFilter}
-use Rattle.serve_words.specs.Values.{Address, allowed_of, level_of, port_of, recorder_of, seconds_of, seed_of}
+use Rattle.clap.specs.declared.builder.action.ArgAction.TheVariants.{Append, SetTrue}
+use Rattle.serve_words.specs.Values.{allowed_of, flag_of, level_of, page_of, port_of, recorder_of, seconds_of, seed_of}
 use Rattle.serve_words.specs.declared.options.Options.{Options}
 
 -- an option with one value, as `--port 80` or `--port=80`
@@ -13,7 +12,7 @@ abbrev pub with_value : Text → Rule
 with_value name = record (new_rule name) { long = Some name; value_names = 1 }
 
 -- the seed has to be there; the port, the level and the two times have defaults, and the recorder has none; what may be
--- dialed is given any number of times
+-- dialed and the names of the page are given any number of times; the page is a flag
 abbrev pub seed_rule : Rule
 seed_rule = record (with_value (codes "seed")) { required = true }
 
@@ -35,31 +34,78 @@ silence_rule = record (with_value (codes "silence")) { defaults = codes "0" ∷ 
 abbrev pub linger_rule : Rule
 linger_rule = record (with_value (codes "linger")) { defaults = codes "0" ∷ [] }
 
+abbrev pub page_rule : Rule
+page_rule = record (new_rule (codes "page")) { long = Some (codes "page"); action = Some SetTrue }
+
+abbrev pub name_rule : Rule
+name_rule = record (with_value (codes "name")) { action = Some Append }
+
 -- the command, whose words begin behind `serve`
 abbrev pub bare_command : App
 bare_command = on_top (λ s. record s { no_binary_name = true }) (new_app (codes "guacgate serve"))
 
+-- .. with where it listens and what it tells, with whom it dials and gives up, with its page
+abbrev pub with_place : App → App
+with_place app = with_rule (with_rule (with_rule (with_rule app seed_rule) port_rule) recorder_rule) log_rule
+
+abbrev pub with_limits : App → App
+with_limits app = with_rule (with_rule (with_rule app allow_rule) silence_rule) linger_rule
+
+abbrev pub with_page : App → App
+with_page app = with_rule (with_rule app page_rule) name_rule
+
 abbrev pub serve_command : App
-serve_command = with_rule (with_rule (with_rule (with_rule (with_rule (with_rule (with_rule bare_command seed_rule) port_rule) recorder_rule) log_rule) allow_rule) silence_rule) linger_rule
+serve_command = with_page (with_limits (with_place bare_command))
 
--- the text of an option, of words that the command takes
-abbrev pub text_given : Text → List Text → Option Text
-text_given name words = first_of name (matches_of serve_command words)
+-- the texts of the options, each where it is there
+pub record Texts : Type 0 where
+  pub seed : Option Text
+  pub port : Option Text
+  pub recorder : Option Text
+  pub level : Option Text
+  pub allow : Option (List Text)
+  pub silence : Option Text
+  pub linger : Option Text
+  pub page : Option Text
+  pub names : Option (List Text)
 
--- .. all of its texts, where it is given
-abbrev pub texts_given : Text → List Text → Option (List Text)
-texts_given name words = all_of name (matches_of serve_command words)
+-- .. by the first text of each name and by all of them
+abbrev pub texts_by : (Text → Option Text) → (Text → Option (List Text)) → Texts
+texts_by first all = record {
+  seed = first (codes "seed");
+  port = first (codes "port");
+  recorder = first (codes "recorder");
+  level = first (codes "log");
+  allow = all (codes "allow");
+  silence = first (codes "silence");
+  linger = first (codes "linger");
+  page = first (codes "page");
+  names = all (codes "name");
+}
 
--- the options of seven values, where all are there
-abbrev pub all_given : Option (List ℕ) → Option ℕ → Option (Option Address) → Option LevelFilter → Option (Option (List Address)) → Option ℕ → Option ℕ → Option Options
-all_given None port recorder level allow silence linger = None
-all_given (Some seed) None recorder level allow silence linger = None
-all_given (Some seed) (Some port) None level allow silence linger = None
-all_given (Some seed) (Some port) (Some recorder) None allow silence linger = None
-all_given (Some seed) (Some port) (Some recorder) (Some level) None silence linger = None
-all_given (Some seed) (Some port) (Some recorder) (Some level) (Some allow) None linger = None
-all_given (Some seed) (Some port) (Some recorder) (Some level) (Some allow) (Some silence) None = None
-all_given (Some seed) (Some port) (Some recorder) (Some level) (Some allow) (Some silence) (Some linger) = Some (record { seed = seed; port = port; recorder = recorder; level = level; allow = allow; silence = silence; linger = linger })
+-- .. of words that the command takes
+abbrev pub texts_given : List Text → Texts
+texts_given words = texts_by (λ name. first_of name (matches_of serve_command words)) (λ name. all_of name (matches_of serve_command words))
+
+module _ {A B : Type 0} where
+  -- what follows from a value, where it is there
+  abbrev pub from : Option A → (A → Option B) → Option B
+  from None next = None
+  from (Some value) next = next value
+
+-- the options of the texts, where each is of its form
+abbrev pub options_in : Texts → Option Options
+options_in t =
+    from (option_and_then seed_of t.seed) (λ seed.
+    from (option_and_then port_of t.port) (λ port.
+    from (recorder_of t.recorder) (λ recorder.
+    from (option_and_then level_of t.level) (λ level.
+    from (allowed_of t.allow) (λ allow.
+    from (option_and_then seconds_of t.silence) (λ silence.
+    from (option_and_then seconds_of t.linger) (λ linger.
+    from (option_and_then flag_of t.page) (λ has_page.
+    from (page_of has_page t.names) (λ page.
+    Some (record { seed = seed; port = port; recorder = recorder; level = level; allow = allow; silence = silence; linger = linger; page = page }))))))))))
 
 -- nothing, where the command refuses the words
 abbrev pub unless_refused : Kinds → Option Options → Option Options
@@ -68,7 +114,4 @@ unless_refused (kind ∷ kinds) options = None
 
 -- the options that the words give: the command takes them, and each value is of its form
 abbrev pub options_given : List Text → Option Options
-options_given words =
-    unless_refused (fault_of serve_command words) (
-    all_given (option_and_then seed_of (text_given (codes "seed") words)) (option_and_then port_of (text_given (codes "port") words)) (recorder_of (text_given (codes "recorder") words)) (option_and_then level_of (text_given (codes "log") words)) (allowed_of (texts_given (codes "allow") words)) (option_and_then seconds_of (text_given (codes "silence") words)) (option_and_then seconds_of (text_given (codes "linger") words))
-    )
+options_given words = unless_refused (fault_of serve_command words) (options_in (texts_given words))

@@ -1,5 +1,7 @@
 -- The forms of the values of the options of `serve` (this project's own).
-use Rattle.std.specs.Prelude.{ℕ, List, [], ◌∷◌, length, ◌==◌, if◌then◌else◌, Option, Some, None, codes, bytes_eq, option_and_then}
+use Rattle.std.specs.Prelude.{ℕ, List, [], ◌∷◌, Bool, true, false, ◌&&◌, ◌||◌, length, ◌==◌, nat_le, if◌then◌else◌, Option, Some, None, codes, bytes_eq, option_and_then}
+use Rattle.std.specs.Char.{is_ascii_alphanumeric}
+use Rattle.std.specs.List.{list_all}
 use Rattle.std.specs.Option.{option_map}
 use Rattle.std.specs.Path.{rsplit_once}
 use Rattle.std.specs.Result.{result_ok}
@@ -40,11 +42,12 @@ address_of text = option_and_then address_in (rsplit_once 0x3A text)
 abbrev pub seconds_of : List ℕ → Option ℕ
 seconds_of text = number_within 0 1000000 text
 
--- one address more, where it and the others are there
-abbrev pub and_more : Option Address → Option (List Address) → Option (List Address)
-and_more None more = None
-and_more (Some first) None = None
-and_more (Some first) (Some more) = Some (first ∷ more)
+module _ {A : Type 0} where
+  -- one more, where it and the others are there
+  abbrev pub and_more : Option A → Option (List A) → Option (List A)
+  and_more None more = None
+  and_more (Some first) None = None
+  and_more (Some first) (Some more) = Some (first ∷ more)
 
 -- the addresses of texts, each of which is that of one
 abbrev pub addresses_of : List (List ℕ) → Option (List Address)
@@ -60,3 +63,30 @@ allowed_of (Some texts) = option_map (λ addresses. Some addresses) (addresses_o
 abbrev pub recorder_of : Option (List ℕ) → Option (Option Address)
 recorder_of None = Some None
 recorder_of (Some text) = option_map (λ address. Some address) (address_of text)
+
+-- whether a flag is given, by the text that the command has for it
+abbrev pub flag_of : List ℕ → Option Bool
+flag_of text = if bytes_eq text (codes "true") then Some true else if bytes_eq text (codes "false") then Some false else None
+
+-- a name of a machine has 1 to 253 letters, digits, hyphens, dots and underscores (RFC 1123, section 2.1)
+abbrev pub is_name_sign : ℕ → Bool
+is_name_sign sign = is_ascii_alphanumeric sign || sign == 0x2D || sign == 0x2E || sign == 0x5F
+
+abbrev pub is_name : List ℕ → Bool
+is_name text = nat_le 1 (length text) && nat_le (length text) 253 && list_all is_name_sign text
+
+-- the name of a text
+abbrev pub name_of : List ℕ → Option (List ℕ)
+name_of text = if is_name text then Some text else None
+
+-- the names of texts, each of which is one
+abbrev pub names_of : List (List ℕ) → Option (List (List ℕ))
+names_of [] = Some []
+names_of (text ∷ texts) = and_more (name_of text) (names_of texts)
+
+-- the names by which the page may be asked for, where it is wanted; without it none may be given
+abbrev pub page_of : Bool → Option (List (List ℕ)) → Option (Option (List (List ℕ)))
+page_of false None = Some None
+page_of false (Some texts) = None
+page_of true None = Some (Some [])
+page_of true (Some texts) = option_map (λ names. Some names) (names_of texts)

@@ -1,21 +1,38 @@
 //! What is wrong with the words, said to people.
 
+ghost use Rattle.std.specs.Prelude.{◌↔◌, IfOk, IsNone, IsSome, map, string_bytes};
+ghost use Rattle.serve_words.specs.Given.{options_given};
+
 use crate::command::serve_command;
+use crate::names::is_name;
+use crate::texts::{Texts, texts_in};
 use crate::values::{address_of, level_of, port_of, seconds_of, seed_of};
-use clap::ArgMatches;
+use crate::{WordsFault, options_of};
 use gate_model::NoMemory;
 use std::alloc::Global;
 
 /// Why the words after `serve` give no options: what `clap` says of them, or which value isn't of its option's form,
-/// said as `clap` says it, with an end of line. Empty where they give options. A seed isn't told, since it is a secret.
-pub fn cause(alloc: Global, words: &[String]) -> Result<String, NoMemory> {
+/// said as `clap` says it, with an end of line. None exactly where they give options. A seed isn't told, since it is a
+/// secret.
+pub fn cause(alloc: Global, words: &[String]) -> Result<Option<String>, NoMemory>
+    ensures { IfOk result (λ said. IsNone said ↔ IsSome (options_given (map string_bytes words.now))) }
+{
+    match options_of(alloc, words) {
+        Ok(_) => Ok(None),
+        Err(WordsFault::Usage) => Ok(Some(said(alloc, words)?)),
+        Err(WordsFault::NoMemory) => Err(NoMemory),
+    }
+}
+
+// What is said of words that give no options.
+fn said(alloc: Global, words: &[String]) -> Result<String, NoMemory> {
     let Ok(command) = serve_command(alloc) else {
         return Err(NoMemory);
     };
     match command.try_get_matches_from(words) {
-        Ok(matches) => match unfit_in(&matches) {
+        Ok(matches) => match unfit_in(&texts_in(&matches)) {
             Some(unfit) => unfit.told(alloc),
-            None => Ok(String::new(alloc)),
+            None => Ok(String::from_str(alloc, NAMES_ALONE)?),
         },
         Err(error) => Ok(format!(in alloc; "{error}")?),
     }
@@ -39,6 +56,11 @@ const LEVEL: &str = "it is error, warn or info";
 
 const SECONDS: &str = "it is 0 to 1000000";
 
+const NAME: &str = "it is 1 to 253 letters, digits, hyphens, dots and underscores";
+
+// What is said where each value is of its form, and no options come of them.
+const NAMES_ALONE: &str = "error: '--name <NAME>' has no meaning without '--page'\n";
+
 // A value that isn't of its option's form, and what that is.
 #[derive(Drop)]
 struct Unfit<'a> {
@@ -55,11 +77,9 @@ impl<'a> Unfit<'a> {
 }
 
 // The first value that isn't of its option's form.
-fn unfit_in<'a>(matches: &ArgMatches<'a>) -> Option<Unfit<'a>> {
-    let seed = matches.get_str("seed");
-    let port = matches.get_str("port");
-    let recorder = matches.get_str("recorder");
-    let level = matches.get_str("log");
+fn unfit_in<'a>(texts: &Texts<'a>) -> Option<Unfit<'a>> {
+    let (seed, port) = (texts.seed, texts.port);
+    let (recorder, level) = (texts.recorder, texts.level);
     unfit_one(
         seed.map(|_| "..."),
         seed.and_then(seed_of).is_some(),
@@ -84,9 +104,10 @@ fn unfit_in<'a>(matches: &ArgMatches<'a>) -> Option<Unfit<'a>> {
         "--log <LEVEL>",
         LEVEL,
     ))
-    .or_else(|| unfit_among(matches.get_strs("allow").unwrap_or(&[])))
-    .or_else(|| unfit_seconds(matches.get_str("silence"), "--silence <SECONDS>"))
-    .or_else(|| unfit_seconds(matches.get_str("linger"), "--linger <SECONDS>"))
+    .or_else(|| unfit_address(texts.allow.unwrap_or(&[])))
+    .or_else(|| unfit_seconds(texts.silence, "--silence <SECONDS>"))
+    .or_else(|| unfit_seconds(texts.linger, "--linger <SECONDS>"))
+    .or_else(|| unfit_name(texts.names.unwrap_or(&[])))
 }
 
 // The value of an option, where it is there and doesn't fit.
@@ -112,11 +133,13 @@ fn unfit_seconds<'a>(value: Option<&'a str>, option: &'static str) -> Option<Unf
 }
 
 // The first value of `--allow` that is no host with its port.
-fn unfit_among<'a>(values: &[&'a str]) -> Option<Unfit<'a>> {
+fn unfit_address<'a>(values: &[&'a str]) -> Option<Unfit<'a>> {
     let value = values.iter().find(|value| address_of(value).is_none())?;
-    Some(Unfit {
-        option: "--allow <HOST:PORT>",
-        value,
-        wanted: ADDRESS,
-    })
+    unfit_one(Some(value), false, "--allow <HOST:PORT>", ADDRESS)
+}
+
+// The first value of `--name` that is no name.
+fn unfit_name<'a>(values: &[&'a str]) -> Option<Unfit<'a>> {
+    let value = values.iter().find(|value| !is_name(value))?;
+    unfit_one(Some(value), false, "--name <NAME>", NAME)
 }

@@ -1,8 +1,8 @@
 //! The command that reads the words.
 
-ghost use Rattle.std.specs.Prelude.{◌≡◌, IfOk};
-ghost use Rattle.clap.specs.Words.{app_of};
-ghost use Rattle.serve_words.specs.Given.{serve_command};
+ghost use Rattle.std.specs.Prelude.{◌≡◌, IfOk, false};
+ghost use Rattle.clap.specs.Words.{app_of, rule_of};
+ghost use Rattle.serve_words.specs.Given.{serve_command, with_limits, with_page, with_place, with_value};
 
 use clap::{Arg, ArgAction, Command};
 use gate_model::NoMemory;
@@ -12,53 +12,99 @@ use std::alloc::{AllocError, Global};
 pub(crate) fn serve_command<'a>(alloc: Global) -> Result<Command<'a>, AllocError>
     ensures { IfOk result (λ command. app_of command ≡ serve_command) }
 {
-    let seed = Arg::new(alloc, "seed")
-        .long("seed")
-        .required(true)
-        .value_name("HEX")
-        .help("the secret under which IDs are drawn: 64 hexadecimal digits");
-    let port = Arg::new(alloc, "port")
-        .long("port")
-        .default_value("4822")
-        .value_name("PORT")
-        .help("the port to listen on, 1 to 65535");
-    let recorder = Arg::new(alloc, "recorder")
-        .long("recorder")
-        .value_name("HOST:PORT")
-        .help("where each session is recorded");
-    let level = Arg::new(alloc, "log")
-        .long("log")
-        .default_value("warn")
-        .value_name("LEVEL")
-        .help("how much is noted on standard error: error, warn or info");
-    let allow = Arg::new(alloc, "allow")
-        .long("allow")
-        .action(ArgAction::Append)
-        .value_name("HOST:PORT")
+    let bare = Command::new(alloc, "guacgate serve").no_binary_name(true);
+    let placed = with_place(alloc, bare)?;
+    let limited = with_limits(alloc, placed)?;
+    with_page(alloc, limited)
+}
+
+// The command with the options of where it listens, and what it tells whom.
+fn with_place<'a>(alloc: Global, command: Command<'a>) -> Result<Command<'a>, AllocError>
+    ensures { IfOk result (λ more. app_of more ≡ with_place (app_of command.entry)) }
+{
+    let seed = option(
+        alloc,
+        "seed",
+        "HEX",
+        "the secret under which IDs are drawn: 64 hexadecimal digits",
+    )
+    .required(true);
+    let port = option(alloc, "port", "PORT", "the port to listen on, 1 to 65535").default_value(
+        "4822",
+    );
+    let recorder = option(
+        alloc,
+        "recorder",
+        "HOST:PORT",
+        "where each session is recorded",
+    );
+    let level = option(
+        alloc,
+        "log",
+        "LEVEL",
+        "how much is noted on standard error: error, warn or info",
+    )
+    .default_value("warn");
+    command.arg(seed)?.arg(port)?.arg(recorder)?.arg(level)
+}
+
+// The command with the options of what may be dialed, and who is given up.
+fn with_limits<'a>(alloc: Global, command: Command<'a>) -> Result<Command<'a>, AllocError>
+    ensures { IfOk result (λ more. app_of more ≡ with_limits (app_of command.entry)) }
+{
+    let allow = option(
+        alloc,
+        "allow",
+        "HOST:PORT",
+        "what alone may be dialed, once for each: a name, an address, a prefix as 10.0.0.0/8, or *",
+    )
+    .action(ArgAction::Append);
+    let silence = option(
+        alloc,
+        "silence",
+        "SECONDS",
+        "after how long a viewer or a host is given up that sends or takes nothing; 0 is never",
+    )
+    .default_value("0");
+    let linger = option(
+        alloc,
+        "linger",
+        "SECONDS",
+        "after how long a session without viewers is closed; 0 is never",
+    )
+    .default_value("0");
+    command.arg(allow)?.arg(silence)?.arg(linger)
+}
+
+// The command with the options of the page.
+fn with_page<'a>(alloc: Global, command: Command<'a>) -> Result<Command<'a>, AllocError>
+    ensures { IfOk result (λ more. app_of more ≡ with_page (app_of command.entry)) }
+{
+    let page = Arg::new(alloc, "page")
+        .long("page")
+        .action(ArgAction::SetTrue)
         .help(
-            "what alone may be dialed, once for each: a name, an address, a prefix as 10.0.0.0/8, or *",
+            "hands out the page, to whom asks for this machine by an address, localhost or a --name",
         );
-    let silence = Arg::new(alloc, "silence")
-        .long("silence")
-        .default_value("0")
-        .value_name("SECONDS")
-        .help(
-            "after how long a viewer or a host is given up that sends or takes nothing; 0 is never",
-        );
-    let linger = Arg::new(alloc, "linger")
-        .long("linger")
-        .default_value("0")
-        .value_name("SECONDS")
-        .help("after how long a session without viewers is closed; 0 is never");
-    Command::new(alloc, "guacgate serve")
-        .no_binary_name(true)
-        .arg(seed)?
-        .arg(port)?
-        .arg(recorder)?
-        .arg(level)?
-        .arg(allow)?
-        .arg(silence)?
-        .arg(linger)
+    let name = option(
+        alloc,
+        "name",
+        "NAME",
+        "a name of this machine by which the page may be asked for, once for each",
+    )
+    .action(ArgAction::Append);
+    command.arg(page)?.arg(name)
+}
+
+// An option with one value.
+fn option<'a>(alloc: Global, name: &'a str, value: &'a str, help: &'a str) -> Arg<'a>
+    ensures rule { rule_of result ≡ with_value name.now }
+    ensures own { result.global ≡ false }
+{
+    Arg::new(alloc, name)
+        .long(name)
+        .value_name(value)
+        .help(help)
 }
 
 /// What `serve --help` tells.

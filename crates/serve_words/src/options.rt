@@ -1,14 +1,16 @@
 //! The options.
 
-ghost use Rattle.std.specs.Prelude.{◌≡◌, ◌≢◌, ◌≤◌, Err, IfOk, None, Option, Some, map, option_map, option_and_then, string_bytes};
+ghost use Rattle.std.specs.Prelude.{◌≡◌, ◌≢◌, Err, IfOk, None, Some, map, option_map, string_bytes};
 ghost use Rattle.clap.specs.Words.{kind_of};
-ghost use Rattle.serve_words.specs.Given.{all_given, options_given};
+ghost use Rattle.serve_words.specs.Given.{options_given, options_in};
 ghost use Rattle.serve_words.specs.Values as value;
 ghost use Rattle.serve_words.specs.declared.options.WordsFault.TheVariants.{NoMemory as no_memory, Usage as usage};
 
 use crate::allowed::{Allowed, allowed_in};
 use crate::command::serve_command;
-use crate::values::{address_of, level_of, port_of, seconds_of, seed_of};
+use crate::names::{Names, page_in};
+use crate::texts::{Texts, texts_in};
+use crate::values::{address_of, flag_of, level_of, port_of, seconds_of, seed_of};
 use clap::Error;
 use clap::error::ErrorKind;
 use gate_model::Text;
@@ -18,7 +20,8 @@ use std::alloc::{AllocError, Global};
 /// How a service runs: the seed under which its dice draw IDs, the port that it listens on, 1 to 65,535, the host
 /// and the port of the recorder of its sessions, where one is wanted, how much it notes, which hosts and ports alone
 /// may be dialed, where not all may, after how many seconds a viewer or a host is given up that sends or takes nothing,
-/// and after how many a session without viewers is closed, of which 0 is never.
+/// and after how many a session without viewers is closed, of which 0 is never, and by which names the page may be asked
+/// for, where it is wanted.
 #[derive(Drop)]
 pub struct Options {
     pub seed: [u8; 32],
@@ -28,6 +31,7 @@ pub struct Options {
     pub allow: Option<Allowed>,
     pub silence: u32,
     pub linger: u32,
+    pub page: Option<Names>,
 }
 
 /// Why the words give no options.
@@ -50,57 +54,33 @@ impl From<AllocError> for WordsFault {
 /// The options that the words after `serve` give: `--seed HEX` of 64 hexadecimal digits, which has to be there,
 /// `--port P` of 1 to 20 decimal digits, 1 to 65,535, else 4822, `--recorder HOST:PORT` with a host that isn't empty
 /// and such a port behind the last colon, else none, `--log` with `error`, `warn` or `info`, else `warn`, `--allow
-/// HOST:PORT` of the same form, any number of times, else all may be dialed, and `--silence SECONDS` and `--linger
-/// SECONDS` of 0 to 1,000,000, else 0. Usage comes exactly where the words give none, but for want of memory.
+/// HOST:PORT` of the same form, any number of times, else all may be dialed, `--silence SECONDS` and `--linger
+/// SECONDS` of 0 to 1,000,000, else 0, and `--page`, with `--name NAME` any number of times. Usage comes exactly where
+/// the words give none, but for want of memory.
 pub fn options_of(alloc: Global, words: &[String]) -> Result<Options, WordsFault>
     ensures given { IfOk result (λ options. options_given (map string_bytes words.now) ≡ Some options) }
     ensures usage { result ≡ Err usage → options_given (map string_bytes words.now) ≡ None }
 {
-    let matches = match serve_command(alloc)?.try_get_matches_from(words) {
-        Ok(matches) => matches,
-        Err(error) => return Err(fault_of(&error)),
-    };
-    let seed = matches.get_str("seed");
-    let port = matches.get_str("port");
-    let recorder = matches.get_str("recorder");
-    let level = matches.get_str("log");
-    let allow = matches.get_strs("allow");
-    let silence = matches.get_str("silence");
-    let linger = matches.get_str("linger");
-    read(alloc, seed, port, recorder, level, allow, silence, linger)
+    match serve_command(alloc)?.try_get_matches_from(words) {
+        Ok(matches) => read(alloc, &texts_in(&matches)),
+        Err(error) => Err(fault_of(&error)),
+    }
 }
 
 // The options of the texts.
-fn read(
-    alloc: Global,
-    seed: Option<&str>,
-    port: Option<&str>,
-    recorder: Option<&str>,
-    level: Option<&str>,
-    allow: Option<&[&str]>,
-    silence: Option<&str>,
-    linger: Option<&str>,
-) -> Result<Options, WordsFault>
-    ensures given { IfOk result (λ options. all_given (option_and_then value.seed_of (option_map (λ s. s.now) seed.entry)) (option_and_then value.port_of (option_map (λ s. s.now) port.entry)) (value.recorder_of (option_map (λ s. s.now) recorder.entry)) (option_and_then value.level_of (option_map (λ s. s.now) level.entry)) (value.allowed_of (option_map (λ l. map (λ s. s.now) l.now) allow.entry)) (option_and_then value.seconds_of (option_map (λ s. s.now) silence.entry)) (option_and_then value.seconds_of (option_map (λ s. s.now) linger.entry)) ≡ Some options) }
-    ensures usage { result ≡ Err usage → all_given (option_and_then value.seed_of (option_map (λ s. s.now) seed.entry)) (option_and_then value.port_of (option_map (λ s. s.now) port.entry)) (value.recorder_of (option_map (λ s. s.now) recorder.entry)) (option_and_then value.level_of (option_map (λ s. s.now) level.entry)) (value.allowed_of (option_map (λ l. map (λ s. s.now) l.now) allow.entry)) (option_and_then value.seconds_of (option_map (λ s. s.now) silence.entry)) (option_and_then value.seconds_of (option_map (λ s. s.now) linger.entry)) ≡ None }
+fn read(alloc: Global, texts: &Texts<'_>) -> Result<Options, WordsFault>
+    ensures given { IfOk result (λ options. options_in texts.now ≡ Some options) }
+    ensures usage { result ≡ Err usage → options_in texts.now ≡ None }
 {
-    let Some(seed) = seed.and_then(seed_of) else {
-        return Err(WordsFault::Usage);
-    };
-    let Some(port) = port.and_then(port_of) else {
-        return Err(WordsFault::Usage);
-    };
-    let recorder = recorder_in(alloc, recorder)?;
-    let Some(level) = level.and_then(level_of) else {
-        return Err(WordsFault::Usage);
-    };
-    let allow = allowed_in(alloc, allow)?;
-    let Some(silence) = silence.and_then(seconds_of) else {
-        return Err(WordsFault::Usage);
-    };
-    let Some(linger) = linger.and_then(seconds_of) else {
-        return Err(WordsFault::Usage);
-    };
+    let seed = texts.seed.and_then(seed_of).ok_or(WordsFault::Usage)?;
+    let port = texts.port.and_then(port_of).ok_or(WordsFault::Usage)?;
+    let recorder = recorder_in(alloc, texts.recorder)?;
+    let level = texts.level.and_then(level_of).ok_or(WordsFault::Usage)?;
+    let allow = allowed_in(alloc, texts.allow)?;
+    let silence = texts.silence.and_then(seconds_of).ok_or(WordsFault::Usage)?;
+    let linger = texts.linger.and_then(seconds_of).ok_or(WordsFault::Usage)?;
+    let page = texts.page.and_then(flag_of).ok_or(WordsFault::Usage)?;
+    let page = page_in(alloc, page, texts.names)?;
     Ok(Options {
         seed,
         port,
@@ -109,6 +89,7 @@ fn read(
         allow,
         silence,
         linger,
+        page,
     })
 }
 

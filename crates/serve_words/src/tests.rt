@@ -55,6 +55,33 @@ fn what_may_be_dialed_is_given_any_number_of_times(rt: HostRuntime) -> Result<()
 }
 
 #[test]
+fn the_page_has_names(rt: HostRuntime) -> Result<(), Fail> {
+    let alloc = rt.alloc();
+    for (line, wanted) in [
+        ("--seed SEED", None),
+        ("--seed SEED --page", Some("")),
+        (
+            "--name gate.example --seed SEED --page --name=Gate_1-a",
+            Some("gate.example Gate_1-a "),
+        ),
+    ] {
+        let given = options_of(alloc, &words(alloc, line)?)
+            .ok()
+            .ok_or("refused")?;
+        let mut told = String::new(alloc);
+        if let Some(names) = &given.page {
+            for name in names.as_slice() {
+                told.push_str(name.as_str())?;
+                told.push(' ')?;
+            }
+        }
+        assert!(rt; given.page.is_some() == wanted.is_some(), "{line}");
+        assert_eq!(rt; told.as_str(), wanted.unwrap_or(""));
+    }
+    Ok(())
+}
+
+#[test]
 fn faulty_words_are_refused(rt: HostRuntime) -> Result<(), Fail> {
     let alloc = rt.alloc();
     for line in [
@@ -82,6 +109,12 @@ fn faulty_words_are_refused(rt: HostRuntime) -> Result<(), Fail> {
         "--seed SEED --silence 1s",
         "--seed SEED --linger=",
         "--seed SEED --linger 1 --linger 2",
+        "--seed SEED --page=yes",
+        "--seed SEED --page --page",
+        "--seed SEED --page --name",
+        "--seed SEED --page --name=",
+        "--seed SEED --page --name gate:4822",
+        "--seed SEED --name gate",
         "--seed SEED --help",
         "--seed SEED more",
     ] {
@@ -102,10 +135,18 @@ fn help_names_the_options(rt: HostRuntime) -> Result<(), Fail> {
         "--allow <HOST:PORT>",
         "--silence <SECONDS>",
         "--linger <SECONDS>",
+        "--page",
+        "--name <NAME>",
     ] {
         assert!(rt; text.as_str().contains(option), "{option}");
     }
     Ok(())
+}
+
+// What is said of a line of faulty words.
+fn said_of(alloc: Global, line: &str) -> Result<String, Fail> {
+    let said = cause(alloc, &words(alloc, line)?).ok().ok_or("no memory")?;
+    Ok(said.ok_or("nothing is said")?)
 }
 
 // What is said of each value that isn't of its form, and nothing of words that give options. A seed isn't told.
@@ -156,15 +197,20 @@ fn a_faulty_value_is_told(rt: HostRuntime) -> Result<(), Fail> {
             "--linger <SECONDS>",
             "it is 0 to 1000000",
         ),
+        (
+            "--seed SEED --page --name gate --name=a/b",
+            "a/b",
+            "--name <NAME>",
+            "it is 1 to 253 letters, digits, hyphens, dots and underscores",
+        ),
     ] {
-        let told = cause(alloc, &words(alloc, line)?).ok().ok_or("no memory")?;
         let due = format!(in alloc; "error: invalid value '{value}' for '{option}': {wanted}\n")?;
-        assert_eq!(rt; told.as_str(), due.as_str());
+        assert_eq!(rt; said_of(alloc, line)?.as_str(), due.as_str());
     }
-    let none = cause(alloc, &words(alloc, "--seed SEED")?)
+    let none = cause(alloc, &words(alloc, "--seed SEED --page")?)
         .ok()
         .ok_or("no memory")?;
-    assert_eq!(rt; none.as_str(), "");
+    assert!(rt; none.is_none());
     Ok(())
 }
 
@@ -185,9 +231,12 @@ fn other_faults_are_told_by_clap(rt: HostRuntime) -> Result<(), Fail> {
             "--seed SEED --seed SEED",
             "error: the argument '--seed <HEX>' cannot be used multiple times\n",
         ),
+        (
+            "--seed SEED --name gate",
+            "error: '--name <NAME>' has no meaning without '--page'\n",
+        ),
     ] {
-        let told = cause(alloc, &words(alloc, line)?).ok().ok_or("no memory")?;
-        assert!(rt; told.starts_with(first));
+        assert!(rt; said_of(alloc, line)?.starts_with(first));
     }
     let prefix = cause_of_prefix(alloc, "10.0.0.0/33", 23)
         .ok()

@@ -6,7 +6,7 @@ ghost use Rattle.std.specs.List.{AllPass, list_all};
 ghost use Rattle.gate_model.specs.text.Numerals.{is_number};
 ghost use Rattle.gate_model.specs.text.Spelling.{number_of};
 ghost use Rattle.hex.specs.Hex.{is_hex_digit};
-ghost use Rattle.serve_words.specs.Values.{address_in, address_of, level_of, port_of, seconds_of, seed_of};
+ghost use Rattle.serve_words.specs.Values.{address_in, address_of, flag_of, level_of, port_of, seconds_of, seed_of};
 
 use hex::FromHex;
 use log::LevelFilter;
@@ -85,6 +85,17 @@ pub(crate) fn level_of(text: &str) -> Option<LevelFilter>
         "error" => Some(LevelFilter::Error),
         "warn" => Some(LevelFilter::Warn),
         "info" => Some(LevelFilter::Info),
+        _ => None,
+    }
+}
+
+/// Whether a flag is given.
+pub(crate) fn flag_of(text: &str) -> Option<bool>
+    ensures { result ≡ flag_of text.now }
+{
+    match text {
+        "true" => Some(true),
+        "false" => Some(false),
         _ => None,
     }
 }

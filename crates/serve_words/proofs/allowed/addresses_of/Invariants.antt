@@ -1,6 +1,6 @@
 use Rattle.std.proofs.Common.{◌≡◌, drop, map}
 use Rattle.serve_words.specs.Values.{addresses_of}
-use Rattle.serve_words.proofs.Addresses.{joined}
+use Rattle.serve_words.proofs.Joined.{joined}
 use Rattle.serve_words.proofs.allowed.addresses_of.Given as goal
 
 -- what was read, and then what the other texts are

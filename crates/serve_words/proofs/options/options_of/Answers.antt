@@ -8,11 +8,11 @@ returns-in-Err-clause-usage c = λ e.
     let fault : c.fault_of.result ≡ usage = cc in
     refused _ _ c.in-Err.error c.in_ok-serve_command.ensures c.in-Err.ensures.kinds (c.fault_of.ensures fault)
 
-pub returns-clause-given : goal.returns-clause-given
-returns-clause-given c =
-    given_as _ _ c.read.result (taken _ _ c.in-Ok.matches _ _ _ _ _ _ _ c.in_ok-serve_command.ensures c.in-Ok.ensures.kinds c.in-Ok.ensures.matches c.get_str-seed.ensures c.get_str-port.ensures c.get_str-recorder.ensures c.get_str-level.ensures c.get_strs-allow.ensures c.get_str-silence.ensures c.get_str-linger.ensures) c.read.ensures.given
+pub returns-in-Ok-clause-given : goal.returns-in-Ok-clause-given
+returns-in-Ok-clause-given c =
+    given_as _ _ c.read.result (taken _ _ c.in-Ok.matches _ c.in_ok-serve_command.ensures c.in-Ok.ensures.kinds c.in-Ok.ensures.matches c.texts_in.ensures) c.read.ensures.given
 
-pub returns-clause-usage : goal.returns-clause-usage
-returns-clause-usage c = λ is.
-    taken _ _ c.in-Ok.matches _ _ _ _ _ _ _ c.in_ok-serve_command.ensures c.in-Ok.ensures.kinds c.in-Ok.ensures.matches c.get_str-seed.ensures c.get_str-port.ensures c.get_str-recorder.ensures c.get_str-level.ensures c.get_strs-allow.ensures c.get_str-silence.ensures c.get_str-linger.ensures
+pub returns-in-Ok-clause-usage : goal.returns-in-Ok-clause-usage
+returns-in-Ok-clause-usage c = λ is.
+    taken _ _ c.in-Ok.matches _ c.in_ok-serve_command.ensures c.in-Ok.ensures.kinds c.in-Ok.ensures.matches c.texts_in.ensures
     ∙ c.read.ensures.usage is
