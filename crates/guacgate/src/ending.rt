@@ -18,9 +18,17 @@ const PAUSE: u64 = 250;
 const QUIET: u32 = 40;
 
 /// The signals that ask for the end, as bits of what is pending: SIGINT and SIGTERM, 2 and 15 (signal(7)).
-const ENDING: u64 = 0x4002;
+const INT: u64 = 0x0002;
 
-/// Looks until the process is asked to end, and then ends the net. A signal that the process was started without, as by
+const TERM: u64 = 0x4000;
+
+/// How often it is looked whether connections are still open, and how long is waited between, in milliseconds: five
+/// seconds in all.
+const LOOKS: u32 = 250;
+
+const BETWEEN: u64 = 20;
+
+/// Looks until the process is asked to end, and then ends the net, at SIGINT at once. A signal that the process was started without, as by
 /// `env --block-signal=TERM`, stays pending, and the system tells so; also where the process is the first of a
 /// container, for which the system has no action of its own.
 pub(crate) fn look_after<R>(rt: &R, watch: &Watch)
@@ -32,9 +40,12 @@ where
     let mut quiet = QUIET;
     for _ in rt.forever() {
         thread::sleep(rt, Duration::from_millis(PAUSE));
-        if is_asked(rt) {
-            watch.end();
-            return;
+        let pending = pending(rt);
+        if pending & INT != 0 {
+            return watch.end_at_once();
+        }
+        if pending & TERM != 0 {
+            return watch.end();
         }
         quiet = quiet.saturating_add(1);
         let refused = watch.refused();
@@ -46,9 +57,14 @@ where
     }
 }
 
-/// The status of a run, of `serve` or of other words: a service that was told to end has ended well, and of one that ended
-/// by a fault it is told which.
-pub(crate) fn ended<R: Eprint + Copy + Drop>(rt: &R, status: u8, serves: bool, watch: &Watch) -> u8
+/// The status of a run, of `serve` or of other words: a service that was told to end has ended well, once its connections
+/// are gone or five seconds have, and of one that ended by a fault it is told which.
+pub(crate) fn ended<R: Clock + Eprint + Copy + Drop>(
+    rt: &R,
+    status: u8,
+    serves: bool,
+    watch: &Watch,
+) -> u8
     ensures { (result ≡ status) ⊎ (result ≡ 0) }
 {
     if status != 8 {
@@ -58,6 +74,7 @@ pub(crate) fn ended<R: Eprint + Copy + Drop>(rt: &R, status: u8, serves: bool, w
         return status;
     }
     if watch.is_ending() {
+        wait_for_ends(rt, watch);
         return 0;
     }
     match watch.fault() {
@@ -70,11 +87,21 @@ pub(crate) fn ended<R: Eprint + Copy + Drop>(rt: &R, status: u8, serves: bool, w
     status
 }
 
-// Whether a signal is pending that asks for the end.
-fn is_asked<R: Files + Alloc>(rt: &R) -> bool {
+// Waits until no connection is open, so that viewers and recorders have their last bytes.
+fn wait_for_ends<R: Clock>(rt: &R, watch: &Watch) {
+    for _ in 0..LOOKS {
+        if watch.open() == 0 || watch.is_hurried() {
+            return;
+        }
+        thread::sleep(rt, Duration::from_millis(BETWEEN));
+    }
+}
+
+// The signals that are pending.
+fn pending<R: Files + Alloc>(rt: &R) -> u64 {
     match fs::read_to_string(rt, "/proc/self/status") {
-        Ok(status) => pending_in(status.as_str()) & ENDING != 0,
-        Err(_) => false,
+        Ok(status) => pending_in(status.as_str()),
+        Err(_) => 0,
     }
 }
 

@@ -1,5 +1,7 @@
 //! The two ends of a TCP connection, which share its one descriptor.
 
+use crate::Watch;
+use crate::common::Common;
 use crate::keeping::keep;
 use crate::sink::TcpSink;
 use gate_outside::StdSource;
@@ -15,13 +17,14 @@ use std::time::{Clock, Duration, Instant};
 /// How long who connects has for its greeting, and for its request, in seconds (this project's own).
 const GREETING: u64 = 10;
 
-/// A connection, as both of its ends have it: whether its greeting is over, and how long it may take nothing, and send
-/// nothing behind its greeting.
+/// A connection, as both of its ends have it: whether its greeting is over, how long it may take nothing, and send
+/// nothing behind its greeting, and who counts that it is open.
 #[derive(Drop)]
 pub(crate) struct Connection {
     pub(crate) stream: TcpStream,
     pub(crate) settled: AtomicBool,
     silence: Option<Duration>,
+    pub(crate) watch: Option<Watch>,
 }
 
 /// The end of a TCP connection that is read from. It shares its one descriptor with the sink. Who connects has ten
@@ -70,11 +73,11 @@ pub(crate) fn ends_of_caller<R: Clock + Copy + Drop>(
     rt: &R,
     alloc: Global,
     stream: TcpStream,
-    silence: u32,
+    common: &Common,
 ) -> Option<Ends<R>> {
     let now = Instant::now(rt).ok()?;
     let until = now.checked_add(Duration::from_secs(GREETING))?;
-    ends(*rt, alloc, stream, silence, Some(until))
+    ends(*rt, alloc, stream, common, Some(until))
 }
 
 /// The ends of a connection to a host, which may say nothing for as long as it likes.
@@ -82,28 +85,32 @@ pub(crate) fn ends_of_host<R: Clock + Copy + Drop>(
     rt: &R,
     alloc: Global,
     stream: TcpStream,
-    silence: u32,
+    common: &Common,
 ) -> Option<Ends<R>> {
-    ends(*rt, alloc, stream, silence, None)
+    ends(*rt, alloc, stream, common, None)
 }
 
-// The ends. What is written goes out at once; a write fails where nothing is taken for `silence` seconds, of which 0
-// is never.
+// The ends. What is written goes out at once; a write fails where nothing is taken for as long as the net allows.
 fn ends<R: Clock + Drop>(
     rt: R,
     alloc: Global,
     stream: TcpStream,
-    silence: u32,
+    common: &Common,
     until: Option<Instant>,
 ) -> Option<Ends<R>> {
     stream.set_nodelay(true).ok()?;
-    let limit = limit_of(silence);
+    let limit = limit_of(common.silence);
     stream.set_write_timeout(limit).ok()?;
-    let _ = keep(&stream, silence);
+    let _ = keep(&stream, common.silence);
+    let watch = match &common.watch {
+        Some(watch) => Some(watch.another().ok()?),
+        None => None,
+    };
     let connection = Connection {
         stream,
         settled: AtomicBool::new(false),
         silence: limit,
+        watch,
     };
     let connection = Arc::new(alloc, connection).ok()?;
     let sink = TcpSink::new(Arc::try_clone(&connection).ok()?);

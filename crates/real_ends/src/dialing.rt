@@ -82,7 +82,7 @@ impl<
         if self.is_barred(&stream, named) {
             return None;
         }
-        ends_of_host(&self.rt, alloc, stream, self.common.silence)
+        ends_of_host(&self.rt, alloc, stream, &self.common)
     }
 
     // Whether a rule names the address.

@@ -111,7 +111,7 @@ impl Listening {
             turn_away(stream);
             return Came::Nobody;
         }
-        match ends_of_caller(clock, self.alloc, stream, self.common.silence) {
+        match ends_of_caller(clock, self.alloc, stream, &self.common) {
             Some(ends) => Came::Ends(ends),
             None => Came::Fault,
         }
@@ -164,6 +164,10 @@ impl<
 
     fn listen(&mut self, alloc: Global, port: u16, seed: [u8; 32]) -> Result<(), DialFault> {
         let Limits { silence, rules } = mem::replace(&mut self.limits, Limits::none());
+        let watch = match &self.watch {
+            Some(watch) => Some(watch.another()?),
+            None => None,
+        };
         let common = Common {
             seed,
             made: AtomicU64::new(0),
@@ -171,6 +175,7 @@ impl<
             silence,
             rules,
             spares: Spares::new(alloc),
+            watch,
         };
         let Ok(common) = Arc::new(alloc, common) else {
             return Err(DialFault::NoMemory);

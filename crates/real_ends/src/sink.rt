@@ -14,7 +14,8 @@ use std::sync::atomic::Ordering::SeqCst;
 const READY: &[u8] = b"5.ready,";
 
 /// A sink over a TCP connection. It tells nothing of what was written. Where it is finished or dropped, the
-/// connection is shut down both ways, so that a read that waits on its other end returns.
+/// connection is shut down both ways, so that a read that waits on its other end returns. Until it is dropped the
+/// connection counts as open.
 pub struct TcpSink {
     connection: Arc<Connection, Global>,
     faults: u64,
@@ -23,6 +24,9 @@ pub struct TcpSink {
 impl TcpSink {
     // The sink of a connection.
     pub(crate) fn new(connection: Arc<Connection, Global>) -> TcpSink {
+        if let Some(watch) = &connection.watch {
+            watch.count_open();
+        }
         TcpSink {
             connection,
             faults: 0,
@@ -37,6 +41,9 @@ impl Drop for TcpSink {
             faults: _,
         } = self;
         let _ = connection.stream.shutdown(Shutdown::Both);
+        if let Some(watch) = &connection.watch {
+            watch.count_gone();
+        }
     }
 }
 

@@ -14,10 +14,14 @@ struct Seen {
     refused: AtomicU64,
     // The number of the system's fault that ended it, or 0.
     fault: AtomicU64,
+    // How many sinks there are.
+    open: AtomicU64,
     ending: AtomicBool,
+    hurried: AtomicBool,
 }
 
-/// A net that is watched from another thread: how often it could let nobody in for want of descriptors, and its end. Contracts tell nothing of it.
+/// A net that is watched from another thread: how often it could let nobody in for want of descriptors, how many of its
+/// connections are open, and its end. Contracts tell nothing of it.
 #[derive(Drop)]
 pub struct Watch {
     seen: Arc<Seen, Global>,
@@ -30,7 +34,9 @@ impl Watch {
             listener: AtomicU64::new(0),
             refused: AtomicU64::new(0),
             fault: AtomicU64::new(0),
+            open: AtomicU64::new(0),
             ending: AtomicBool::new(false),
+            hurried: AtomicBool::new(false),
         };
         Ok(Watch {
             seen: Arc::new(alloc, seen)?,
@@ -68,9 +74,35 @@ impl Watch {
         }
     }
 
+    /// The same, and nobody waits for what its connections still have to be sent.
+    pub fn end_at_once(&self) {
+        self.seen.hurried.store(true, SeqCst);
+        self.end();
+    }
+
     /// Whether the net was told to end.
     pub fn is_ending(&self) -> bool {
         self.seen.ending.load(SeqCst)
+    }
+
+    /// Whether it was told to end at once.
+    pub fn is_hurried(&self) -> bool {
+        self.seen.hurried.load(SeqCst)
+    }
+
+    /// How many of its connections are open, those to hosts among them.
+    pub fn open(&self) -> u64 {
+        self.seen.open.load(SeqCst)
+    }
+
+    // A connection is open.
+    pub(crate) fn count_open(&self) {
+        self.seen.open.fetch_add(1, SeqCst);
+    }
+
+    // A connection that was open is gone.
+    pub(crate) fn count_gone(&self) {
+        self.seen.open.fetch_sub(1, SeqCst);
     }
 
     // Once more nobody could be let in.
