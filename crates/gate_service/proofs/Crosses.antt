@@ -25,6 +25,7 @@ use Rattle.service_door.specs.contracts.session.Session as session
 use Rattle.gate_service.specs.contracts.jobs.ConnectionJob as connection
 use Rattle.gate_service.specs.contracts.jobs.Pair as pair
 use Rattle.gate_service.specs.contracts.jobs.RecorderAddress as address
+use Rattle.gate_service.specs.contracts.paging.Page as page
 use Rattle.gate_service.specs.contracts.seen.Seen as seen
 use Rattle.gate_service.specs.contracts.seen.WatchedShelf as watched
 use Rattle.gate_service.specs.contracts.tidying.TidyJob as tidy
@@ -53,6 +54,13 @@ seen_send = declared_send seen.the_type (Arc-send _ (mutex_send _ looks_send) (m
 watched_send : IsSend watched.the_row
 watched_send = declared_send watched.the_type (locked_send tunnel.the_row tunnel_send, (option_send seen.the_row seen_send, tt))
 
+-- the page
+page_send : IsSend page.the_row
+page_send = search (sendable, crosses) depth 20
+
+page_sync : IsSync page.the_row
+page_sync = search (sendable, crosses) depth 20
+
 pub connection_send : (S K H B L : RattleType) → IsSend S → IsSend K → IsSend H → IsSend B → IsSend L → IsSend (connection.the_row S K H B L)
 connection_send S K H B L s k h b l =
     declared_send (connection.the_type S K H B L) (
@@ -61,7 +69,7 @@ connection_send S K H B L s k h b l =
         Arc-send (mutex.the_row (option.the_row (pair.the_row S K))) (ends_send S K s k) (ends_sync S K s k),
         (
           locked_send session.the_row session_send,
-          (watched_send, (field_send H h, (field_send H h, (field_send B b, (option_send address.the_row address_send, (field_send L l, tt)))))),
+          (watched_send, (field_send H h, (field_send H h, (field_send B b, (option_send address.the_row address_send, (option_send _ (Arc-send page.the_row page_send page_sync), (field_send L l, tt))))))),
         ),
       ),
     )

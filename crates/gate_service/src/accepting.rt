@@ -5,6 +5,7 @@ ghost use Rattle.gate_outside.specs.Edge.{Rose};
 
 use crate::jobs::{ConnectionJob, Ends, Pair, RecorderAddress};
 use crate::notes::{note_end, note_recorder_failed, note_refused, note_untidied};
+use crate::paging::Page;
 use crate::seen::WatchedShelf;
 use crate::tidying::TidyJob;
 use gate_model::{Instr, NoMemory, Text};
@@ -14,11 +15,20 @@ use id_table::LockedShelf;
 use log::Log;
 use service_door::{Session, sweep};
 use std::alloc::Global;
+use std::sync::atomic::AtomicU64;
 use std::sync::{Arc, Mutex, Wait};
 use std::thread::Threads;
+use std::time::Duration;
+
+// How often it is looked for sessions that are to be stopped, and how long is waited before each other look, in
+// milliseconds.
+const LOOKS: u32 = 5;
+
+const PAUSE: u64 = 20;
 
 /// What the service has for every connection: the tables of sessions and of tunnels, a helper of its own, the one
-/// bell, the host and the port of the recorder of sessions, where one is wanted, and where it notes.
+/// bell, the host and the port of the recorder of sessions, where one is wanted, the page, where it is, and where it
+/// notes.
 #[derive(Drop)]
 pub(crate) struct Service<H, B, L> {
     pub(crate) alloc: Global,
@@ -27,6 +37,7 @@ pub(crate) struct Service<H, B, L> {
     pub(crate) helper: H,
     pub(crate) bell: B,
     pub(crate) recorder: Option<(Text, u16)>,
+    pub(crate) page: Option<Arc<Page, Global>>,
     pub(crate) log: L,
 }
 
@@ -54,13 +65,35 @@ where
         Ok(())
     }
 
-    /// Starts the job that gives up what nobody uses for so many seconds, of which 0 is never. The job never ends, so a
-    /// spawner has to start it in a thread of its own.
-    pub(crate) fn tidy<R>(&mut self, rt: &R, silence: u32, linger: u32)
+    /// Stops all sessions and takes them out of the table, so that each viewer is given what it lacks and its end. A
+    /// session that is lent at one look is there at a later one.
+    pub(crate) fn stop_all<R: Wait>(&mut self, rt: &R) {
+        let pause = AtomicU64::new(0);
+        for _ in 0..LOOKS {
+            self.stop_here(rt);
+            pause.park_timeout(rt, 0, Duration::from_millis(PAUSE));
+        }
+    }
+
+    // Stops the sessions that aren't lent.
+    fn stop_here<R: Wait>(&mut self, rt: &R) {
+        for _ in rt.forever() {
+            let Some((id, mut session)) = self.sessions.sweep(rt, |_| true) else {
+                return;
+            };
+            session.stop(rt, &self.bell);
+            note_end(&self.log, &id, session.newest());
+        }
+    }
+
+    /// Starts the job that gives up what nobody uses for so many seconds, of which 0 is never, and takes sessions that
+    /// have ended out of the table, where that is noted. The job never ends, so a spawner has to start it in a thread of
+    /// its own.
+    pub(crate) fn tidy<R>(&mut self, rt: &R, silence: u32, linger: u32, notes_ends: bool)
     where
         R: Threads + Wait + Copy + Send + Sync + 'static,
     {
-        if silence == 0 && linger == 0 {
+        if silence == 0 && linger == 0 && !notes_ends {
             return;
         }
         let Ok(job) = self.tidy_job(silence, linger) else {
@@ -134,6 +167,10 @@ where
             dice: self.helper.another(self.alloc)?,
             bell: self.bell.another(self.alloc)?,
             recorder: copy_of(self.alloc, &self.recorder)?,
+            page: match &self.page {
+                Some(page) => Some(Arc::try_clone(page)?),
+                None => None,
+            },
             log: self.log,
         })
     }

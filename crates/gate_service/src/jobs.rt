@@ -2,13 +2,13 @@
 
 use crate::notes::note_foreign;
 use crate::noting::NotingDoor;
+use crate::paging::{Page, refuse};
 use crate::seen::WatchedShelf;
 use crate::{ConnEnd, Lookahead, connection};
 use fetch_site::{Front, look};
 use gate_model::{Bytes, NoMemory, Text};
 use gate_outside::{Again, Bell, Dice, Helper, Sink, Source};
 use guac_handshake::Door;
-use http_front::{Response, write_response};
 use id_table::LockedShelf;
 use log::Log;
 use service_door::{ServiceDoor, Session};
@@ -47,6 +47,7 @@ pub(crate) struct ConnectionJob<S, K, H, B, L> {
     pub(crate) dice: H,
     pub(crate) bell: B,
     pub(crate) recorder: Option<RecorderAddress>,
+    pub(crate) page: Option<Arc<Page, Global>>,
     pub(crate) log: L,
 }
 
@@ -73,31 +74,54 @@ where
             dice,
             bell,
             recorder,
+            page,
             log,
         } = self;
-        let Some(Pair { source, sink }) = ends.lock(rt).take() else {
+        let Some(
+            Pair {
+                mut source,
+                mut sink,
+            },
+        ) = ends.lock(rt).take()
+        else {
             return;
         };
+        let Some(front) = front_of(alloc, &mut source, &mut sink, &page, &log) else {
+            return sink.finish();
+        };
+        let source = Again::new(Bytes::of(front), source);
         let recorder = recorder.map(|it| (it.host, it.port));
         let door = ServiceDoor::new(&mut sessions, &mut helper, &bell, recorder);
         serve_at(rt, alloc, source, sink, door, tunnels, dice, &bell, log);
     }
 }
 
-// Refuses a request of another site's page, before anything is done for it.
-fn refuse_foreign<K: Sink, L: Log>(alloc: Global, sink: &mut K, log: &L) {
-    note_foreign(log);
-    let response = Response {
-        status: 403,
-        code: 771,
-        body: Bytes::of(Vec::new(alloc)),
-    };
-    let _ = write_response(alloc, sink, &response);
-    sink.finish();
+// What was read ahead of a connection. None where that is all: another site's page asks, which is refused, the page was
+// asked for and is answered, or a read has failed.
+fn front_of<S: Source, K: Sink, L: Log>(
+    alloc: Global,
+    source: &mut S,
+    sink: &mut K,
+    page: &Option<Arc<Page, Global>>,
+    log: &L,
+) -> Option<Vec<u8>> {
+    let mut front = Vec::new(alloc);
+    match look(source, &mut front) {
+        Ok(Front::Foreign) => {
+            note_foreign(log);
+            refuse(alloc, sink);
+            return None;
+        }
+        Ok(Front::Fault) => return None,
+        Ok(Front::Other) | Err(NoMemory) => {}
+    }
+    match page {
+        Some(page) if page.answers(alloc, &front, sink, log) => None,
+        _ => Some(front),
+    }
 }
 
-// Serves the connection at the door, finishes it, and gives the place of a visit back to the door. A request that another
-// site's page makes is refused before.
+// Serves the connection at the door, finishes it, and gives the place of a visit back to the door.
 fn serve_at<R, S, K, D, X, B, L>(
     rt: &R,
     alloc: Global,
@@ -118,14 +142,8 @@ where
     B: Bell + Send,
     L: Log + Copy + Drop,
 {
-    let (mut source, mut sink) = (source, sink);
-    let mut front = Vec::new(alloc);
-    match look(&mut source, &mut front) {
-        Ok(Front::Foreign) => return refuse_foreign(alloc, &mut sink, &log),
-        Ok(Front::Fault) => return sink.finish(),
-        Ok(Front::Other) | Err(NoMemory) => {}
-    }
-    let mut source = Lookahead::new(Again::new(Bytes::of(front), source));
+    let mut sink = sink;
+    let mut source = Lookahead::new(source);
     let mut door = NotingDoor { door, log };
     let (mut tunnels, mut dice) = (tunnels, dice);
     let end = connection(

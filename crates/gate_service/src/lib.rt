@@ -11,6 +11,7 @@ mod jobs;
 mod lookahead;
 mod notes;
 mod noting;
+mod paging;
 mod program;
 mod requests;
 mod routing;

@@ -11,34 +11,40 @@ ghost use Rattle.gate_service.specs.Words.{serve_options};
 use crate::service::serve;
 use gate_outside::{Net, Sink, Source};
 use gate_script::command;
+use log::Log;
+use page_files::PageFile;
 use std::alloc::Global;
 use std::sync::Wait;
 use std::thread::Threads;
 
-/// The ends of the program: its input, where answers and frames go, and where connections come from.
+/// The ends of the program: its input, where answers and frames go, where connections come from, the files of the
+/// page that it hands out, and where a service notes.
 #[derive(Drop)]
-pub struct Host<S, A, F, N> {
+pub struct Host<S, A, F, N, L> {
     pub source: S,
     pub answers: A,
     pub frames: F,
     pub net: N,
+    pub files: &'static [PageFile],
+    pub log: L,
 }
 
 /// Does what the words after the program's name say, and answers the status. The words `serve` and its options are
 /// the service's: it ends with 2, where they give no options, 6 or 8 alone, and calls neither the source nor a sink.
 /// All other words are those of `gate_script::command`, with its promise, and the net isn't called.
-pub fn top<R, S, A, F, N>(
+pub fn top<R, S, A, F, N, L>(
     rt: &R,
     alloc: Global,
     words: &[String],
-    host: &mut Host<S, A, F, N>,
+    host: &mut Host<S, A, F, N, L>,
 ) -> u8
 where
-    R: Eprint + Threads + Wait + Copy + Send + Sync + Drop + 'static,
+    R: Threads + Wait + Copy + Send + Sync + Drop + 'static,
     S: Source,
     A: Sink,
     F: Sink,
     N: Net,
+    L: Log + Copy + Send + Drop + 'static,
 
     // The words of `serve`.
     ensures serve_statuses { IfSome (serve_options (map string_bytes words.now)) (λ options. (result ≡ 2) ⊎ (result ≡ 6) ⊎ (result ≡ 8)) }
@@ -65,7 +71,7 @@ where
     ensures later_net { N.net_faults host.old.net ≤ N.net_faults host.new.net }
 {
     match serve_options(words) {
-        Some(options) => serve(rt, alloc, options, &mut host.net),
+        Some(options) => serve(rt, alloc, options, &mut host.net, host.files, host.log),
         None => command(
             alloc,
             words,

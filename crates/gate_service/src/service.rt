@@ -6,24 +6,33 @@ ghost use Rattle.serve_words.specs.Given.{options_given};
 
 use crate::accepting::Service;
 use crate::notes::note_listening;
+use crate::paging::Page;
 use crate::seen::{Seen, WatchedShelf};
 use gate_model::NoMemory;
 use gate_outside::{DialFault, Net};
 use id_table::LockedShelf;
-use log::sink::Console;
-use log::{Log, Logged};
-use serve_words::{Options, WordsFault, options_of};
+use log::{LevelFilter, Log, Logged};
+use page_files::PageFile;
+use serve_words::{Names, Options, WordsFault, options_of};
 use std::alloc::Global;
-use std::sync::Wait;
+use std::sync::{Arc, Wait};
 use std::thread::Threads;
 
 /// Serves as the words after `serve` say. The statuses: 2, exactly where the words give no options, but for want of
 /// memory, and then the net isn't called; 6, want of memory before the first connection; 8, the net failed at
-/// `listen` or `accept`.
-pub(crate) fn serve<R, N>(rt: &R, alloc: Global, words: &[String], net: &mut N) -> u8
+/// `listen` or `accept`. The files are those of the page, and what the words want noted is noted to the log.
+pub(crate) fn serve<R, N, L>(
+    rt: &R,
+    alloc: Global,
+    words: &[String],
+    net: &mut N,
+    files: &'static [PageFile],
+    log: L,
+) -> u8
 where
-    R: Eprint + Threads + Wait + Copy + Send + Sync + Drop + 'static,
+    R: Threads + Wait + Copy + Send + Sync + Drop + 'static,
     N: Net,
+    L: Log + Copy + Send + Drop + 'static,
     ensures statuses { (result ≡ 2) ⊎ (result ≡ 6) ⊎ (result ≡ 8) }
     ensures usage { result ≡ 2 → options_given (map string_bytes words.now) ≡ None }
     ensures refused { options_given (map string_bytes words.now) ≡ None → (result ≡ 2) ⊎ (result ≡ 6) }
@@ -32,17 +41,25 @@ where
     ensures later { N.net_faults net.old ≤ N.net_faults net.new }
 {
     match options_of(alloc, words) {
-        Ok(options) => listen(rt, alloc, options, net),
+        Ok(options) => listen(rt, alloc, options, net, files, log),
         Err(WordsFault::Usage) => 2,
         Err(WordsFault::NoMemory) => 6,
     }
 }
 
 // Listens, and serves every connection.
-fn listen<R, N>(rt: &R, alloc: Global, options: Options, net: &mut N) -> u8
+fn listen<R, N, L>(
+    rt: &R,
+    alloc: Global,
+    options: Options,
+    net: &mut N,
+    files: &'static [PageFile],
+    log: L,
+) -> u8
 where
-    R: Eprint + Threads + Wait + Copy + Send + Sync + Drop + 'static,
+    R: Threads + Wait + Copy + Send + Sync + Drop + 'static,
     N: Net,
+    L: Log + Copy + Send + Drop + 'static,
     ensures statuses { (result ≡ 6) ⊎ (result ≡ 8) }
     ensures net_fault { result ≡ 8 → Rose (N.net_faults net.old) (N.net_faults net.new) }
     ensures later { N.net_faults net.old ≤ N.net_faults net.new }
@@ -67,7 +84,10 @@ where
     let Ok(seen) = seen_for(alloc, options.silence) else {
         return 6;
     };
-    let log = Logged::new(*rt, options.level, Console(*rt));
+    let Ok(page) = page_of(alloc, files, options.page) else {
+        return 6;
+    };
+    let log = Logged::new(*rt, options.level, log);
     note_listening(&log, options.port);
     let mut service = Service {
         alloc,
@@ -76,9 +96,11 @@ where
         helper,
         bell,
         recorder: options.recorder,
+        page,
         log,
     };
-    service.tidy(rt, options.silence, options.linger);
+    let notes_ends = options.level == LevelFilter::Info;
+    service.tidy(rt, options.silence, options.linger, notes_ends);
     accept_all(rt, &mut service, net)
 }
 
@@ -90,7 +112,19 @@ fn seen_for(alloc: Global, silence: u32) -> Result<Option<Seen>, NoMemory> {
     Ok(Some(Seen::new(alloc)?))
 }
 
-// Accepts until that fails.
+// The page, where it may be asked for by some names.
+fn page_of(
+    alloc: Global,
+    files: &'static [PageFile],
+    names: Option<Names>,
+) -> Result<Option<Arc<Page, Global>>, NoMemory> {
+    match names {
+        Some(names) => Ok(Some(Arc::new(alloc, Page { files, names })?)),
+        None => Ok(None),
+    }
+}
+
+// Accepts until that fails, and then stops all sessions.
 fn accept_all<R, N, L>(rt: &R, service: &mut Service<N::Help, N::Chime, L>, net: &mut N) -> u8
 where
     R: Threads + Wait + Copy + Send + Sync + 'static,
@@ -102,6 +136,7 @@ where
 {
     for _ in rt.forever() {
         if let Err(status) = service.accept_next(rt, net) {
+            service.stop_all(rt);
             return status;
         }
     }

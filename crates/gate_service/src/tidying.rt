@@ -20,8 +20,9 @@ use uuid::Uuid;
 /// What a viewer sends to leave (the Guacamole protocol).
 const DISCONNECT: &[u8] = b"10.disconnect;";
 
-/// The job that looks each second at all sessions and tunnels. A session for whose host too much waits is closed. A tunnel without a request for `silence` seconds is
-/// removed, as by a `disconnect`, and a session without viewers for `linger` seconds is closed; 0 is never. So that a
+/// The job that looks each second at all sessions and tunnels. A session that has ended leaves the table. Where one of the
+/// two times is given, a session for whose host too much waits is closed. A tunnel without a request for `silence` seconds
+/// is removed, as by a `disconnect`, and a session without viewers for `linger` seconds is closed; 0 is never. So that a
 /// page that only waits for news asks again in time, all who wait are let look again three times in `silence` seconds.
 #[derive(Drop)]
 pub(crate) struct TidyJob<H, B, L> {
@@ -67,8 +68,11 @@ where
         }
     }
 
-    // Closes the sessions for whose hosts too much waits.
+    // Closes the sessions for whose hosts too much waits, where anything is given up.
     fn close_backlogged<R: Wait>(&mut self, rt: &R) {
+        if self.silence == 0 && self.linger == 0 {
+            return;
+        }
         for _ in rt.forever() {
             match close_backlogged(rt, &mut self.sessions, &self.bell) {
                 Some(id) => note_backlogged(&self.log, &id),

@@ -14,6 +14,8 @@ use ending::{ended, look_after};
 use gate_outside::{Failed, Sink, StdSink, StdSource, write_all};
 use gate_service::{Host, top};
 use limits::serve_options;
+use log::sink::Console;
+use page_files::PageFile;
 use real_ends::{Limits, TcpNet, Watch};
 use saying::{say, say_end};
 use std::env::VarError;
@@ -21,6 +23,7 @@ use std::io::ErrorKind;
 use std::net::{IpAddr, Ipv4Addr};
 use std::process::ExitCode;
 use std::{env, thread};
+use web_page::page;
 
 mod ending;
 mod limits;
@@ -39,7 +42,8 @@ usage: guacgate draw COLS ROWS < BYTES
        guacgate play keys < BYTES
        guacgate clip < BYTES
        guacgate serve --seed HEX [--port PORT] [--log LEVEL] [--allow HOST:PORT]
-                      [--silence SECONDS] [--linger SECONDS]
+                      [--silence SECONDS] [--linger SECONDS] [--recorder HOST:PORT]
+                      [--page] [--name NAME]
 
 draw    draws what a Telnet host sent, read from standard input, on a screen of COLS columns (1 to
         512) and ROWS rows (1 to 256), at most 8192 cells
@@ -85,12 +89,15 @@ fn main(rt: HostRuntime) -> ExitCode {
         watch,
         of_net,
         of_job,
+        files,
     } = ends;
     let mut host = Host {
         source: StdSource::new(rt.reader()),
         answers: output,
         frames: StdSink::new(rt.stderr()),
         net: TcpNet::within(rt, address, limits, of_net),
+        files,
+        log: Console(rt),
     };
     let serves = serve_options(&words).is_some();
     if serves {
@@ -114,8 +121,8 @@ fn tell<K: Sink>(rt: &HostRuntime, words: &[String], output: &mut K) -> Option<u
     }
 }
 
-// What the net of a service is made of: where it listens, within which limits, and what is seen of it, here, by the net
-// and by the job that looks after it.
+// What a service is made of: where it listens, within which limits, what is seen of its net, here, by the net and by the
+// job that looks after it, and the files of its page.
 #[derive(Drop)]
 struct Ends {
     address: IpAddr,
@@ -123,6 +130,7 @@ struct Ends {
     watch: Watch,
     of_net: Watch,
     of_job: Watch,
+    files: &'static [PageFile],
 }
 
 // The words with their seed, and what the net is made of.
@@ -136,12 +144,16 @@ fn prepare(rt: &HostRuntime, words: Vec<String>) -> Result<(Vec<String>, Ends), 
     let (Ok(of_net), Ok(of_job)) = (watch.another(), watch.another()) else {
         return Err(6);
     };
+    let Ok(files) = page(rt.alloc()) else {
+        return Err(6);
+    };
     let ends = Ends {
         address,
         limits,
         watch,
         of_net,
         of_job,
+        files,
     };
     Ok((words, ends))
 }

@@ -5,6 +5,7 @@ ghost use Rattle.std.specs.Prelude.{None};
 use anyhow::Result;
 use gate_outside::{Failed, Net, Sink, Source};
 use gate_service::{Host, top};
+use log::sink::Console;
 use std::alloc::Global;
 use std::sync::Wait;
 use std::thread::Threads;
@@ -48,6 +49,8 @@ where
         answers: Nothing {},
         frames: Nothing {},
         net,
+        files: &[],
+        log: Console(*rt),
     };
     run(rt, alloc, further, &mut host)
 }
@@ -56,7 +59,7 @@ fn run<R, N>(
     rt: &R,
     alloc: Global,
     further: &[&str],
-    host: &mut Host<Nothing, Nothing, Nothing, N>,
+    host: &mut Host<Nothing, Nothing, Nothing, N, Console<R>>,
 ) -> Result<u8>
 where
     R: Eprint + Threads + Wait + Copy + Send + Sync + Drop + 'static,

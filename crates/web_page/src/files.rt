@@ -1,0 +1,3589 @@
+//! The files, made of web/ by tools/page-files.
+
+use page_files::PageFile;
+
+/// All of them, in the order of their paths.
+pub(crate) fn all() -> [PageFile; 28] {
+    [
+        PageFile {
+            path: "/cells.js",
+            kind: "text/javascript; charset=utf-8",
+            body: cells_js(),
+        },
+        PageFile {
+            path: "/choices.js",
+            kind: "text/javascript; charset=utf-8",
+            body: choices_js(),
+        },
+        PageFile {
+            path: "/display.js",
+            kind: "text/javascript; charset=utf-8",
+            body: display_js(),
+        },
+        PageFile {
+            path: "/follow.js",
+            kind: "text/javascript; charset=utf-8",
+            body: follow_js(),
+        },
+        PageFile {
+            path: "/font.js",
+            kind: "text/javascript; charset=utf-8",
+            body: font_js(),
+        },
+        PageFile {
+            path: "/index.html",
+            kind: "text/html; charset=utf-8",
+            body: index_html(),
+        },
+        PageFile {
+            path: "/instructions.js",
+            kind: "text/javascript; charset=utf-8",
+            body: instructions_js(),
+        },
+        PageFile {
+            path: "/keyboard.js",
+            kind: "text/javascript; charset=utf-8",
+            body: keyboard_js(),
+        },
+        PageFile {
+            path: "/keysyms.js",
+            kind: "text/javascript; charset=utf-8",
+            body: keysyms_js(),
+        },
+        PageFile {
+            path: "/layers.js",
+            kind: "text/javascript; charset=utf-8",
+            body: layers_js(),
+        },
+        PageFile {
+            path: "/main.js",
+            kind: "text/javascript; charset=utf-8",
+            body: main_js(),
+        },
+        PageFile {
+            path: "/messages.js",
+            kind: "text/javascript; charset=utf-8",
+            body: messages_js(),
+        },
+        PageFile {
+            path: "/palette.js",
+            kind: "text/javascript; charset=utf-8",
+            body: palette_js(),
+        },
+        PageFile {
+            path: "/play.css",
+            kind: "text/css; charset=utf-8",
+            body: play_css(),
+        },
+        PageFile {
+            path: "/play.html",
+            kind: "text/html; charset=utf-8",
+            body: play_html(),
+        },
+        PageFile {
+            path: "/play.js",
+            kind: "text/javascript; charset=utf-8",
+            body: play_js(),
+        },
+        PageFile {
+            path: "/player.js",
+            kind: "text/javascript; charset=utf-8",
+            body: player_js(),
+        },
+        PageFile {
+            path: "/request.js",
+            kind: "text/javascript; charset=utf-8",
+            body: request_js(),
+        },
+        PageFile {
+            path: "/rest.js",
+            kind: "text/javascript; charset=utf-8",
+            body: rest_js(),
+        },
+        PageFile {
+            path: "/scrollback.js",
+            kind: "text/javascript; charset=utf-8",
+            body: scrollback_js(),
+        },
+        PageFile {
+            path: "/selection.js",
+            kind: "text/javascript; charset=utf-8",
+            body: selection_js(),
+        },
+        PageFile {
+            path: "/sharp.js",
+            kind: "text/javascript; charset=utf-8",
+            body: sharp_js(),
+        },
+        PageFile {
+            path: "/speech.js",
+            kind: "text/javascript; charset=utf-8",
+            body: speech_js(),
+        },
+        PageFile {
+            path: "/style.css",
+            kind: "text/css; charset=utf-8",
+            body: style_css(),
+        },
+        PageFile {
+            path: "/textlayer.js",
+            kind: "text/javascript; charset=utf-8",
+            body: textlayer_js(),
+        },
+        PageFile {
+            path: "/touch.js",
+            kind: "text/javascript; charset=utf-8",
+            body: touch_js(),
+        },
+        PageFile {
+            path: "/tunnel.js",
+            kind: "text/javascript; charset=utf-8",
+            body: tunnel_js(),
+        },
+        PageFile {
+            path: "/view.js",
+            kind: "text/javascript; charset=utf-8",
+            body: view_js(),
+        },
+    ]
+}
+
+// `/cells.js`.
+fn cells_js() -> &'static str {
+    "\
+// What stands in the cells of the visible layer, kept beside `Layers` as instructions are played: a buffer is read
+// once after it was painted, and a copy of it is then known; a copy of the visible layer over itself moves rows. What
+// is drawn in another way is read from its pixels. A cell is a number; those whose pixels are alike are equal.
+
+import { BOX, CELL_HEIGHT, CELL_WIDTH, seenAt } from './font.js';
+import { indexOf } from './palette.js';
+
+/** A cell that shows no picture of the font, or has a colour past the 256th. */
+export const PICTURE = -1;
+const UNREAD = -2;
+
+/** The number of a cell. @returns {number} */
+export function cellOf(face, ink, paper, isUnderlined) {
+  return (face << 17) | (isUnderlined ? 1 << 16 : 0) | (ink << 8) | paper;
+}
+
+/** The face of a cell, a code point or BOX. */
+export const faceOf = (cell) => cell >> 17;
+/** The indices of its colours, and whether it is underlined. */
+export const inkOf = (cell) => (cell >> 8) & 0xff;
+export const paperOf = (cell) => cell & 0xff;
+export const isUnderlined = (cell) => (cell & 0x10000) !== 0;
+
+/** A blank cell of a screen at its start. */
+export const BLANK = cellOf(0x20, 0, 0, false);
+
+function characterOf(cell) {
+  if (cell === PICTURE) return '\\u2592';
+  return faceOf(cell) === BOX ? '\\ufffd' : String.fromCharCode(faceOf(cell));
+}
+
+/** The characters of cells as `look` writes them, without the blanks at their end: the box is U+FFFD, and a picture
+ *  U+2592. @param {Int32Array} cells */
+export function textOf(cells) {
+  let text = '';
+  for (const cell of cells) text += characterOf(cell);
+  return text.replace(/ +$/, '');
+}
+
+function readAt(pixels, at, width) {
+  const seen = seenAt(pixels, at, width);
+  if (seen === null) return PICTURE;
+  const [ink, paper] = [indexOf(seen.ink), indexOf(seen.paper)];
+  return ink < 0 || paper < 0 ? PICTURE : cellOf(seen.face, ink, paper, seen.isUnderlined);
+}
+
+/** The cells of a picture, read from its pixels. */
+export function cellsOf(pixels, width, height) {
+  const [columns, rows] = [Math.floor(width / CELL_WIDTH), Math.floor(height / CELL_HEIGHT)];
+  return Int32Array.from({ length: columns * rows }, (_, k) => readAt(pixels, Math.floor(k / columns) * CELL_HEIGHT * width + (k % columns) * CELL_WIDTH, width));
+}
+
+/** The cells of a screen that gets another size: those that both sizes have stay, and no other is known. */
+export function refitted(cells, from, columns, rows) {
+  const fitted = new Int32Array(columns * rows).fill(UNREAD);
+  for (let y = 0; y < rows && y * from < cells.length; y++) fitted.set(cells.subarray(y * from, y * from + Math.min(from, columns)), y * columns);
+  return fitted;
+}
+
+/** The cells of the visible layer. It watches a `Layers`, which is given to it as `layers`. */
+export class Cells {
+  columns = 0;
+  rows = 0;
+  cells = new Int32Array(0);
+  /** @type {import('./layers.js').Layers | undefined} */
+  layers;
+  // The cell that a buffer shows whole, by its layer.
+  #buffers = new Map();
+  #hasUnread = false;
+  // What was there at the sync before, by which a screen that was drawn anew is known.
+  #before = new Int32Array(0);
+  #hasMoved = false;
+  // A whole picture comes in the place of frames, which aren't kept for ever.
+  #isWhole = false;
+  #isCut = false;
+  /** @type {(Int32Array | null)[]} */
+  #gone = [];
+  #dirty = nowhere();
+
+  // The watcher's part: each is told before the pixels change.
+
+  sized(layer, width, height) {
+    this.#buffers.delete(layer);
+    if (layer !== this.layers.visible) return;
+    this.#isWhole = true;
+    this.#dirty = { left: 0, top: 0, right: width, bottom: height };
+    this.#refit(Math.floor(width / CELL_WIDTH), Math.floor(height / CELL_HEIGHT));
+  }
+
+  filled(layer) {
+    this.#buffers.delete(layer);
+    if (layer !== this.layers.visible) return;
+    for (const { x, y, width, height } of layer.path) this.#forget(x, y, width, height);
+  }
+
+  copied(from, x, y, width, height, to, toX, toY) {
+    const { visible } = this.layers;
+    if (to !== visible) this.#buffers.delete(to);
+    else if (from === visible) this.#move(x, y, width, height, toX, toY);
+    else if (x === 0 && y === 0 && width === CELL_WIDTH && height === CELL_HEIGHT && this.#isCell(toX, toY)) this.#put(this.#shownBy(from), toX, toY);
+    else this.#forget(toX, toY, width, height);
+  }
+
+  /** At a sync: reads what isn't known yet, and sees whether lines went by that nobody was shown. */
+  settle() {
+    this.#read();
+    const isMissing = this.#isWhole ? this.#isCut || this.#isOther() : !this.#hasMoved && this.#isAnew();
+    if (isMissing) this.#gone.push(null);
+    this.#before.set(this.cells);
+    this.#hasMoved = false;
+    this.#isWhole = false;
+    this.#isCut = false;
+  }
+
+  /** The lines that have left the screen at its top since the last call, and null where lines may be missing. */
+  takeGone() {
+    const gone = this.#gone;
+    this.#gone = [];
+    return gone;
+  }
+
+  /** The rectangle of pixels that may have changed since the last call. */
+  takeDirty() {
+    const { left, top, right, bottom } = this.#dirty;
+    this.#dirty = nowhere();
+    return { x: left, y: top, width: Math.max(right - left, 0), height: Math.max(bottom - top, 0) };
+  }
+
+  /** The cells of a row. */
+  row(y) {
+    return this.cells.subarray(y * this.columns, (y + 1) * this.columns);
+  }
+
+  #isCell(x, y) {
+    return x % CELL_WIDTH === 0 && y % CELL_HEIGHT === 0 && x < this.columns * CELL_WIDTH && y < this.rows * CELL_HEIGHT;
+  }
+
+  #shownBy(buffer) {
+    let cell = this.#buffers.get(buffer);
+    if (cell === undefined) {
+      const isWhole = buffer.width >= CELL_WIDTH && buffer.height >= CELL_HEIGHT;
+      this.#buffers.set(buffer, cell = isWhole ? readAt(buffer.pixels, 0, buffer.width) : UNREAD);
+    }
+    // Clear pixels of a picture leave what is there, so the cell itself has to be looked at.
+    return cell === PICTURE ? UNREAD : cell;
+  }
+
+  #put(cell, x, y) {
+    this.#touch(x, y, CELL_WIDTH, CELL_HEIGHT);
+    this.cells[(y / CELL_HEIGHT) * this.columns + x / CELL_WIDTH] = cell;
+    if (cell === UNREAD) this.#hasUnread = true;
+  }
+
+  #touch(x, y, width, height) {
+    const dirty = this.#dirty;
+    const { visible } = this.layers;
+    dirty.left = Math.min(dirty.left, x);
+    dirty.top = Math.min(dirty.top, y);
+    dirty.right = Math.max(dirty.right, Math.min(x + width, visible.width));
+    dirty.bottom = Math.max(dirty.bottom, Math.min(y + height, visible.height));
+  }
+
+  #forget(x, y, width, height) {
+    this.#touch(x, y, width, height);
+    this.#hasUnread = true;
+    const right = Math.min(Math.ceil((x + width) / CELL_WIDTH), this.columns);
+    const bottom = Math.min(Math.ceil((y + height) / CELL_HEIGHT), this.rows);
+    const left = Math.floor(x / CELL_WIDTH);
+    for (let row = Math.floor(y / CELL_HEIGHT); row < bottom && left < right; row++) this.cells.fill(UNREAD, row * this.columns + left, row * this.columns + right);
+  }
+
+  // Rows that go up from the top to the bottom of the screen leave it; of any other copy the cells are read anew.
+  #move(x, y, width, height, toX, toY) {
+    const { visible } = this.layers;
+    const isWhole = x === 0 && toX === 0 && toY === 0 && width === visible.width && y % CELL_HEIGHT === 0 && y + height === visible.height;
+    if (!isWhole || y === 0 || this.columns === 0) return this.#forget(toX, toY, width, height);
+    this.#read();
+    const lines = y / CELL_HEIGHT;
+    for (let row = 0; row < lines; row++) this.#gone.push(this.row(row).slice());
+    this.cells.copyWithin(0, lines * this.columns);
+    this.#hasMoved = true;
+    this.#touch(0, 0, width, height);
+  }
+
+  // Of another size the screen keeps the cells that both sizes have, as their pixels stay. Rows with characters may be
+  // cut off below.
+  #refit(columns, rows) {
+    if (columns === this.columns && rows === this.rows) return;
+    if (this.#before.subarray(rows * this.columns).some((cell) => faceOf(cell) !== 0x20)) this.#isCut = true;
+    this.#before = refitted(this.#before, this.columns, columns, rows);
+    Object.assign(this, { columns, rows, cells: refitted(this.cells, this.columns, columns, rows) });
+    this.#hasUnread = true;
+  }
+
+  #read() {
+    if (!this.#hasUnread) return;
+    this.#hasUnread = false;
+    const { pixels, width } = this.layers.visible;
+    this.cells.forEach((cell, k) => {
+      if (cell !== UNREAD) return;
+      const [x, y] = [k % this.columns, Math.floor(k / this.columns)];
+      this.cells[k] = readAt(pixels, y * CELL_HEIGHT * width + x * CELL_WIDTH, width);
+    });
+  }
+
+  // Whether a character is another one than it was at the sync before.
+  #isOther() {
+    return this.cells.some((cell, k) => this.#before[k] !== UNREAD && faceOf(cell) !== faceOf(this.#before[k]));
+  }
+
+  // Whether every row that has a character, before or now, is another one, and some had one: then so many lines may
+  // have gone by that none of them was moved.
+  #isAnew() {
+    const { columns, cells } = this;
+    let had = 0;
+    for (let y = 0; y < this.rows; y++) {
+      let [isSame, isBlank, wasBlank] = [true, true, true];
+      for (let k = y * columns; k < (y + 1) * columns; k++) {
+        if (cells[k] !== this.#before[k]) isSame = false;
+        if (faceOf(cells[k]) !== 0x20) isBlank = false;
+        if (faceOf(this.#before[k]) !== 0x20) wasBlank = false;
+      }
+      if (isSame && !isBlank) return false;
+      if (!wasBlank) had++;
+    }
+    return had > 1;
+  }
+}
+
+const nowhere = () => ({ left: Infinity, top: Infinity, right: 0, bottom: 0 });
+"
+}
+
+// `/choices.js`.
+fn choices_js() -> &'static str {
+    "\
+// What a person chooses of how the terminal is shown, kept by the browser from one visit to the next.
+
+const KEY = 'guacgate';
+
+/**
+ * @typedef {object} Choices
+ * @property {'sharp' | 'exact'} text  a font of the browser, or the gateway's pixels
+ * @property {number} size  the size of the font in pixels of the page, or 0 for what fits the window
+ * @property {number} lines  how many lines are kept above the screen
+ * @property {boolean} speaks  whether new lines are said
+ */
+
+/** @type {Choices} */
+export const FIRST = { text: 'sharp', size: 0, lines: 10000, speaks: true };
+
+/** The sizes of the font that can be chosen, and the numbers of lines. */
+export const SIZES = [0, 10, 12, 14, 16, 18, 20, 24, 28, 32];
+export const LINES = [0, 1000, 10000, 50000];
+
+/** Choices as they were kept; what isn't one counts as it does at first. @returns {Choices} */
+export function choicesOf(text) {
+  let kept = {};
+  try { kept = JSON.parse(text) ?? {}; } catch { /* Another page of this address may have kept something else. */ }
+  return {
+    text: kept.text === 'exact' ? 'exact' : FIRST.text,
+    size: SIZES.includes(kept.size) ? kept.size : FIRST.size,
+    lines: LINES.includes(kept.lines) ? kept.lines : FIRST.lines,
+    speaks: typeof kept.speaks === 'boolean' ? kept.speaks : FIRST.speaks,
+  };
+}
+
+/** The choices that the browser has kept. */
+export function kept() {
+  try { return choicesOf(localStorage.getItem(KEY)); } catch { return FIRST; }
+}
+
+/** Keeps choices, where the browser lets pages do so. @param {Choices} choices */
+export function keep(choices) {
+  try { localStorage.setItem(KEY, JSON.stringify(choices)); } catch { /* They hold for this visit alone. */ }
+}
+
+/** Fills the form of the choices, and tells of each change. */
+export function choose(form, choices, changed) {
+  const options = (name, values, words) => form.elements[name].replaceChildren(...values.map((value) => new Option(words(value), String(value))));
+  options('size', SIZES, (size) => (size === 0 ? 'fits the window' : `${size} pixels`));
+  options('lines', LINES, (lines) => (lines === 0 ? 'none' : lines.toLocaleString('en')));
+  const fill = () => {
+    form.elements.text.value = choices.text;
+    form.elements.size.value = String(choices.size);
+    form.elements.lines.value = String(choices.lines);
+    form.elements.speaks.checked = choices.speaks;
+  };
+  const set = (next) => {
+    choices = next;
+    fill();
+    keep(choices);
+    changed(choices);
+  };
+  form.addEventListener('change', () => set({
+    text: form.elements.text.value,
+    size: Number(form.elements.size.value),
+    lines: Number(form.elements.lines.value),
+    speaks: form.elements.speaks.checked,
+  }));
+  fill();
+  return { change: (part) => set({ ...choices, ...part }) };
+}
+"
+}
+
+// `/display.js`.
+fn display_js() -> &'static str {
+    "\
+// The terminal that a person sees. What is drawn is shown at a sync, in one paint, so no half picture is ever seen: as
+// sharp text or as the gateway's own pixels, with the same characters as text over them, and the lines that have gone
+// up above them.
+
+import { Cells, faceOf, paperOf, refitted, textOf } from './cells.js';
+import { CELL_HEIGHT, CELL_WIDTH } from './font.js';
+import { Layers } from './layers.js';
+import { Scrollback } from './scrollback.js';
+import { FAMILY, Sharp, advance, cellFor, sizeFor } from './sharp.js';
+import { TextLayer } from './textlayer.js';
+
+/** The room that the frame around the terminal takes, in pixels of the page, both sides together. */
+const MARGIN = 20;
+// The font whose advance is about the width of the gateway's cell.
+const EXACT_FONT = 13;
+// The font of a session that follows the window, in pixels of the page, and what such a session has at least; and both
+// on a phone, where 80 columns couldn't be read.
+const DESK = { font: 15, least: { columns: 80, rows: 24 } };
+const PHONE = { font: 13, least: { columns: 40, rows: 12 } };
+const PHONE_SIDE = 600;
+// How long a size that was told may take until it is shown, in milliseconds.
+const SOON = 600;
+
+/** A terminal that shows the layers of a view at each of its syncs, in the room that it has. */
+export class Display {
+  #elements;
+  #choices;
+  #speech;
+  #context;
+  #sharp;
+  #text;
+  #scrollback;
+  #cells = new Cells();
+  #layers = new Layers();
+  // The cells as they were shown last.
+  #shown = new Int32Array(0);
+  #columns = 0;
+  #cursor = -1;
+  #isAtEnd = true;
+  // Whether the screen is higher than its room, and whether it is wider.
+  #isHigh = false;
+  #isWide = false;
+  #ratio = advance();
+  #fits;
+  // What the window was when it was last told for what it has room, and its room while no keyboard lies over it.
+  #window = '';
+  #open = { width: 0, height: 0 };
+  #waiting = 0;
+  /** Whether the session follows the window. */
+  follows = false;
+
+  /**
+   * @param {(id: string) => any} element  gives the elements of the page by their IDs
+   * @param {import('./choices.js').Choices} choices @param {import('./speech.js').Speech} speech
+   * @param {(size: import('./follow.js').Size) => void} fits  is told for how many columns and rows the window has room,
+   *   whenever the window or its font is another one
+   */
+  constructor(element, choices, speech, fits) {
+    const elements = Object.fromEntries(['screen', 'scrollback', 'terminal', 'picture', 'sharp', 'text', 'keys'].map((id) => [id, element(id)]));
+    this.#elements = elements;
+    this.#choices = choices;
+    this.#speech = speech;
+    this.#fits = fits;
+    this.#context = elements.picture.getContext('2d', { alpha: false, willReadFrequently: true });
+    this.#sharp = new Sharp(elements.sharp);
+    this.#text = new TextLayer(elements.text);
+    this.#scrollback = new Scrollback(elements.scrollback);
+    this.#scrollback.most = choices.lines;
+    elements.screen.style.setProperty('--family', FAMILY);
+    elements.screen.addEventListener('scroll', () => { this.#isAtEnd = this.#isEndShown(); }, { passive: true });
+    new ResizeObserver(() => this.#refit()).observe(elements.screen);
+    // Lines that come into sight are laid out then, and may be higher than they were taken for.
+    new ResizeObserver(() => { if (this.#isAtEnd) this.#stayAtEnd(); }).observe(elements.scrollback);
+    this.#watchRatio();
+    this.clear();
+  }
+
+  /** Begins anew, with layers that have no pixels, and nothing above a black screen. */
+  clear() {
+    this.#cells = new Cells();
+    this.#layers = this.#cells.layers = new Layers(this.#cells);
+    this.#shown = new Int32Array(0);
+    this.#columns = 0;
+    this.#cursor = -1;
+    this.#scrollback.clear();
+    this.#text.clear();
+    this.#sharp.clear();
+    this.#context.clearRect(0, 0, this.#elements.picture.width, this.#elements.picture.height);
+  }
+
+  set choices(choices) {
+    this.#choices = choices;
+    this.#scrollback.most = choices.lines;
+    this.#fit();
+  }
+
+  /** The columns and rows that are shown. */
+  get size() {
+    return { columns: this.#columns, rows: this.#columns && this.#shown.length / this.#columns };
+  }
+
+  /** The columns and rows for which the window has room, which are told too: again, or only where it is another window.
+   *  @returns {import('./follow.js').Size} */
+  measured(isAgain = true) {
+    if (isAgain) this.#window = '';
+    this.#tellRoom();
+    return this.#roomFor();
+  }
+
+  #roomFor() {
+    const { font, least } = isPhone() ? PHONE : DESK;
+    return sizeFor(this.#room(), this.#cell({ columns: 1, rows: 1 }, this.#choices.size || font), least);
+  }
+
+  /** Draws an instruction, and answers whether it is one that draws. Nothing is seen of it before `show`. */
+  draw(instruction) {
+    return this.#layers.draw(instruction);
+  }
+
+  /** Ends a frame. */
+  settle() {
+    this.#cells.settle();
+  }
+
+  /** Shows what was drawn, at a sync. */
+  show() {
+    const { width, height } = this.#layers.visible;
+    if (width === 0 || height === 0) return;
+    const { cells, columns } = this.#cells;
+    const isOther = columns !== this.#columns || cells.length !== this.#shown.length;
+    const before = isOther ? refitted(this.#shown, this.#columns, columns, cells.length / columns) : this.#shown;
+    if (isOther) this.#turn(columns, cells.length / columns);
+    this.#shown = cells.slice();
+    this.#columns = columns;
+    this.#paintExact();
+    if (isOther) this.#fit();
+    else if (this.#choices.text === 'sharp') this.#sharp.show(this.#shown, this.#pictureAt);
+    const gone = this.#cells.takeGone();
+    const lines = /** @type {Int32Array[]} */ (gone.filter((it) => it !== null));
+    this.#text.show(this.#shown, columns, lines.length);
+    this.#scrollback.add(gone);
+    this.#speech.note(this.#text.lines, lines.map(textOf));
+    const cursor = cursorOf(this.#shown, columns, before, this.#cursor);
+    if (cursor !== this.#cursor) this.#placeKeys(cursor);
+    if ((gone.length > 0 || this.#isHigh) && this.#isAtEnd) this.#stayAtEnd();
+  }
+
+  // The screen has another size: its lines are cut off, and the cursor keeps its column and row as far as they are there.
+  #turn(columns, rows) {
+    this.#speech.cut(columns);
+    if (this.#cursor < 0) return;
+    const [x, y] = [this.#cursor % this.#columns, Math.floor(this.#cursor / this.#columns)];
+    this.#cursor = Math.min(y, rows - 1) * columns + Math.min(x, columns - 1);
+  }
+
+  /** Goes to the screen, below all lines that have left it, and to the cursor where the screen is wider than its room. */
+  toEnd() {
+    if (!this.#isAtEnd) this.#stayAtEnd();
+    if (this.#isWide) this.#elements.keys.scrollIntoView({ block: 'nearest', inline: 'nearest' });
+  }
+
+  #stayAtEnd() {
+    this.#elements.screen.scrollTop = this.#end();
+  }
+
+  // How far the page is scrolled at its end: to the last line, or to the cursor's where the screen is higher than its room.
+  #end() {
+    const { screen, terminal, keys } = this.#elements;
+    // Both are rounded, and nothing is scrolled further than to the end.
+    const last = screen.scrollHeight - screen.clientHeight + 1;
+    if (!this.#isHigh) return last;
+    const [top, bottom] = [terminal.getBoundingClientRect().top, keys.getBoundingClientRect().bottom].map((it) => it - screen.getBoundingClientRect().top + screen.scrollTop);
+    return Math.min(last, Math.max(top - MARGIN / 2, bottom + MARGIN / 2 - screen.clientHeight));
+  }
+
+  /** Goes up or down by so many pages, or to the first line. */
+  scroll(pages) {
+    const { screen } = this.#elements;
+    this.#scrollTo(pages === -Infinity ? 0 : screen.scrollTop + pages * (screen.clientHeight - this.#lineHeight()));
+  }
+
+  /** Goes up or down by so many lines. */
+  scrollLines(lines) {
+    this.#scrollTo(this.#elements.screen.scrollTop + lines * this.#lineHeight());
+  }
+
+  #scrollTo(top) {
+    this.#elements.screen.scrollTop = top;
+    this.#isAtEnd = this.#isEndShown();
+  }
+
+  // A window that goes to another screen may keep its size.
+  #watchRatio() {
+    matchMedia(`(resolution: ${devicePixelRatio}dppx)`).addEventListener('change', () => { this.#fit(); this.#watchRatio(); }, { once: true });
+  }
+
+  #lineHeight() {
+    return this.#elements.text.firstElementChild?.getBoundingClientRect().height ?? CELL_HEIGHT;
+  }
+
+  #isEndShown() {
+    return this.#end() - this.#elements.screen.scrollTop < 4;
+  }
+
+  // What changed of the gateway's pixels. The canvas of a screen of another size is painted whole.
+  #paintExact() {
+    const { width, height, pixels } = this.#layers.visible;
+    const { picture } = this.#elements;
+    let dirty = this.#cells.takeDirty();
+    if (picture.width !== width || picture.height !== height) {
+      Object.assign(picture, { width, height });
+      dirty = { x: 0, y: 0, width, height };
+    }
+    if (dirty.width > 0) this.#context.putImageData(new ImageData(new Uint8ClampedArray(pixels.buffer), width, height), 0, 0, dirty.x, dirty.y, dirty.width, dirty.height);
+  }
+
+  #pictureAt = (x, y) => new Uint32Array(this.#context.getImageData(x * CELL_WIDTH, y * CELL_HEIGHT, CELL_WIDTH, CELL_HEIGHT).data.buffer);
+
+  // The room that the window has for a screen, in pixels of the device. A keyboard on the screen takes height alone, and
+  // comes and goes as a person types; the room is then what it was without it.
+  #room() {
+    const { clientWidth: width, offsetHeight: height } = this.#elements.screen;
+    const isTyping = document.activeElement === this.#elements.keys && matchMedia('(pointer: coarse)').matches;
+    this.#open = { width, height: isTyping && width === this.#open.width ? Math.max(height, this.#open.height) : height };
+    return { width: (width - MARGIN) * devicePixelRatio, height: (this.#open.height - MARGIN) * devicePixelRatio };
+  }
+
+  // The cell of a screen, for a font of the size that is wanted, or 0 for one that fits.
+  #cell({ columns, rows }, wanted) {
+    const room = this.#room();
+    if (this.#choices.text === 'exact') return this.#exactCell(room, columns, rows, wanted);
+    return cellFor({ columns, rows, room, wanted: wanted * devicePixelRatio, ratio: this.#ratio });
+  }
+
+  // A window that is told once has to change before it is told again, so that no message below the terminal, and no size
+  // of another viewer, is taken for its change.
+  #tellRoom() {
+    const now = [innerWidth, innerHeight, devicePixelRatio, this.#choices.text, this.#choices.size].join();
+    if (now === this.#window) return;
+    this.#window = now;
+    this.#fits(this.#roomFor());
+  }
+
+  // A session that follows the window has another size soon. Until then all stays as large as it is, so that the text
+  // doesn't grow and shrink while a window is drawn larger; where no size comes, it fits then.
+  #refit() {
+    if (this.#elements.screen.clientWidth === 0) return;
+    const { columns, rows } = this.measured(false);
+    const isSame = columns === this.#columns && rows === this.size.rows;
+    clearTimeout(this.#waiting);
+    if (!this.follows || isSame || this.#columns === 0) return this.#fit();
+    this.#elements.screen.toggleAttribute('data-turning', true);
+    this.#waiting = setTimeout(() => this.#fit(), SOON);
+  }
+
+  // Chooses the size of a cell, and lays all that is shown over each other.
+  #fit() {
+    const { screen, terminal } = this.#elements;
+    clearTimeout(this.#waiting);
+    screen.toggleAttribute('data-turning', false);
+    if (screen.clientWidth === 0) return;
+    this.#tellRoom();
+    if (this.#columns === 0) return;
+    const { columns, rows } = this.size;
+    const isExact = this.#choices.text === 'exact';
+    const cell = this.#cell({ columns, rows }, this.#choices.size);
+    const [width, height] = [cell.width / devicePixelRatio, cell.height / devicePixelRatio];
+    const set = (name, value) => screen.style.setProperty(name, `${value}px`);
+    set('--cell-width', width);
+    set('--cell-height', height);
+    set('--font', cell.font / devicePixelRatio);
+    set('--width', columns * width);
+    set('--spacing', 0);
+    set('--spacing', width - this.#advance());
+    Object.assign(terminal.style, { width: `${columns * width}px`, height: `${rows * height}px` });
+    screen.dataset.text = this.#choices.text;
+    if (!isExact) {
+      this.#sharp.fit(columns, rows, cell);
+      this.#sharp.show(this.#shown, this.#pictureAt);
+    }
+    this.#isHigh = rows * height + MARGIN > screen.clientHeight;
+    this.#isWide = columns * width + MARGIN > screen.clientWidth;
+    this.#placeKeys(this.#cursor);
+    if (this.#isAtEnd) this.#stayAtEnd();
+  }
+
+  // The gateway's cell, each pixel of which is a whole number of the device's.
+  #exactCell(room, columns, rows, wanted) {
+    const most = wanted ? Math.round((wanted * devicePixelRatio) / EXACT_FONT) : Math.floor(Math.min(room.width / columns / CELL_WIDTH, room.height / rows / CELL_HEIGHT));
+    const factor = Math.max(1, most);
+    return { width: CELL_WIDTH * factor, height: CELL_HEIGHT * factor, font: (CELL_WIDTH * factor) / this.#ratio };
+  }
+
+  // The advance of a character of the rows' font, in pixels of the page.
+  #advance() {
+    const probe = document.createElement('div');
+    probe.className = 'line probe';
+    probe.append('x'.repeat(100));
+    this.#elements.scrollback.parentElement.append(probe);
+    const { width } = probe.getBoundingClientRect();
+    probe.remove();
+    return width / 100;
+  }
+
+  // The field stands at the cursor, so that what an input method shows is seen there.
+  #placeKeys(cursor) {
+    this.#cursor = cursor;
+    const at = Math.max(cursor, 0);
+    const { style } = this.#elements.keys;
+    style.setProperty('--x', String(at % this.#columns));
+    style.setProperty('--y', String(Math.floor(at / this.#columns)));
+  }
+}
+
+// Whether the screen of the device is a phone's.
+const isPhone = () => matchMedia('(pointer: coarse)').matches && Math.min(globalThis.screen.width, globalThis.screen.height) < PHONE_SIDE;
+
+/**
+ * Where the cursor seems to be, which is drawn as a cell whose colours are exchanged: a cell whose paper is neither that
+ * of the cell before it nor of the one behind it, the last of those that have changed; or else where it was. Nothing rests
+ * on it but the place of what an input method shows, and which part is shown of a screen that its room is too small for.
+ */
+export function cursorOf(cells, columns, before, last) {
+  const isOne = (k) => {
+    const paper = paperOf(cells[k]);
+    const isOther = (other) => other < 0 || other >= cells.length || paperOf(cells[other]) !== paper;
+    return isOther(k % columns === 0 ? -1 : k - 1) && isOther((k + 1) % columns === 0 ? -1 : k + 1) && (paper !== 0 || faceOf(cells[k]) !== 0x20);
+  };
+  for (let k = cells.length - 1; k >= 0; k--) if (cells[k] !== before[k] && isOne(k)) return k;
+  return last;
+}
+"
+}
+
+// `/follow.js`.
+fn follow_js() -> &'static str {
+    "\
+// What has a session follow a window: the page tells for how many columns and rows the window has room, once the window
+// has rested. Each change of a session's size is a frame for all its viewers.
+
+/** How long a window has to rest, in milliseconds. */
+const REST = 200;
+
+/** @typedef {{ columns: number, rows: number }} Size */
+
+const isSame = (one, other) => one?.columns === other?.columns && one?.rows === other?.rows;
+
+/** Tells a session its sizes. One that another viewer has told stands until the own window changes. */
+export class Follow {
+  #tell;
+  #timers;
+  #timer = 0;
+  // For what the window has room, what was told last, and the session's size as it was shown last.
+  #room = null;
+  #told = null;
+  #shown = null;
+  #isOn = false;
+
+  /** `tell` is given sizes; `timers` has the calls of a browser's window for time.
+   *  @param {(size: Size) => void} tell */
+  constructor(tell, timers = { set: (act, time) => setTimeout(act, time), clear: (timer) => clearTimeout(timer) }) {
+    this.#tell = tell;
+    this.#timers = timers;
+  }
+
+  /** A session begins that has this size, or is joined, and then has none yet. @param {Size | null} opened */
+  begin(opened) {
+    this.#told = opened;
+    this.#shown = null;
+  }
+
+  /** Whether the session follows the window. */
+  set isOn(isOn) {
+    this.#isOn = isOn;
+    this.#rest();
+  }
+
+  /** The window has room for this size. @param {Size} size */
+  fits(size) {
+    if (isSame(size, this.#room)) return;
+    this.#room = size;
+    this.#rest();
+  }
+
+  /** The session has this size. @param {Size} size */
+  shows(size) {
+    const isFirst = this.#shown === null;
+    this.#shown = size;
+    if (isFirst) this.#rest();
+  }
+
+  #rest() {
+    this.#timers.clear(this.#timer);
+    this.#timer = this.#timers.set(() => this.#settle(), REST);
+  }
+
+  // What was told may be on its way yet, so that the session has another size than it shows.
+  #settle() {
+    if (!this.#isOn || this.#room === null || this.#shown === null) return;
+    if (isSame(this.#room, this.#shown) && (this.#told === null || isSame(this.#room, this.#told))) return;
+    this.#told = this.#room;
+    this.#tell(this.#room);
+  }
+}
+"
+}
+
+// `/font.js`.
+fn font_js() -> &'static str {
+    "\
+// The gateway's font (docs/PROTOCOL.md, \"Glyphs\"), read backwards: from the pixels of a cell to its character. The 95
+// pictures and the box are all different, so the reading is exact; a cell that shows none of them is a picture.
+
+/** How many pixels a cell has. */
+export const CELL_WIDTH = 8;
+export const CELL_HEIGHT = 16;
+
+/** The face of a cell that shows the box, which stands for each character that the font hasn't. */
+export const BOX = 0x7f;
+
+// From U+0020 on and the box last, five columns each, bit r of a column for row r.
+const GLYPHS = `0000000000 00005F0000 0007000700 147F147F14 242A7F2A12 2313086462 3649552250 0005030000
+001C224100 0041221C00 082A1C2A08 08083E0808 0050300000 0808080808 0060600000 2010080402
+3E5149453E 00427F4000 4261514946 2141454B31 1814127F10 2745454539 3C4A494930 0171090503
+3649494936 064949291E 0036360000 0056360000 0814224100 1414141414 0041221408 0201510906
+324979413E 7E1111117E 7F49494936 3E41414122 7F4141221C 7F49494941 7F09090101 3E41415132
+7F0808087F 00417F4100 2040413F01 7F08142241 7F40404040 7F0204027F 7F0408107F 3E4141413E
+7F09090906 3E4151215E 7F09192946 4649494931 01017F0101 3F4040403F 1F2040201F 7F2018207F
+6314081463 0304780403 6151494543 007F414100 0204081020 0041417F00 0402010204 4040404040
+0001020400 2054545478 7F48444438 3844444420 384444487F 3854545418 087E090102 081454543C
+7F08040478 00447D4000 2040443D00 7F10284400 00417F4000 7C04180478 7C08040478 3844444438
+7C14141408 081414187C 7C08040408 4854545420 043F444020 3C4040207C 1C2040201C 3C4030403C
+4428102844 0C5050503C 4464544C44 0008364100 00007F0000 0041360800 0804081008 7F4141417F`.split(/\\s+/);
+
+/** The seven rows of five bits that a face has lit, the leftmost pixel in bit 0. @returns {number[]} */
+export function rowsOf(face) {
+  const columns = GLYPHS[face - 0x20].match(/../g).map((hex) => parseInt(hex, 16));
+  return [0, 1, 2, 3, 4, 5, 6].map((row) => columns.reduce((bits, column, x) => bits | (((column >> row) & 1) << x), 0));
+}
+
+const numberOf = (rows) => rows.reduce((sum, bits) => sum * 32 + bits, 0);
+const FACES = new Map(GLYPHS.map((_, k) => [numberOf(rowsOf(0x20 + k)), 0x20 + k]));
+
+// Which of the eight pixels of a line aren't the paper, or -1 where one is neither paper nor ink.
+function litOf(pixels, at, paper, ink) {
+  let lit = 0;
+  for (let x = 0; x < CELL_WIDTH; x++) {
+    const pixel = pixels[at + x];
+    if (pixel === ink) lit |= 1 << x;
+    else if (pixel !== paper) return -1;
+  }
+  return lit;
+}
+
+// The first pixel that isn't the paper, or the paper where all are.
+function inkOf(pixels, at, width, paper) {
+  for (let y = 2; y < CELL_HEIGHT; y++) {
+    for (let x = 0; x < 6; x++) {
+      const pixel = pixels[at + y * width + x];
+      if (pixel !== paper) return pixel;
+    }
+  }
+  return paper;
+}
+
+/**
+ * What the cell shows whose first pixel has this place in the pixels of a layer of this width: its face, its ink and
+ * paper as pixels, and whether it is underlined; or null where it shows none of the font's pictures. Of a blank the
+ * ink is the paper, for nothing of it is seen.
+ * @returns {{ face: number, ink: number, paper: number, isUnderlined: boolean } | null}
+ */
+export function seenAt(pixels, at, width) {
+  const paper = pixels[at];
+  if (paper === 0) return null;
+  const ink = inkOf(pixels, at, width, paper);
+  if (ink === paper) return isPlain(pixels, at, width, paper) ? { face: 0x20, ink, paper, isUnderlined: false } : null;
+  const line = (y) => litOf(pixels, at + y * width, paper, ink);
+  const isUnderlined = line(15) === 0xff;
+  if (line(0) !== 0 || line(1) !== 0) return null;
+  let glyph = 0;
+  for (let row = 0; row < 7; row++) {
+    const lit = line(2 + 2 * row);
+    if ((lit & ~0x3e) !== 0 || (line(3 + 2 * row) !== lit && !(row === 6 && isUnderlined))) return null;
+    glyph = glyph * 32 + (lit >> 1);
+  }
+  const face = FACES.get(glyph);
+  return face === undefined ? null : { face, ink, paper, isUnderlined };
+}
+
+function isPlain(pixels, at, width, paper) {
+  for (let y = 0; y < CELL_HEIGHT; y++) if (litOf(pixels, at + y * width, paper, paper) !== 0xff) return false;
+  return true;
+}
+"
+}
+
+// `/index.html`.
+fn index_html() -> &'static str {
+    "\
+<!doctype html>
+<html lang=\"en\">
+<head>
+<meta charset=\"utf-8\">
+<meta name=\"viewport\" content=\"width=device-width, initial-scale=1, interactive-widget=resizes-content\">
+<meta name=\"color-scheme\" content=\"dark light\">
+<title>guacgate</title>
+<link rel=\"icon\" href=\"data:,\">
+<link rel=\"stylesheet\" href=\"style.css\">
+<script type=\"module\" src=\"main.js\"></script>
+</head>
+<body data-state=\"idle\">
+<main>
+  <div id=\"forms\" hidden>
+    <form id=\"open\" aria-labelledby=\"open-title\">
+      <h1 id=\"open-title\">Open a terminal</h1>
+      <label>Telnet host <input name=\"hostname\" autocomplete=\"off\" autocapitalize=\"off\" spellcheck=\"false\" value=\"localhost\"></label>
+      <div class=\"row\">
+        <label>Port <input name=\"port\" inputmode=\"numeric\" value=\"23\"></label>
+        <label>Columns <input name=\"columns\" inputmode=\"numeric\" placeholder=\"auto\"></label>
+        <label>Rows <input name=\"rows\" inputmode=\"numeric\" placeholder=\"auto\"></label>
+      </div>
+      <p>Left empty, columns and rows follow the window.</p>
+      <details>
+        <summary>More</summary>
+        <label>Terminal type, as the host is told <input name=\"terminal-type\" autocomplete=\"off\" autocapitalize=\"off\" spellcheck=\"false\" list=\"types\" value=\"linux\"></label>
+        <datalist id=\"types\"><option>linux</option><option>guacgate</option><option>screen</option><option>xterm-r5</option></datalist>
+      </details>
+      <button>Open</button>
+      <p>For you alone: nobody can join a terminal that is opened here.</p>
+    </form>
+    <form id=\"join\" aria-labelledby=\"join-title\">
+      <h1 id=\"join-title\">Join others</h1>
+      <label>Link or ID of the session <input name=\"session\" autocomplete=\"off\" autocapitalize=\"off\" spellcheck=\"false\" placeholder=\"$01234567-89ab-…\"></label>
+      <label class=\"check\"><input name=\"read-only\" type=\"checkbox\"> only look on</label>
+      <label class=\"check\"><input name=\"keep-size\" type=\"checkbox\"> keep its size</label>
+      <button>Join</button>
+      <p>Whoever opened the session gives you its link or its ID.</p>
+    </form>
+  </div>
+  <div id=\"screen\" hidden>
+    <div id=\"sheet\">
+      <section id=\"scrollback\" aria-label=\"lines above the screen\"></section>
+      <div id=\"stage\">
+        <div id=\"terminal\">
+          <canvas id=\"picture\" width=\"640\" height=\"384\" aria-hidden=\"true\"></canvas>
+          <canvas id=\"sharp\" width=\"640\" height=\"384\" aria-hidden=\"true\"></canvas>
+          <section id=\"text\" aria-label=\"screen\"></section>
+          <!-- takes what is typed and composed while the terminal has the focus -->
+          <textarea id=\"keys\" autocapitalize=\"off\" autocomplete=\"off\" autocorrect=\"off\" spellcheck=\"false\" aria-label=\"terminal keys\" aria-describedby=\"leaving\"></textarea>
+        </div>
+      </div>
+    </div>
+  </div>
+</main>
+<div id=\"touch\" role=\"toolbar\" aria-label=\"keys\">
+  <button type=\"button\" data-key=\"Escape\">Esc</button>
+  <button type=\"button\" data-key=\"Tab\">Tab</button>
+  <button type=\"button\" data-key=\"Control\" aria-pressed=\"false\">Ctrl</button>
+  <button type=\"button\" data-key=\"Alt\" aria-pressed=\"false\">Alt</button>
+  <button type=\"button\" data-key=\"ArrowLeft\" aria-label=\"left\">←</button>
+  <button type=\"button\" data-key=\"ArrowUp\" aria-label=\"up\">↑</button>
+  <button type=\"button\" data-key=\"ArrowDown\" aria-label=\"down\">↓</button>
+  <button type=\"button\" data-key=\"ArrowRight\" aria-label=\"right\">→</button>
+  <button type=\"button\" data-key=\"Paste\">Paste</button>
+</div>
+<footer>
+  <span id=\"message\" role=\"status\"></span>
+  <span id=\"rights\" role=\"status\"></span>
+  <span id=\"hint\">Click the terminal, or press Shift-Tab, to type.</span>
+  <span id=\"links\" hidden>Links for others: <a id=\"look\">look on</a> <a id=\"type\">type too</a></span>
+  <details id=\"panel\">
+    <summary>View</summary>
+    <div class=\"panel\">
+      <form id=\"choices\">
+        <label>Text
+          <select name=\"text\"><option value=\"sharp\">sharp</option><option value=\"exact\">exact pixels</option></select>
+        </label>
+        <label>Size <select name=\"size\"></select></label>
+        <label class=\"check\"><input id=\"keep\" type=\"checkbox\"> keep this size, whatever the window’s</label>
+        <label>Lines kept above the screen <select name=\"lines\"></select></label>
+        <label class=\"check\"><input name=\"speaks\" type=\"checkbox\"> say new lines to a screen reader</label>
+      </form>
+      <dl>
+        <dt>Control-F6, Control-Shift-Esc</dt><dd>leaves the terminal</dd>
+        <dt>Shift-Page Up, Shift-Home</dt><dd>goes back through the lines above</dd>
+        <dt>Control-Shift-C, or Control-C where text is selected</dt><dd>copies</dd>
+        <dt>Control-Shift-V, Shift-Insert</dt><dd>pastes</dd>
+        <dt>Control-Shift-L</dt><dd>says new lines, or no longer</dd>
+      </dl>
+      <p>Only lines that were on the screen are kept above it, so what a host sends faster than that is missing there.</p>
+    </div>
+  </details>
+  <button id=\"again\" hidden></button>
+</footer>
+<p id=\"leaving\" class=\"unseen\">Control-F6 leaves the terminal, and so does Control-Shift-Escape.</p>
+<div id=\"news\" class=\"unseen\" role=\"log\" aria-live=\"polite\" aria-label=\"new lines\"></div>
+</body>
+</html>
+"
+}
+
+// `/instructions.js`.
+fn instructions_js() -> &'static str {
+    "\
+// The instructions of the Guacamole protocol as text: elements of a length, a `.` and a value, with `,` between
+// them and `;` at the end. A length counts Unicode characters, and a string of JavaScript has two units for some.
+
+/** What can't be read as instructions. */
+export class Unreadable extends Error {}
+
+// Where the value of so many characters that begins at `start` ends.
+function endOf(text, start, characters) {
+  const end = start + characters;
+  // Only a value with surrogates is longer than its characters.
+  if (!/[\\ud800-\\udfff]/.test(text.slice(start, end))) return end;
+  let at = start;
+  for (let n = 0; n < characters && at < text.length; n++) at += text.codePointAt(at) > 0xffff ? 2 : 1;
+  return at;
+}
+
+/** The instructions of a text, each a list of its elements. The text has whole instructions alone. */
+export function* instructionsOf(text) {
+  let at = 0;
+  while (at < text.length) {
+    const elements = [];
+    for (let separator = ','; separator === ','; at++) {
+      const dot = text.indexOf('.', at);
+      const length = text.slice(at, dot);
+      if (dot < 0 || !/^[0-9]{1,5}$/.test(length)) throw new Unreadable(`no length at ${at}`);
+      const end = endOf(text, dot + 1, Number(length));
+      elements.push(text.slice(dot + 1, end));
+      at = end;
+      separator = text[at];
+      if (separator !== ',' && separator !== ';') throw new Unreadable(`no end at ${at}`);
+    }
+    yield elements;
+  }
+}
+
+/** The text of an instruction. */
+export function textOf(...elements) {
+  return elements.map((element) => `${[...String(element)].length}.${element}`).join(',') + ';';
+}
+"
+}
+
+// `/keyboard.js`.
+fn keyboard_js() -> &'static str {
+    "\
+// What a person types: keys that go down and up, text that an input method or a dead key makes, and what is pasted.
+
+import { ALT, CONTROL, isModifier, keysymNamed, keysymsOf, meaningOfKey } from './keysyms.js';
+
+// It stands in the field, so that a keyboard on a screen has something to delete, and tells Backspace.
+const SENTINEL = '\\u200b';
+
+/** Hears the keys of an element that takes text, and tells each press and release as `send(keysym, isPressed)`. */
+export class Keyboard {
+  #field;
+  #send;
+  #act;
+  #isMac;
+  #isSelected;
+  // By where the key is: the keysym that it was pressed with, so that the release names the same.
+  #down = new Map();
+  // The modifiers that are held for the next key alone, by buttons.
+  #held = new Set();
+
+  /**
+   * @param {HTMLTextAreaElement} field
+   * @param {(keysym: number, isPressed: boolean) => void} send
+   * @param {(action: import('./keysyms.js').Action) => void} act does what the page itself does at a key
+   * @param {{ isMac: boolean, isSelected: () => boolean }} surroundings  whether Option makes characters, and whether
+   *   text is selected
+   */
+  constructor(field, send, act, { isMac, isSelected }) {
+    this.#field = field;
+    this.#send = send;
+    this.#act = act;
+    this.#isMac = isMac;
+    this.#isSelected = isSelected;
+    field.addEventListener('keydown', (event) => this.press(event));
+    field.addEventListener('keyup', (event) => this.#release(event.code));
+    field.addEventListener('compositionstart', () => field.classList.add('composing'));
+    field.addEventListener('compositionupdate', (event) => { field.style.setProperty('--length', String(event.data.length + 1)); });
+    field.addEventListener('compositionend', () => this.#takeField());
+    field.addEventListener('input', (event) => { if (!(/** @type {InputEvent} */ (event).isComposing)) this.#takeField(); });
+    // What is pasted falls into the field, too. It may have come by Control, which is let go first.
+    field.addEventListener('paste', () => this.#releaseAll());
+    // The browser tells no release of a key that is let go elsewhere.
+    field.addEventListener('blur', () => this.#releaseAll());
+    this.#empty();
+  }
+
+  /** Takes a key that goes down, unless it is the browser's. @param {KeyboardEvent} event */
+  press(event) {
+    // An input method takes these, and gives its text when it is done.
+    if (event.isComposing || event.keyCode === 229) return;
+    const meaning = isControlC(event) && this.#isSelected() ? { action: /** @type {const} */ ('take') } : meaningOfKey(event, this.#isMac);
+    if (meaning === 'browser') return;
+    event.preventDefault();
+    if (meaning === 'nothing') return;
+    if ('action' in meaning) return this.#act(meaning.action);
+    if (meaning.isBare) this.#releaseAll();
+    else this.#holdAsIn(event, meaning);
+    this.#beginHeld(meaning.keysym);
+    this.#down.set(event.code, meaning.keysym);
+    this.#send(meaning.keysym, true);
+    this.#endHeld(meaning.keysym);
+  }
+
+  /** Presses a key and lets it go. */
+  tap(keysym) {
+    this.#beginHeld(keysym);
+    this.#send(keysym, true);
+    this.#send(keysym, false);
+    this.#endHeld(keysym);
+  }
+
+  /** Types a text, key by key. */
+  type(text) {
+    keysymsOf(text).forEach((keysym) => this.tap(keysym));
+  }
+
+  /** Holds Control or Alt for the next key, or no longer, and answers whether it is held. */
+  hold(keysym) {
+    if (this.#held.delete(keysym)) return false;
+    this.#held.add(keysym);
+    return true;
+  }
+
+  // Control and Alt may have gone down elsewhere.
+  /** @param {KeyboardEvent} event @param {{ keysym: number, withAlt?: boolean }} meaning */
+  #holdAsIn({ ctrlKey, altKey }, { keysym, withAlt }) {
+    if (isModifier(keysym)) return;
+    const down = [...this.#down.values()];
+    if (ctrlKey && !down.some((it) => it === CONTROL || it === CONTROL + 1)) this.#held.add(CONTROL);
+    if (withAlt || (altKey && !this.#isMac && !down.some((it) => it === ALT || it === ALT + 1))) this.#held.add(ALT);
+  }
+
+  #beginHeld(keysym) {
+    if (!isModifier(keysym)) this.#held.forEach((it) => this.#send(it, true));
+  }
+
+  #endHeld(keysym) {
+    if (isModifier(keysym) || this.#held.size === 0) return;
+    this.#held.forEach((it) => this.#send(it, false));
+    this.#held.clear();
+    this.#field.dispatchEvent(new Event('free'));
+  }
+
+  #release(code) {
+    const keysym = this.#down.get(code);
+    if (keysym === undefined) return;
+    this.#down.delete(code);
+    this.#send(keysym, false);
+  }
+
+  #releaseAll() {
+    [...this.#down.keys()].forEach((code) => this.#release(code));
+  }
+
+  // What stands in the field was made by an input method, a dead key or a keyboard on a screen.
+  #takeField() {
+    const { value } = this.#field;
+    this.#empty();
+    const text = value.replaceAll(SENTINEL, '');
+    // With Control held by a button, a letter is meant.
+    if (text !== '') this.type(this.#held.has(CONTROL) ? text.toLowerCase() : text);
+    else if (value === '') this.tap(keysymNamed('Backspace'));
+  }
+
+  #empty() {
+    this.#field.classList.remove('composing');
+    this.#field.value = SENTINEL;
+    this.#field.setSelectionRange(1, 1);
+  }
+}
+
+/** Whether the browser pastes at a key. */
+export const isPaste = ({ key, ctrlKey, metaKey, shiftKey }) => (key === 'Insert' ? shiftKey : key.toLowerCase() === 'v' && (metaKey || (ctrlKey && shiftKey)));
+
+const isControlC = ({ key, ctrlKey, altKey, shiftKey, metaKey }) => key === 'c' && ctrlKey && !altKey && !shiftKey && !metaKey;
+"
+}
+
+// `/keysyms.js`.
+fn keysyms_js() -> &'static str {
+    "\
+// From keys of a browser to keysyms of the X Window System, as the gateway reads them (docs/PROTOCOL.md, \"Keys\").
+
+const NAMED = {
+  Backspace: 0xff08, Tab: 0xff09, Enter: 0xff0d, Escape: 0xff1b,
+  Home: 0xff50, ArrowLeft: 0xff51, ArrowUp: 0xff52, ArrowRight: 0xff53, ArrowDown: 0xff54,
+  PageUp: 0xff55, PageDown: 0xff56, End: 0xff57, Insert: 0xff63, Delete: 0xffff,
+  F1: 0xffbe, F2: 0xffbf, F3: 0xffc0, F4: 0xffc1, F5: 0xffc2, F6: 0xffc3,
+  F7: 0xffc4, F8: 0xffc5, F9: 0xffc6, F10: 0xffc7, F11: 0xffc8, F12: 0xffc9,
+};
+
+// By where the key is, since the left one and the right one are held each for itself. Shift changes nothing there.
+const MODIFIERS = { ControlLeft: 0xffe3, ControlRight: 0xffe4, AltLeft: 0xffe9, AltRight: 0xffea };
+
+/** Control and Alt, which change what other keys send. */
+export const { ControlLeft: CONTROL, AltLeft: ALT } = MODIFIERS;
+
+/** Whether the keysym is Control or Alt. */
+export const isModifier = (keysym) => Object.values(MODIFIERS).includes(keysym);
+
+/** The keysym of a key by its name, as Tab. */
+export const keysymNamed = (name) => NAMED[name];
+
+/** The keysym of a character, or null for a control character. */
+export function keysymOf(character) {
+  const code = character.codePointAt(0);
+  if (code < 0x20 || (code >= 0x7f && code <= 0x9f)) return null;
+  return code <= 0xff ? code : 0x01000000 + code;
+}
+
+/** The keysyms that type a text: a line break is Return, a tab is Tab, and other control characters are left out. */
+export function keysymsOf(text) {
+  return [...text.replace(/\\r\\n?/g, '\\n')].map(typed).filter((keysym) => keysym !== null);
+}
+
+function typed(character) {
+  if (character === '\\n') return NAMED.Enter;
+  if (character === '\\t') return NAMED.Tab;
+  return keysymOf(character);
+}
+
+/**
+ * What the page itself does at a key.
+ * @typedef {'copy' | 'take' | 'leave' | 'hush' | 'lineUp' | 'lineDown' | 'pageUp' | 'pageDown' | 'toTop' | 'toEnd'} Action
+ */
+
+/**
+ * What a key means: a keysym that is sent, with `isBare` where no modifier goes with it and `withAlt` where Alt is sent
+ * around it; an action of the page; `browser` for what is left to the browser; `nothing` for what the gateway's table of
+ * keys hasn't, and which would be taken for another key.
+ * @typedef {{ keysym: number, isBare?: boolean, withAlt?: boolean } | { action: Action } | 'browser' | 'nothing'} Meaning
+ */
+
+const LEAVING = ['Escape', 'F6'];
+const SCROLLING = { PageUp: 'pageUp', PageDown: 'pageDown', Home: 'toTop', End: 'toEnd' };
+const SCROLLING_BOTH = { ArrowUp: 'lineUp', ArrowDown: 'lineDown' };
+// Those whose bytes are the same with Control or Shift on every terminal.
+const EVER = ['Backspace', 'Enter', 'Escape', 'Delete'];
+
+/** @param {KeyboardEvent} event @param {boolean} isMac whether Option makes characters, as on a Mac @returns {Meaning} */
+export function meaningOfKey(event, isMac) {
+  const { key, code } = event;
+  if (event.metaKey) return 'browser';
+  if (key === 'Control' || (key === 'Alt' && !isMac)) return code in MODIFIERS ? { keysym: MODIFIERS[code] } : 'browser';
+  if (key === 'AltGraph' || key === 'Dead' || key === 'Process' || key === 'Unidentified') return 'browser';
+  if ([...key].length === 1) return character(event, isMac);
+  return named(event, isMac);
+}
+
+/** @returns {Meaning} */
+function character(event, isMac) {
+  const { key, code, ctrlKey, altKey, shiftKey } = event;
+  const keysym = keysymOf(key);
+  if (keysym === null) return 'browser';
+  // AltGr makes a character, and on some systems is told as Control and Alt too.
+  if (event.getModifierState('AltGraph') || (isMac && altKey && !ctrlKey)) return { keysym, isBare: true };
+  if (!ctrlKey) return { keysym };
+  // The letter of the key, where the layout has another alphabet.
+  const letter = key > '~' ? /^Key([A-Z])$/.exec(code)?.[1].toLowerCase() : key;
+  if (shiftKey && /^[a-z]$/i.test(letter ?? '')) return withControlAndShift(letter.toLowerCase());
+  return letter !== undefined && /^[@-_a-z ?]$/.test(letter) ? { keysym: keysymOf(letter) } : 'browser';
+}
+
+/** @returns {Meaning} */
+function withControlAndShift(letter) {
+  if (letter === 'c') return { action: 'copy' };
+  return letter === 'l' ? { action: 'hush' } : 'browser';
+}
+
+/** @returns {Meaning} */
+function named({ key, ctrlKey, altKey, shiftKey }, isMac) {
+  const keysym = NAMED[key];
+  if (keysym === undefined) return 'browser';
+  if (LEAVING.includes(key) && ctrlKey && shiftKey !== (key === 'F6')) return { action: 'leave' };
+  if (EVER.includes(key)) return isMac && altKey ? { keysym, withAlt: true } : { keysym };
+  if (ctrlKey && shiftKey && key in SCROLLING_BOTH) return { action: SCROLLING_BOTH[key] };
+  if (shiftKey && !ctrlKey && key in SCROLLING) return { action: SCROLLING[key] };
+  if (ctrlKey || (shiftKey && /^(Insert|F[0-9]+)$/.test(key))) return 'browser';
+  if (shiftKey) return 'nothing';
+  return isMac && altKey ? { keysym, withAlt: true } : { keysym };
+}
+"
+}
+
+// `/layers.js`.
+fn layers_js() -> &'static str {
+    "\
+// The drawing machine: layers of pixels that `size`, `rect`, `cfill` and `copy` draw on. It is exact and knows of
+// no canvas, so it can be tried without a browser. A pixel is a 32-bit number, alpha, blue, green and red from the
+// highest byte down, as the memory of a canvas has them; 0 is a clear pixel.
+
+import { Unreadable } from './instructions.js';
+
+const VISIBLE = 0;
+const LEAST_LAYER = -1024;
+const MOST_SIDE = 4096;
+const SOURCE_OVER = 14;
+
+/** A layer: its size, its pixels row by row, and its path. */
+export class Layer {
+  width = 0;
+  height = 0;
+  pixels = new Uint32Array(0);
+  /** @type {{ x: number, y: number, width: number, height: number }[]} */
+  path = [];
+  isFilled = false;
+
+  // The common part stays, and all other pixels are clear.
+  resize(width, height) {
+    const pixels = new Uint32Array(width * height);
+    const columns = Math.min(width, this.width);
+    for (let y = 0; y < Math.min(height, this.height); y++) {
+      pixels.set(this.pixels.subarray(y * this.width, y * this.width + columns), y * width);
+    }
+    Object.assign(this, { width, height, pixels });
+  }
+
+  // A rectangle behind a fill begins a new path.
+  add(x, y, width, height) {
+    if (this.isFilled) this.path = [];
+    this.isFilled = false;
+    this.path.push({ x, y, width, height });
+  }
+
+  // Parts outside the layer are dropped.
+  fill(pixel) {
+    for (const { x, y, width, height } of this.path) {
+      const right = Math.min(x + width, this.width);
+      const bottom = Math.min(y + height, this.height);
+      for (let row = y; row < bottom && x < right; row++) this.pixels.fill(pixel, row * this.width + x, row * this.width + right);
+    }
+    this.isFilled = true;
+  }
+
+  // The pixels of a rectangle, those outside the layer clear.
+  taken(x, y, width, height) {
+    const pixels = new Uint32Array(width * height);
+    const right = Math.min(x + width, this.width);
+    const bottom = Math.min(y + height, this.height);
+    for (let row = y; row < bottom && x < right; row++) {
+      pixels.set(this.pixels.subarray(row * this.width + x, row * this.width + right), (row - y) * width);
+    }
+    return pixels;
+  }
+
+  // Clear pixels leave what is there.
+  put(pixels, x, y, width) {
+    const columns = Math.min(width, this.width - x);
+    const rows = Math.min(width ? pixels.length / width : 0, this.height - y);
+    for (let row = 0; row < rows; row++) {
+      const from = row * width;
+      const to = (y + row) * this.width + x;
+      const line = pixels.subarray(from, from + Math.max(columns, 0));
+      if (line.includes(0)) line.forEach((pixel, column) => { if (pixel !== 0) this.pixels[to + column] = pixel; });
+      else this.pixels.set(line, to);
+    }
+  }
+}
+
+const number = (text, most) => {
+  const value = Number(text);
+  if (!/^[0-9]{1,20}$/.test(text ?? '') || value > most) throw new Unreadable(`not a number: ${text}`);
+  return value;
+};
+
+const PLACE = 2 ** 32 - 1;
+
+/**
+ * What is told of each change before it is made.
+ * @typedef {object} Watcher
+ * @property {(layer: Layer, width: number, height: number) => void} sized  it gets this size
+ * @property {(layer: Layer) => void} filled  the path of the layer is
+ * @property {(from: Layer, x: number, y: number, width: number, height: number, to: Layer, toX: number, toY: number) => void} copied
+ */
+
+/** All layers of a view. */
+export class Layers {
+  /** @type {Map<number, Layer>} */
+  #layers = new Map();
+  #watcher;
+
+  /** @param {Watcher | null} watcher */
+  constructor(watcher = null) {
+    this.#watcher = watcher;
+  }
+
+  /** The visible layer's width, height and pixels. */
+  get visible() {
+    return this.#layer('0');
+  }
+
+  #layer(text) {
+    if (!/^(0|-[1-9][0-9]{0,3})$/.test(text ?? '') || Number(text) < LEAST_LAYER) throw new Unreadable(`not a layer: ${text}`);
+    const index = Number(text) || VISIBLE;
+    let layer = this.#layers.get(index);
+    if (layer === undefined) this.#layers.set(index, layer = new Layer());
+    return layer;
+  }
+
+  #mask(text) {
+    if (number(text, 255) !== SOURCE_OVER) throw new Unreadable(`a mask of ${text}`);
+  }
+
+  /** Draws an instruction, and answers whether it is one that draws. */
+  draw([opcode, ...given]) {
+    switch (opcode) {
+      case 'size': {
+        const [name, width, height] = given;
+        const layer = this.#layer(name);
+        const size = [number(width, MOST_SIDE), number(height, MOST_SIDE)];
+        this.#watcher?.sized(layer, size[0], size[1]);
+        layer.resize(size[0], size[1]);
+        return true;
+      }
+      case 'rect': {
+        const [layer, ...places] = given;
+        const [x, y, width, height] = [0, 1, 2, 3].map((k) => number(places[k], PLACE));
+        this.#layer(layer).add(x, y, width, height);
+        return true;
+      }
+      case 'cfill': {
+        const [mask, name, ...colour] = given;
+        this.#mask(mask);
+        const [red, green, blue, alpha] = [0, 1, 2, 3].map((k) => number(colour[k], 255));
+        if (alpha !== 255) throw new Unreadable(`an alpha of ${alpha}`);
+        const layer = this.#layer(name);
+        this.#watcher?.filled(layer);
+        layer.fill(((alpha << 24) | (blue << 16) | (green << 8) | red) >>> 0);
+        return true;
+      }
+      case 'copy': {
+        const [source, x, y, width, height, mask, destination, toX, toY] = given;
+        this.#mask(mask);
+        const [from, to] = [this.#layer(source), this.#layer(destination)];
+        const [left, top, columns, rows] = [number(x, PLACE), number(y, PLACE), number(width, MOST_SIDE), number(height, MOST_SIDE)];
+        const [toLeft, toTop] = [number(toX, PLACE), number(toY, PLACE)];
+        this.#watcher?.copied(from, left, top, columns, rows, to, toLeft, toTop);
+        // All pixels are read before one is written, so a layer can be copied over itself.
+        to.put(from.taken(left, top, columns, rows), toLeft, toTop, columns);
+        return true;
+      }
+      default:
+        return false;
+    }
+  }
+}
+"
+}
+
+// `/main.js`.
+fn main_js() -> &'static str {
+    "\
+// The page: opens a tunnel as its address or its form asks, shows what it gives, and sends what is typed.
+
+import { choose, kept } from './choices.js';
+import { Display } from './display.js';
+import { Follow } from './follow.js';
+import { Keyboard, isPaste } from './keyboard.js';
+import { meaningOfKey } from './keysyms.js';
+import { rightsOf, wayOn, wordsOf } from './messages.js';
+import { faultOf, formOf, joinBy, linkOf, requestOf, sessionOf, sizeOf, titleOf } from './request.js';
+import { Mouse, copyAsLines, copySelected, selectedText } from './selection.js';
+import { Speech } from './speech.js';
+import { buttonsOf } from './touch.js';
+import { Tunnel } from './tunnel.js';
+import { View, endOf } from './view.js';
+
+/** @type {(id: string) => any} */
+const at = (id) => document.getElementById(id);
+// Beside the page, without the login that an address may have: no request can be made to an address that has one.
+const PATH = location.origin + new URL('tunnel', location.href).pathname;
+const IS_MAC = /^(Mac|iP)/.test(navigator.platform);
+const FIELDS = ['hostname', 'port', 'columns', 'rows', 'terminal-type'];
+
+/** @type {View | null} */
+let view = null;
+let request = null;
+const speech = new Speech(at('news'));
+speech.isOn = kept().speaks;
+const follow = new Follow((size) => view?.resize(size));
+const display = new Display(at, kept(), speech, (size) => follow.fits(size));
+const choices = choose(at('choices'), kept(), (chosen) => {
+  display.choices = chosen;
+  speech.isOn = chosen.speaks;
+});
+
+// The state is on the page's body, for its style and for whoever tests it.
+function tell(state, message = '') {
+  document.body.dataset.state = state;
+  at('message').textContent = message;
+}
+
+const told = {
+  shown(stamp) {
+    document.body.dataset.stamp = stamp;
+    follow.shows(display.size);
+  },
+  stalled(isStalled) {
+    tell(isStalled ? 'stalled' : 'open', isStalled ? 'The gateway hasn’t answered for 5 seconds. What you type is sent when it does.' : '');
+  },
+  answered(isAnswered) { at('rights').textContent = rightsOf(request, isAnswered); },
+};
+
+// What is seen around the terminal while a request is under way.
+function surround() {
+  at('forms').hidden = true;
+  at('again').hidden = true;
+  at('screen').hidden = false;
+  at('rights').textContent = '';
+  at('links').hidden = !request.id;
+  at('type').hidden = request.readOnly;
+  document.body.toggleAttribute('data-types', !request.readOnly);
+  at('keys').disabled = request.readOnly;
+  at('keep').checked = request.keepsSize;
+  at('keep').parentElement.hidden = request.readOnly;
+  document.title = titleOf(request);
+  if (request.id) linkOthers();
+}
+
+function linkOthers() {
+  at('look').href = linkOf({ ...request, readOnly: true }, location.href);
+  at('type').href = linkOf(request, location.href);
+}
+
+function letFollow(isOn) {
+  follow.isOn = display.follows = isOn;
+}
+
+async function start(asked) {
+  request = asked;
+  surround();
+  tell('opening', 'Opening …');
+  display.clear();
+  const size = sizeOf(request, display.measured());
+  let end;
+  try {
+    view = new View(await Tunnel.open(PATH, formOf(request, size)), display, request.readOnly, told);
+    follow.begin(request.id ? null : size);
+    letFollow(!request.readOnly && !request.keepsSize);
+    focusKeys();
+    tell('open');
+    at('rights').textContent = rightsOf(request);
+    end = await view.run();
+  } catch (fault) {
+    end = endOf(fault);
+  }
+  const wasOpen = view !== null;
+  view = null;
+  letFollow(false);
+  finish(end, wasOpen);
+}
+
+function finish(end, wasOpen) {
+  const { word, isAgain, isReload } = wayOn(end, request);
+  tell('ended', wordsOf(end, wasOpen));
+  at('rights').textContent = '';
+  at('links').hidden = true;
+  at('again').textContent = word;
+  at('again').onclick = () => {
+    if (isReload) location.reload();
+    else if (isAgain) start(request);
+    else toStart();
+  };
+  at('again').hidden = false;
+  at('again').focus();
+}
+
+// A session that is over goes from the address, so that the same link can be given again.
+function toStart() {
+  if (request.id) history.replaceState(null, '', location.href.split('#')[0]);
+  begin(request.id ? null : request);
+}
+
+// An address that names a session joins it. One that names a host fills the form, so that no link has a host dialed
+// before a person has agreed.
+function begin(asked) {
+  if (asked?.id) return start(asked);
+  for (const name of FIELDS) if (asked) at('open').elements[name].value = asked[name === 'terminal-type' ? 'type' : name];
+  tell('idle');
+  document.title = 'guacgate';
+  at('screen').hidden = true;
+  at('again').hidden = true;
+  at('forms').hidden = false;
+  at('open').elements.hostname.focus();
+}
+
+// A form judges its fields itself, in words.
+function judge(form) {
+  for (const field of form.elements) if (field.name) field.setCustomValidity(faultOf(field.name, field.value));
+}
+
+const act = {
+  copy: () => copySelected(at('screen')),
+  take() {
+    copySelected(at('screen'));
+    document.getSelection()?.removeAllRanges();
+    focusKeys();
+  },
+  leave: () => at('panel').querySelector('summary').focus(),
+  hush() {
+    choices.change({ speaks: !speech.isOn });
+    at('news').replaceChildren(speech.isOn ? 'New lines are said.' : 'New lines are no longer said.');
+  },
+  lineUp: () => display.scrollLines(-1),
+  lineDown: () => display.scrollLines(1),
+  pageUp: () => display.scroll(-1),
+  pageDown: () => display.scroll(1),
+  toTop: () => display.scroll(-Infinity),
+  toEnd: () => display.toEnd(),
+};
+
+function send(keysym, isPressed) {
+  if (!view?.types) return;
+  if (isPressed) {
+    display.toEnd();
+    if (keysym < 0x7f) speech.typed(String.fromCharCode(keysym));
+  }
+  view.press(keysym, isPressed);
+}
+
+const keyboard = new Keyboard(at('keys'), send, (action) => act[action](), { isMac: IS_MAC, isSelected: () => selectedText(at('screen')) !== '' });
+buttonsOf(at('touch'), at('keys'), keyboard);
+copyAsLines(at('screen'));
+new Mouse(at('screen'), focusKeys);
+
+at('keys').addEventListener('focus', () => { at('panel').open = false; });
+at('panel').addEventListener('keydown', (event) => {
+  if (event.key !== 'Escape') return;
+  at('panel').open = false;
+  act.leave();
+});
+
+function focusKeys() {
+  if (view?.types) at('keys').focus({ preventScroll: true });
+}
+
+// Where nothing has the focus, as while text is selected, keys are the terminal's too.
+const isNowhere = () => view !== null && (document.activeElement === document.body || document.activeElement === at('screen'));
+
+addEventListener('keydown', (event) => {
+  if (!isNowhere() || ['Control', 'Shift', 'Alt', 'Meta'].includes(event.key)) return;
+  const meaning = meaningOfKey(event, IS_MAC);
+  if (isPaste(event)) focusKeys();
+  if (typeof meaning === 'string' || ('keysym' in meaning && !view?.types)) return;
+  const isKept = 'action' in meaning || selectedText(at('screen')) !== '' && event.ctrlKey && event.key === 'c';
+  if (!isKept) {
+    document.getSelection()?.removeAllRanges();
+    focusKeys();
+  }
+  keyboard.press(event);
+});
+for (const id of ['open', 'join']) at(id).addEventListener('input', () => judge(at(id)));
+at('open').addEventListener('submit', (event) => {
+  event.preventDefault();
+  start(sessionOf(new FormData(event.target)));
+});
+at('join').addEventListener('submit', (event) => {
+  event.preventDefault();
+  const given = new FormData(event.target);
+  const asked = { readOnly: given.has('read-only'), keepsSize: given.has('keep-size') };
+  location.href = joinBy(String(given.get('session')).trim(), asked, location.href);
+});
+// The choice stands in the address, as that to look on alone does, and in the links for others.
+at('keep').addEventListener('change', () => {
+  request.keepsSize = at('keep').checked;
+  letFollow(view !== null && !request.keepsSize);
+  if (!request.id) return;
+  history.replaceState(null, '', linkOf(request, location.href));
+  linkOthers();
+});
+// What is wrong in a part of a form that is folded would be told nowhere.
+at('open').addEventListener('invalid', (event) => event.target.closest('details')?.setAttribute('open', ''), true);
+addEventListener('hashchange', () => location.reload());
+addEventListener('pagehide', () => view?.leave());
+// Nobody can come back to a session that was opened here, so the browser asks before it is left.
+addEventListener('beforeunload', (event) => { if (view && !request.id) event.preventDefault(); });
+begin(requestOf(location.hash));
+for (const id of ['open', 'join']) judge(at(id));
+"
+}
+
+// `/messages.js`.
+fn messages_js() -> &'static str {
+    "\
+// What a person is told, in plain words.
+
+const BY_CODE = {
+  512: 'The gateway has no memory left.',
+  513: 'The gateway is too busy for another session.',
+  516: 'There is no such session. It may be over.',
+  517: 'The gateway couldn’t name the session. Try again.',
+  519: 'The host can’t be reached.',
+  523: 'The gateway has closed the session: it has lost the host, or was told to stop, or the session was too long.',
+  768: 'The gateway can’t read this request.',
+  771: 'This session lets nobody join.',
+  797: 'Too many viewers are in this session.',
+};
+
+const BY_STATUS = {
+  0: 'The connection to the gateway is lost.',
+  401: 'You have to log in.',
+  403: 'You may not do this.',
+  502: 'The gateway doesn’t answer.',
+  503: 'The gateway doesn’t answer.',
+  504: 'The gateway took too long to answer.',
+};
+
+/** What a refusal means. */
+export function meaningOf({ code, status }) {
+  return BY_CODE[code] ?? BY_STATUS[status] ?? `The gateway answered with status ${status}.`;
+}
+
+// What a view that was open was told, which no longer is about its joining.
+const WHILE_OPEN = { 516: 'The gateway no longer knows this view. It may have been started anew.' };
+
+/** What ended a view, `wasOpen` where the session had been shown. @param {import('./view.js').End} end */
+export function wordsOf(end, wasOpen) {
+  switch (end.by) {
+    case 'host': return 'The host has ended the session.';
+    case 'error': return meaningOf({ code: end.code, status: 0 });
+    case 'refusal': return (wasOpen && WHILE_OPEN[end.code]) || meaningOf(end);
+    case 'unreadable': return 'The gateway sent something that this page can’t read.';
+    default: return 'This page has a fault, and can’t go on.';
+  }
+}
+
+// The codes of a session that is over or lets nobody in: to ask again is no use.
+const FOR_GOOD = [516, 523, 768, 771];
+
+/** What can be tried behind an end: whether the same may work again, and the word for it. @param {import('./view.js').End} end */
+export function wayOn(end, request) {
+  const isOver = end.by === 'host' || end.by === 'error' || (end.by === 'refusal' && FOR_GOOD.includes(end.code));
+  if (end.by === 'refusal' && end.status === 401 && end.code === 0) return { word: 'Log in', isAgain: true, isReload: true };
+  if (request.id) return isOver ? { word: 'To the start', isAgain: false } : { word: 'Join again', isAgain: true };
+  return { word: 'Open another', isAgain: false };
+}
+
+/** Who may type. The gateway tells nobody whose keys count, so of who joins it is said what is done, and what came of it. */
+export function rightsOf({ id, readOnly }, isAnswered = true) {
+  if (readOnly) return 'You look on. Your keys are not sent.';
+  if (!id) return 'You may type. Nobody else may join.';
+  return isAnswered ? 'Your keys are sent.' : 'Your keys are sent, and nothing answers. This session may let you look on alone.';
+}
+"
+}
+
+// `/palette.js`.
+fn palette_js() -> &'static str {
+    "\
+// Colours: the sixteen of the gateway (docs/TERMINAL.md, \"Palette\") and others as they are seen, and what makes text
+// legible on its paper.
+
+const SIXTEEN = [0x000000, 0xaa0000, 0x00aa00, 0xaa5500, 0x0000aa, 0xaa00aa, 0x00aaaa, 0xaaaaaa, 0x555555, 0xff5555, 0x55ff55, 0xffff55, 0x5555ff, 0xff55ff, 0x55ffff, 0xffffff];
+
+/** The least contrast of text on its paper, by the measure of WCAG 2.1 for text of any size. */
+export const LEAST_CONTRAST = 4.5;
+
+/** @typedef {[red: number, green: number, blue: number]} Colour */
+
+/** A colour as a pixel of a canvas's memory. @param {Colour} colour */
+export const pixelOf = ([red, green, blue]) => ((255 << 24) | (blue << 16) | (green << 8) | red) >>> 0;
+/** @returns {Colour} */
+const colourOf = (pixel) => [pixel & 255, (pixel >> 8) & 255, (pixel >> 16) & 255];
+
+const colours = SIXTEEN.map((it) => /** @type {Colour} */ ([it >> 16, (it >> 8) & 255, it & 255]));
+const indices = new Map(colours.map((colour, index) => [pixelOf(colour), index]));
+
+/** The index of a pixel's colour. A new colour gets the next one; past 256 of them it is -1. */
+export function indexOf(pixel) {
+  const index = indices.get(pixel);
+  if (index !== undefined) return index;
+  if (colours.length === 256) return -1;
+  indices.set(pixel, colours.length);
+  return colours.push(colourOf(pixel)) - 1;
+}
+
+/** The colour of an index. @returns {Colour} */
+export const paperColour = (index) => colours[index];
+
+// The relative luminance of WCAG 2.1.
+function luminance(colour) {
+  const [red, green, blue] = colour.map((it) => (it <= 10 ? it / 255 / 12.92 : ((it / 255 + 0.055) / 1.055) ** 2.4));
+  return 0.2126 * red + 0.7152 * green + 0.0722 * blue;
+}
+
+/** The contrast of two colours, 1 to 21. @param {Colour} one @param {Colour} other */
+export function contrast(one, other) {
+  const [less, more] = [luminance(one), luminance(other)].sort((a, b) => a - b);
+  return (more + 0.05) / (less + 0.05);
+}
+
+const BLACK = /** @type {Colour} */ ([0, 0, 0]);
+const WHITE = /** @type {Colour} */ ([255, 255, 255]);
+const lifted = new Map();
+
+/** The colour of an ink on a paper: its own, or as little lighter or darker as gives it the least contrast. @returns {Colour} */
+export function inkColour(ink, paper) {
+  const key = ink * 256 + paper;
+  let colour = lifted.get(key);
+  if (colour === undefined) lifted.set(key, colour = lift(colours[ink], colours[paper]));
+  return colour;
+}
+
+function lift(ink, paper) {
+  const end = contrast(WHITE, paper) >= LEAST_CONTRAST ? WHITE : BLACK;
+  for (let part = 0; part < 64; part++) {
+    const colour = /** @type {Colour} */ (ink.map((it, k) => Math.round(it + ((end[k] - it) * part) / 64)));
+    if (contrast(colour, paper) >= LEAST_CONTRAST) return colour;
+  }
+  return end;
+}
+
+/** A colour as CSS has it. @param {Colour} colour */
+export const cssOf = (colour) => `rgb(${colour.join(',')})`;
+"
+}
+
+// `/play.css`.
+fn play_css() -> &'static str {
+    "\
+/* The page of the player: the picture, the bar below it, and one line of text. */
+#screen { cursor: default; }
+#controls { display: flex; flex-wrap: wrap; gap: .4em 1em; align-items: center; padding: .4em .8em; background: var(--raised); border-top: 1px solid var(--edge); }
+#bar { flex: 1; min-width: 12em; padding: 0; }
+#controls label { display: flex; gap: .4em; align-items: center; }
+#jump { flex-direction: row; gap: .5em; width: auto; padding: 0; background: none; border: 0; }
+#jump input { width: 9em; }
+#place { font-variant-numeric: tabular-nums; }
+#again { margin-left: auto; }
+body[data-state=\"ready\"] footer::before { background: var(--good); }
+"
+}
+
+// `/play.html`.
+fn play_html() -> &'static str {
+    "\
+<!doctype html>
+<html lang=\"en\">
+<head>
+<meta charset=\"utf-8\">
+<meta name=\"viewport\" content=\"width=device-width, initial-scale=1\">
+<meta name=\"color-scheme\" content=\"dark light\">
+<title>recording</title>
+<link rel=\"icon\" href=\"data:,\">
+<link rel=\"stylesheet\" href=\"style.css\">
+<link rel=\"stylesheet\" href=\"play.css\">
+<script type=\"module\" src=\"play.js\"></script>
+</head>
+<body data-state=\"idle\">
+<main>
+  <form id=\"open\">
+    <h1>Play a recording</h1>
+    <label>Files of a recording <input name=\"files\" type=\"file\" multiple></label>
+    <p>The recording, and where there is one its file of moments, <code>.times</code>.</p>
+    <label>or its address <input name=\"address\" autocomplete=\"off\" autocapitalize=\"off\" spellcheck=\"false\"></label>
+    <label>and that of its moments <input name=\"moments\" autocomplete=\"off\" autocapitalize=\"off\" spellcheck=\"false\"></label>
+    <button>Open</button>
+    <p>Nothing is sent anywhere: the recording is played in this page.</p>
+  </form>
+  <div id=\"screen\" hidden>
+    <div id=\"terminal\" role=\"img\" aria-label=\"terminal\">
+      <canvas id=\"picture\" width=\"640\" height=\"384\"></canvas>
+      <canvas id=\"sharp\" width=\"640\" height=\"384\"></canvas>
+    </div>
+  </div>
+</main>
+<div id=\"controls\" hidden>
+  <button id=\"play\">Play</button>
+  <input id=\"bar\" type=\"range\" min=\"0\" max=\"0\" step=\"1\" value=\"0\" aria-label=\"place in the recording\">
+  <label>Speed <select id=\"speed\"><option>0.25</option><option>0.5</option><option selected>1</option><option>2</option><option>4</option><option>16</option><option>64</option></select></label>
+  <form id=\"jump\"><label>Stamp <input name=\"stamp\" inputmode=\"numeric\" pattern=\"[0-9]{1,20}\" title=\"a number\" required></label> <button>Jump</button></form>
+</div>
+<footer>
+  <span id=\"message\" role=\"status\"></span>
+  <span id=\"place\"></span>
+  <span id=\"measure\"></span>
+  <button id=\"again\" hidden>Open another</button>
+</footer>
+</body>
+</html>
+"
+}
+
+// `/play.js`.
+fn play_js() -> &'static str {
+    "\
+// The page that plays a recording: opens it by files or an address, and shows its syncs one after the other, at a
+// speed, or the one that is asked for.
+
+import { cellsOf } from './cells.js';
+import { kept } from './choices.js';
+import { CELL_HEIGHT, CELL_WIDTH } from './font.js';
+import { Unreadable } from './instructions.js';
+import { Player, momentsOf } from './player.js';
+import { Sharp, advance, cellFor } from './sharp.js';
+
+/** @param {string} id @returns {any} the element of the page */
+const at = (id) => document.getElementById(id);
+
+// What is left free around the picture, both sides together.
+const FRAME = 20;
+
+/** The terminal, which shows the visible layer of a player: as sharp text, or as its own pixels where those are chosen
+ *  on the page of the terminal. */
+class Screen {
+  #picture;
+  #context;
+  #sharp;
+  #isExact = kept().text === 'exact';
+  #cells = new Int32Array(0);
+
+  constructor(picture, sharp) {
+    this.#picture = picture;
+    this.#context = picture.getContext('2d', { alpha: false, willReadFrequently: true });
+    this.#sharp = new Sharp(sharp);
+    at('screen').dataset.text = this.#isExact ? 'exact' : 'sharp';
+    new ResizeObserver(() => this.#fit()).observe(at('screen'));
+  }
+
+  clear() {
+    this.#context.clearRect(0, 0, this.#picture.width, this.#picture.height);
+    this.#sharp.clear();
+  }
+
+  show({ width, height, pixels }) {
+    if (width === 0 || height === 0) return;
+    const isOther = this.#picture.width !== width || this.#picture.height !== height || this.#cells.length === 0;
+    if (isOther) Object.assign(this.#picture, { width, height });
+    this.#context.putImageData(new ImageData(new Uint8ClampedArray(pixels.buffer), width, height), 0, 0);
+    this.#cells = cellsOf(pixels, width, height);
+    if (isOther) this.#fit();
+    else if (!this.#isExact) this.#sharp.show(this.#cells, this.#pictureAt);
+  }
+
+  #pictureAt = (x, y) => new Uint32Array(this.#context.getImageData(x * CELL_WIDTH, y * CELL_HEIGHT, CELL_WIDTH, CELL_HEIGHT).data.buffer);
+
+  // As large as the window has room for. Of its own pixels each is as large as a whole number of the device's.
+  #fit() {
+    const { clientWidth, clientHeight } = at('screen');
+    if (clientWidth === 0 || this.#cells.length === 0) return;
+    const [columns, rows] = [Math.floor(this.#picture.width / CELL_WIDTH), Math.floor(this.#picture.height / CELL_HEIGHT)];
+    const room = { width: (clientWidth - FRAME) * devicePixelRatio, height: (clientHeight - FRAME) * devicePixelRatio };
+    const factor = Math.max(1, Math.floor(Math.min(room.width / this.#picture.width, room.height / this.#picture.height)));
+    const cell = this.#isExact ? { width: CELL_WIDTH * factor, height: CELL_HEIGHT * factor } : cellFor({ columns, rows, room, wanted: 0, ratio: advance() });
+    Object.assign(at('terminal').style, { width: `${columns * cell.width / devicePixelRatio}px`, height: `${rows * cell.height / devicePixelRatio}px` });
+    if (this.#isExact) return;
+    this.#sharp.fit(columns, rows, cell);
+    this.#sharp.show(this.#cells, this.#pictureAt);
+  }
+}
+
+const screen = new Screen(at('picture'), at('sharp'));
+let player = null;
+// While it plays: the moment of the recording and that of the clock from which it goes on.
+let clock = null;
+
+// The state is on the page's body, for its style and for whoever tests it.
+function tell(state, message = '') {
+  document.body.dataset.state = state;
+  at('message').textContent = message;
+}
+
+// What a person reads of a moment.
+function wordsFor(moment) {
+  if (!player.hasMoments) return `stamp ${moment}`;
+  const seconds = Math.floor(moment / 1000);
+  const two = (number) => String(number).padStart(2, '0');
+  return `${Math.floor(seconds / 3600)}:${two(Math.floor(seconds / 60) % 60)}:${two(seconds % 60)}.${String(moment % 1000).padStart(3, '0')}`;
+}
+
+function show(k) {
+  player.seek(k);
+  screen.show(player.visible);
+  document.body.dataset.stamp = player.syncs[k].stamp;
+  document.body.dataset.sync = k;
+  tellPlace();
+}
+
+function tellPlace() {
+  at('place').textContent = `${wordsFor(player.syncs[player.at].moment)}, picture ${player.at + 1} of ${player.syncs.length}`;
+}
+
+// Shows the sync of this number, one of several perhaps that have its moment.
+function showOnly(k) {
+  stop();
+  show(k);
+  at('bar').value = player.syncs[k].moment;
+}
+
+const step = (by) => showOnly(Math.min(Math.max(player.at + by, 0), player.syncs.length - 1));
+
+// The sync at a moment, or the first one where that is later.
+const syncAt = (moment) => Math.max(0, player.find(moment));
+
+// Shows what a moment has, and goes on from there where it plays.
+function goTo(moment) {
+  if (player.syncs.length === 0) return;
+  const k = syncAt(moment);
+  if (k !== player.at) show(k);
+  at('bar').value = moment;
+  if (clock) clock = { moment, since: performance.now() };
+}
+
+function stop() {
+  clock = null;
+  at('play').textContent = 'Play';
+  document.body.removeAttribute('data-playing');
+}
+
+function play() {
+  const [first, last] = [player.syncs[0].moment, player.syncs.at(-1).moment];
+  const moment = Number(at('bar').value) >= last ? first : Number(at('bar').value);
+  goTo(moment);
+  clock = { moment, since: performance.now() };
+  at('play').textContent = 'Pause';
+  document.body.dataset.playing = '';
+  requestAnimationFrame(tick);
+}
+
+// Each paint of the browser shows the sync of its moment; those between are played and not shown.
+function tick(now) {
+  if (!clock) return;
+  const moment = clock.moment + Math.max(0, now - clock.since) * Number(at('speed').value);
+  const last = player.syncs.at(-1).moment;
+  const k = syncAt(Math.min(moment, last));
+  if (k !== player.at) show(k);
+  at('bar').value = Math.min(moment, last);
+  if (moment >= last) stop();
+  else requestAnimationFrame(tick);
+}
+
+// How far the recording was read, as a person reads it; the bar reaches as far.
+function tellRead() {
+  const { syncs, read, length } = player;
+  if (syncs.length === 0) return;
+  if (player.at < 0) show(0);
+  tellPlace();
+  Object.assign(at('bar'), { min: syncs[0].moment, max: syncs.at(-1).moment });
+  at('controls').hidden = false;
+  if (read < length) at('message').textContent = `Reading: ${Math.floor(100 * read / length)} %`;
+}
+
+async function start(bytes, moments) {
+  at('open').hidden = true;
+  at('screen').hidden = false;
+  at('again').hidden = false;
+  stop();
+  screen.clear();
+  tell('reading', 'Reading …');
+  player = new Player(bytes, moments);
+  at('measure').textContent = player.hasMoments ? 'The bar is by the moments at which it was recorded.' : 'The bar is by stamps: the recording has no moments.';
+  const own = player;
+  await own.index(() => { if (own === player) tellRead(); });
+  if (own !== player) return;
+  goTo(Number(at('bar').value));
+  if (player.syncs.length === 0) tell('ended', 'There is no picture in it.');
+  else if (player.fault) tell('ready', 'From some place on it can’t be read; what stands before that is played.');
+  else tell('ready');
+}
+
+async function bytesAt(address) {
+  const response = await fetch(address);
+  if (!response.ok) throw new Error(`${address}: ${response.status}`);
+  return new Uint8Array(await response.arrayBuffer());
+}
+
+const textIn = (bytes) => new TextDecoder().decode(bytes);
+
+// Of files the one whose name ends so has the moments, and another one is the recording.
+async function openFiles(files) {
+  const times = files.find(({ name }) => name.endsWith('.times'));
+  const recording = files.find((file) => file !== times);
+  if (!recording) throw new Error('a file of moments alone is no recording');
+  await start(new Uint8Array(await recording.arrayBuffer()), times ? momentsOf(await times.text()) : null);
+}
+
+async function openAddress(address, moments) {
+  await start(await bytesAt(address), moments ? momentsOf(textIn(await bytesAt(moments))) : null);
+}
+
+// Whatever can't be opened is told, and another one can be.
+async function opening(opened) {
+  try {
+    await opened;
+  } catch (fault) {
+    at('again').hidden = false;
+    tell('ended', fault instanceof Unreadable ? 'This can’t be read as a recording.' : `It can’t be opened: ${fault.message}`);
+  }
+}
+
+function begin() {
+  player = null;
+  stop();
+  for (const id of ['screen', 'controls', 'again']) at(id).hidden = true;
+  for (const id of ['place', 'measure']) at(id).textContent = '';
+  at('open').hidden = false;
+  tell('idle');
+}
+
+at('open').addEventListener('submit', (event) => {
+  event.preventDefault();
+  const given = new FormData(at('open'));
+  const files = /** @type {File[]} */ (given.getAll('files')).filter(({ name }) => name !== '');
+  if (files.length > 0) opening(openFiles(files));
+  else if (given.get('address') !== '') {
+    const asked = new URLSearchParams({ recording: String(given.get('address')) });
+    if (given.get('moments')) asked.set('moments', String(given.get('moments')));
+    location.hash = String(asked);
+  }
+});
+const playOrStop = () => { if (clock) stop(); else play(); };
+at('play').addEventListener('click', playOrStop);
+// A step of the bar itself would be a millisecond.
+const STEPS = { ArrowLeft: -1, ArrowDown: -1, ArrowRight: 1, ArrowUp: 1 };
+at('bar').addEventListener('keydown', (event) => {
+  if (!(event.key in STEPS)) return;
+  event.preventDefault();
+  step(STEPS[event.key]);
+});
+addEventListener('keydown', (event) => {
+  if (event.key !== ' ' || at('controls').hidden || /** @type {Element} */ (event.target).matches('button, select, input:not([type=range])')) return;
+  event.preventDefault();
+  playOrStop();
+});
+at('bar').addEventListener('input', () => goTo(Number(at('bar').value)));
+at('speed').addEventListener('change', () => { if (clock) clock = { moment: Number(at('bar').value), since: performance.now() }; });
+at('jump').addEventListener('submit', (event) => {
+  event.preventDefault();
+  const stamp = Number(new FormData(at('jump')).get('stamp'));
+  showOnly(Math.max(0, player.findStamp(stamp)));
+});
+at('again').addEventListener('click', () => { if (location.hash) location.hash = ''; else begin(); });
+// The address names the recording, so that a link to this page plays it.
+function follow() {
+  const asked = new URLSearchParams(location.hash.slice(1));
+  begin();
+  if (asked.get('recording')) opening(openAddress(asked.get('recording'), asked.get('moments')));
+}
+addEventListener('hashchange', follow);
+follow();
+"
+}
+
+// `/player.js`.
+fn player_js() -> &'static str {
+    "\
+// A player of recordings: the text of instructions is read once, from its beginning, and any of its syncs is shown
+// from the picture that was kept before it. It knows of no canvas, so it can be tried without a browser.
+
+import { Unreadable } from './instructions.js';
+import { Layers } from './layers.js';
+
+/** A picture is kept every so many characters of the recording, or sooner, where drawing took long. */
+const KEPT_EVERY = 2 * 1024 * 1024;
+/** How long drawing from a kept picture may take, in milliseconds, as long as few are kept. */
+const KEPT_AFTER = 30;
+const MOST_KEPT = 512;
+/** How long a part of the reading takes, in milliseconds, before whoever shows it has a turn. */
+const PART = 25;
+
+// Where the value of so many characters ends that begins at a place. A character has two units where it is a surrogate
+// pair.
+function endOf(text, start, characters) {
+  const end = start + characters;
+  if (!/[\\ud800-\\udfff]/.test(text.slice(start, end))) return end;
+  let at = start;
+  for (let n = 0; n < characters && at < text.length; n++) at += text.codePointAt(at) > 0xffff ? 2 : 1;
+  return at;
+}
+
+/** The instructions of a text from a place on, each with the place behind it. One that isn't finished is left out. */
+function* instructionsFrom(text, start) {
+  let at = start;
+  while (at < text.length) {
+    const instruction = [];
+    for (let separator = ','; separator === ',';) {
+      const dot = text.indexOf('.', at);
+      const length = text.slice(at, dot < 0 ? text.length : dot);
+      if (dot < 0 && /^[0-9]{0,5}$/.test(length)) return;
+      if (!/^[0-9]{1,5}$/.test(length)) throw new Unreadable(`no length at ${at}`);
+      const end = endOf(text, dot + 1, Number(length));
+      if (end >= text.length) return;
+      instruction.push(text.slice(dot + 1, end));
+      separator = text[end];
+      if (separator !== ',' && separator !== ';') throw new Unreadable(`no end at ${end}`);
+      at = end + 1;
+    }
+    yield { instruction, end: at };
+  }
+}
+
+// Pixels in a quarter of the room, where they have few colours, as those of a terminal do.
+function packed(pixels) {
+  const numbers = new Map();
+  const places = new Uint8Array(pixels.length);
+  let last = 0;
+  let number = 0;
+  for (let at = 0; at < pixels.length; at++) {
+    if (pixels[at] !== last || at === 0) {
+      last = pixels[at];
+      number = numbers.get(last) ?? numbers.size;
+      if (number === 256) return { pixels: pixels.slice() };
+      numbers.set(last, number);
+    }
+    places[at] = number;
+  }
+  return { colours: Uint32Array.from(numbers.keys()), places };
+}
+
+// Puts packed pixels into others.
+function unpack({ pixels, colours, places }, into) {
+  if (pixels) into.set(pixels);
+  else for (let at = 0; at < places.length; at++) into[at] = colours[places[at]];
+}
+
+/** A view whose picture can be kept: the layers, and what of each can't be read back from them. */
+class View {
+  #layers = new Layers();
+  // Of each layer its size, its path and whether it was filled, by the layer's name.
+  #shapes = new Map();
+
+  get visible() {
+    return this.#layers.visible;
+  }
+
+  #shape(name) {
+    if (!this.#shapes.has(name)) this.#shapes.set(name, { width: 0, height: 0, path: [], isFilled: false });
+    return this.#shapes.get(name);
+  }
+
+  draw(instruction) {
+    if (!this.#layers.draw(instruction)) return;
+    const [opcode, ...given] = instruction;
+    if (opcode === 'size') Object.assign(this.#shape(given[0]), { width: Number(given[1]), height: Number(given[2]) });
+    else if (opcode === 'rect') this.#add(this.#shape(given[0]), given.slice(1));
+    else if (opcode === 'cfill') this.#shape(given[1]).isFilled = true;
+  }
+
+  #add(shape, rectangle) {
+    if (shape.isFilled) shape.path = [];
+    shape.isFilled = false;
+    shape.path.push(rectangle);
+  }
+
+  /** A picture of all layers, from which `View.of` makes a view like this one. */
+  picture() {
+    const { width, height } = this.visible;
+    const pixels = this.visible.pixels.slice();
+    // The pixels of the other layers are read by way of the visible one.
+    const layers = [...this.#shapes].map(([name, shape]) => {
+      const kept = { ...shape, path: [...shape.path], name };
+      if (name === '0') return { ...kept, packed: packed(pixels) };
+      this.#clear(shape.width, shape.height);
+      this.#layers.draw(['copy', name, 0, 0, shape.width, shape.height, 14, '0', 0, 0]);
+      return { ...kept, packed: packed(this.visible.pixels) };
+    });
+    this.#clear(width, height);
+    this.visible.pixels.set(pixels);
+    return layers;
+  }
+
+  /** A view that a picture was kept of. */
+  static of(picture) {
+    const view = new View();
+    // Paths come first, while no layer has a pixel that a fill would change.
+    for (const { name, path, isFilled, width, height } of picture) {
+      for (const rectangle of path) view.#layers.draw(['rect', name, ...rectangle]);
+      if (isFilled) view.#layers.draw(['cfill', 14, name, 0, 0, 0, 255]);
+      Object.assign(view.#shape(name), { width, height, path: [...path], isFilled });
+    }
+    for (const { name, width, height, packed } of picture) {
+      if (name === '0') continue;
+      view.#clear(width, height);
+      unpack(packed, view.visible.pixels);
+      view.#layers.draw(['size', name, width, height]);
+      view.#layers.draw(['copy', '0', 0, 0, width, height, 14, name, 0, 0]);
+    }
+    const visible = picture.find(({ name }) => name === '0');
+    if (visible) {
+      view.#clear(visible.width, visible.height);
+      unpack(visible.packed, view.visible.pixels);
+    } else {
+      view.#clear(0, 0);
+    }
+    return view;
+  }
+
+  // The visible layer with no pixels but clear ones.
+  #clear(width, height) {
+    this.#layers.draw(['size', '0', 0, 0]);
+    this.#layers.draw(['size', '0', width, height]);
+  }
+}
+
+function textOf(bytes) {
+  try {
+    return new TextDecoder('utf-8', { fatal: true, ignoreBOM: true }).decode(bytes);
+  } catch {
+    throw new Unreadable('no UTF-8');
+  }
+}
+
+/** The moments of a recording, of the lines `MILLISECONDS BYTES` of a `.times` file, one a read. */
+export function momentsOf(text) {
+  let bytes = 0;
+  return text.split('\\n').filter((line) => line !== '').map((line) => {
+    const found = /^([0-9]{1,15}) ([0-9]{1,15})$/.exec(line);
+    if (found === null) throw new Unreadable(`no moment: ${line}`);
+    bytes += Number(found[2]);
+    return { moment: Number(found[1]), bytes };
+  });
+}
+
+/** A recording that is played. Its syncs are known as far as it was read. */
+export class Player {
+  /** Where each sync ends, in characters, its stamp, and its moment, which is the stamp where no moments are given. */
+  syncs = [];
+  /** How many characters were read. */
+  read = 0;
+  /** Why the reading ended before the text did, where it did: an instruction that can't be read. */
+  fault = null;
+  #text;
+  #moments;
+  #nextMoment = 0;
+  #bytes = 0;
+  #isAscii;
+  // The pictures that were kept, with the number of syncs before each.
+  #kept = [{ count: 0, end: 0, picture: [] }];
+  #spacing = 1;
+  // What is shown, and how many syncs were played for it.
+  #shown = new View();
+  #count = 0;
+
+  /** `bytes` is the recording, and `moments` what `momentsOf` gives of its times, or null. */
+  constructor(bytes, moments = null) {
+    this.#text = textOf(bytes);
+    this.#isAscii = this.#text.length === bytes.length;
+    this.#moments = moments;
+  }
+
+  /** How many characters the recording has. */
+  get length() {
+    return this.#text.length;
+  }
+
+  /** Whether the bar is by moments, and not by stamps. */
+  get hasMoments() {
+    return this.#moments !== null;
+  }
+
+  /** The visible layer's width, height and pixels at the sync that is shown. */
+  get visible() {
+    return this.#shown.visible;
+  }
+
+  /** The number of the sync that is shown, from 0, or -1 before the first. */
+  get at() {
+    return this.#count - 1;
+  }
+
+  /** Reads the recording to its end, or to what can't be read, and tells after each part how far it came. */
+  async index(tell = () => {}) {
+    const view = new View();
+    let kept = 0;
+    let spent = 0;
+    let start = performance.now();
+    try {
+      for (const { instruction, end } of instructionsFrom(this.#text, 0)) {
+        view.draw(instruction);
+        this.read = end;
+        if (instruction[0] !== 'sync') continue;
+        this.#addSync(instruction[1], end);
+        const now = performance.now();
+        if (end - kept >= KEPT_EVERY * this.#spacing || spent + now - start > KEPT_AFTER * this.#spacing) {
+          this.#keep(view, end);
+          kept = end;
+          spent = 0;
+          start = performance.now();
+        }
+        if (now - start > PART) {
+          spent += now - start;
+          tell();
+          await new Promise((resolve) => { setTimeout(resolve); });
+          start = performance.now();
+        }
+      }
+    } catch (fault) {
+      if (!(fault instanceof Unreadable)) throw fault;
+      this.fault = fault;
+    }
+    tell();
+  }
+
+  #addSync(stamp, end) {
+    const sync = { end, stamp: Number(stamp), moment: Number(stamp) };
+    if (this.#moments !== null) sync.moment = this.#momentOf(end);
+    this.syncs.push(sync);
+  }
+
+  // The moment of the read that brought the last byte before a place. Places come in order.
+  #momentOf(end) {
+    const before = this.syncs.at(-1)?.end ?? 0;
+    this.#bytes += this.#isAscii ? end - before : new TextEncoder().encode(this.#text.slice(before, end)).length;
+    while (this.#nextMoment < this.#moments.length - 1 && this.#moments[this.#nextMoment].bytes < this.#bytes) this.#nextMoment++;
+    return this.#moments[this.#nextMoment]?.moment ?? 0;
+  }
+
+  // Where there are many pictures, every second one goes, and those to come are further apart.
+  #keep(view, end) {
+    this.#kept.push({ count: this.syncs.length, end, picture: view.picture() });
+    if (this.#kept.length <= MOST_KEPT) return;
+    this.#kept = this.#kept.filter((_, place) => place % 2 === 0);
+    this.#spacing *= 2;
+  }
+
+  /** The number of the last sync whose moment isn't above, or -1 where there is none. Moments rise. */
+  find(moment) {
+    let [least, most] = [0, this.syncs.length];
+    while (least < most) {
+      const middle = (least + most) >> 1;
+      if (this.syncs[middle].moment <= moment) least = middle + 1;
+      else most = middle;
+    }
+    return least - 1;
+  }
+
+  /** The number of the last sync whose stamp isn't above, or -1. */
+  findStamp(stamp) {
+    return this.syncs.filter((sync) => sync.stamp <= stamp).length - 1;
+  }
+
+  /** Shows the sync of this number: from the one that is shown, or the picture that was kept nearest before it. */
+  seek(k) {
+    const nearest = this.#kept.filter(({ count }) => count <= k + 1).at(-1);
+    const goesOn = this.#count <= k + 1 && this.#count >= nearest.count;
+    const from = goesOn ? this.syncs[this.#count - 1]?.end ?? 0 : nearest.end;
+    if (!goesOn) {
+      this.#shown = View.of(nearest.picture);
+      this.#count = nearest.count;
+    }
+    const to = this.syncs[k].end;
+    if (from < to) {
+      for (const { instruction, end } of instructionsFrom(this.#text, from)) {
+        this.#shown.draw(instruction);
+        if (end === to) break;
+      }
+    }
+    this.#count = k + 1;
+  }
+}
+"
+}
+
+// `/request.js`.
+fn request_js() -> &'static str {
+    "\
+// What the page is asked for, by the part of its address behind `#`, which a browser sends to no server:
+//
+//   #id=$UUID                      joins a session, and types if the session lets joiners type
+//   #id=$UUID&read-only            joins a session, and only looks on
+//   #hostname=HOST&port=PORT&columns=80&rows=24&terminal-type=TYPE      fills the form that opens a session
+//
+// and with &keep-size the session's size stays, whatever the window's. One of given columns or rows stays, too.
+
+import { CELL_HEIGHT, CELL_WIDTH } from './font.js';
+
+/** The terminal type that a host is told: the one of Debian's ncurses-base that the screen and the keys do best
+ *  (`tools/terminal-types`). */
+export const TERMINAL_TYPE = 'linux';
+
+/** What an address asks for, or null where it asks for nothing. */
+export function requestOf(fragment) {
+  const given = new URLSearchParams(fragment.replace(/^#/, ''));
+  const id = given.get('id');
+  if (id) return { id, readOnly: given.has('read-only'), keepsSize: given.has('keep-size') };
+  if (!given.get('hostname')) return null;
+  return sessionOf(given);
+}
+
+/** A session that is to be opened, of the fields of the form. Nobody is told its ID, so nobody else may join. */
+export function sessionOf(fields) {
+  const field = (name, other) => String(fields.get(name) || other);
+  const [columns, rows] = [field('columns', ''), field('rows', '')];
+  const keepsSize = fields.has('keep-size') || columns !== '' || rows !== '';
+  return { hostname: field('hostname', ''), port: field('port', '23'), columns, rows, type: field('terminal-type', TERMINAL_TYPE), readOnly: false, keepsSize };
+}
+
+/** The size of a session that is opened: columns and rows that aren't given are those for which the window has room. */
+export const sizeOf = ({ columns, rows }, room) => ({ columns: Number(columns || room.columns), rows: Number(rows || room.rows) });
+
+/** The fields of the tunnel's form for it, and for a session that is opened its size. */
+export function formOf({ id, readOnly, hostname, port, type }, size) {
+  if (id) return { id, 'read-only': String(readOnly) };
+  return { hostname, port, 'terminal-type': type, sharing: 'none', width: String(size.columns * CELL_WIDTH), height: String(size.rows * CELL_HEIGHT) };
+}
+
+/** What is wrong with a field of the form, in words, or nothing. The limits are the gateway's (docs/PROTOCOL.md). */
+export function faultOf(name, value) {
+  const isIn = (least, most) => /^[0-9]{1,5}$/.test(value) && Number(value) >= least && Number(value) <= most;
+  switch (name) {
+    case 'hostname': return value.trim() ? '' : 'Name the host to connect to.';
+    case 'port': return isIn(1, 65535) ? '' : 'A port is a number from 1 to 65535.';
+    case 'columns': return value === '' || isIn(1, 512) ? '' : 'A screen has 1 to 512 columns.';
+    case 'rows': return value === '' || isIn(1, 256) ? '' : 'A screen has 1 to 256 rows.';
+    case 'terminal-type': return /^[!-~]{1,40}$/.test(value) ? '' : 'A terminal type is a word of at most 40 letters, digits and signs.';
+    case 'session': return idIn(value) ? '' : 'Give the link that you were sent, or the ID: $ and 36 characters.';
+    default: return '';
+  }
+}
+
+const idIn = (text) => text.replace('%24', '$').match(/\\$[0-9a-f]{8}(-[0-9a-f]{4}){3}-[0-9a-f]{12}/)?.[0];
+
+/** The address that others join by, where the session's ID is known. */
+export function linkOf({ id, readOnly, keepsSize = false }, address) {
+  return `${address.split('#')[0]}#id=${encodeURIComponent(id)}${readOnly ? '&read-only' : keepsSize ? '&keep-size' : ''}`;
+}
+
+/** The address that joins the session of a text, which is its ID or a link to it. A link keeps its own way. */
+export function joinBy(text, { readOnly = false, keepsSize = false }, address) {
+  const has = (word) => new RegExp(`[#&]${word}`).test(text);
+  return linkOf({ id: idIn(text), readOnly: readOnly || has('read-only'), keepsSize: keepsSize || has('keep-size') }, /^https?:/.test(text) ? text : address);
+}
+
+/** What a window with it is called. A session's first digits tell it from others, and lead nobody into it. */
+export function titleOf({ id, hostname, readOnly }) {
+  if (!id) return hostname;
+  return `${readOnly ? 'looking on at' : 'session'} ${id.slice(0, 9)}`;
+}
+"
+}
+
+// `/rest.js`.
+fn rest_js() -> &'static str {
+    "\
+// How long a page waits before it asks again.
+
+const SHORT = 10;
+const LONGEST = 160;
+
+/** Rests between requests that found nothing: none behind the first, then 10 milliseconds, 20, 40, 80, and 160 from
+ *  there on. */
+export class Rest {
+  #length = 0;
+  #end = () => {};
+
+  /** Rests once. */
+  async once() {
+    await new Promise((end) => {
+      this.#end = () => end(undefined);
+      setTimeout(end, this.#length);
+    });
+    this.#length = Math.min(2 * this.#length || SHORT, LONGEST);
+  }
+
+  /** Ends a rest that is under way, and begins anew. */
+  cut() {
+    this.#end();
+    this.#length = 0;
+  }
+}
+"
+}
+
+// `/scrollback.js`.
+fn scrollback_js() -> &'static str {
+    "\
+// The lines that have left the screen at its top, as far as they were seen: text with its colours, above the screen.
+
+import { faceOf, inkOf, isUnderlined, paperOf, textOf } from './cells.js';
+import { cssOf, inkColour, paperColour } from './palette.js';
+import { rowElement } from './textlayer.js';
+
+/** How many lines stand in an element together, so that a new line moves few elements. */
+const TOGETHER = 100;
+const PLAIN_INK = 7;
+
+// Where the look of the characters of a line changes: the ends of its runs of one look. A blank goes with any ink.
+function* runsOf(cells, length) {
+  let start = 0;
+  for (let x = 1; x <= length; x++) {
+    if (x < length && isAlike(cells[x - 1], cells[x])) continue;
+    yield cells.subarray(start, x);
+    start = x;
+  }
+}
+
+const look = (cell) => cell & 0x1ffff;
+const isAlike = (one, other) => look(one) === look(other) || (faceOf(other) === 0x20 && !isUnderlined(one) && !isUnderlined(other) && paperOf(one) === paperOf(other));
+
+// The characters of a run, with the blanks at its end.
+const charactersOf = (run) => textOf(run).padEnd(run.length);
+
+/** A line of cells as an element with its colours. */
+export function lineElement(cells) {
+  let length = cells.length;
+  while (length > 0 && faceOf(cells[length - 1]) === 0x20 && paperOf(cells[length - 1]) === 0 && !isUnderlined(cells[length - 1])) length--;
+  const row = rowElement('');
+  for (const run of runsOf(cells, length)) row.append(runElement(run));
+  return row;
+}
+
+function runElement(run) {
+  const cell = run[0];
+  const [ink, paper] = cell < 0 ? [PLAIN_INK, 0] : [inkOf(cell), paperOf(cell)];
+  if ((ink === PLAIN_INK || ink === paper) && paper === 0 && !isUnderlined(cell)) return charactersOf(run);
+  const span = document.createElement('span');
+  span.append(charactersOf(run));
+  span.style.color = cssOf(inkColour(ink, paper));
+  if (paper !== 0) span.style.backgroundColor = cssOf(paperColour(paper));
+  if (cell >= 0 && isUnderlined(cell)) span.style.textDecoration = 'underline';
+  return span;
+}
+
+/** The lines above a screen. */
+export class Scrollback {
+  #element;
+  #count = 0;
+  #isGap = false;
+  #most = 0;
+
+  constructor(element) {
+    this.#element = element;
+  }
+
+  /** How many lines are kept, about: the first ones go by the hundred. */
+  set most(lines) {
+    this.#most = lines;
+    if (lines === 0) this.clear();
+    else this.#cut();
+  }
+
+  /** Adds lines, each its cells, or null where some may be missing. @param {(Int32Array | null)[]} lines */
+  add(lines) {
+    if (lines.length === 0 || this.#most === 0) return;
+    for (const cells of lines) {
+      if (cells === null) this.#mark();
+      else this.#append(lineElement(cells));
+      this.#isGap = cells === null;
+    }
+    this.#cut();
+  }
+
+  clear() {
+    this.#element.replaceChildren();
+    this.#count = 0;
+    this.#isGap = false;
+  }
+
+  // One mark stands for as many gaps as there are behind each other, and none above the first line.
+  #mark() {
+    if (this.#isGap || this.#count === 0) return;
+    const mark = document.createElement('p');
+    mark.className = 'gap';
+    mark.textContent = 'Lines may be missing here.';
+    this.#element.lastElementChild.append(mark);
+  }
+
+  #append(line) {
+    if (this.#count % TOGETHER === 0) {
+      const block = document.createElement('div');
+      block.className = 'block';
+      this.#element.append(block);
+    }
+    const block = this.#element.lastElementChild;
+    block.append(line);
+    this.#count++;
+    // Lines may be wider than the screen is now.
+    const widest = Math.max(line.textContent.length, Number(block.style.getPropertyValue('--columns')));
+    block.style.setProperty('--columns', String(widest));
+    // A block that isn't seen isn't laid out, and has the height that its number of lines tells.
+    block.style.setProperty('--lines', String(((this.#count - 1) % TOGETHER) + 1));
+  }
+
+  #cut() {
+    while (this.#count - TOGETHER >= this.#most && this.#count > 0) {
+      this.#element.firstElementChild.remove();
+      this.#count -= Math.min(TOGETHER, this.#count);
+    }
+  }
+}
+"
+}
+
+// `/selection.js`.
+fn selection_js() -> &'static str {
+    "\
+// What is selected in the rows of a terminal, as text.
+
+/** The text that is selected within an element's rows: a line each, without the blanks at its end. */
+export function selectedText(element) {
+  const selection = document.getSelection();
+  if (selection === null || selection.isCollapsed || selection.rangeCount === 0) return '';
+  const range = selection.getRangeAt(0);
+  if (!range.intersectsNode(element)) return '';
+  const rows = [...element.querySelectorAll('.line')].filter((row) => range.intersectsNode(row));
+  const lines = rows.map((row) => partOf(row, range).replace(/[ \\n]+$/, ''));
+  // A whole line is selected up to the beginning of the next one, which isn't meant.
+  const last = rows[rows.length - 1];
+  if (lines.length > 1 && last.contains(range.endContainer) && isBefore(range, last)) lines.pop();
+  return lines.join('\\n');
+}
+
+// The text of the part of a row that lies in a range.
+function partOf(row, range) {
+  const part = document.createRange();
+  part.selectNodeContents(row);
+  if (row.contains(range.startContainer)) part.setStart(range.startContainer, range.startOffset);
+  if (row.contains(range.endContainer)) part.setEnd(range.endContainer, range.endOffset);
+  return part.toString();
+}
+
+// Whether a range ends before the first character of a row.
+function isBefore(range, row) {
+  const start = document.createRange();
+  start.selectNodeContents(row);
+  start.setEnd(range.endContainer, range.endOffset);
+  return start.toString() === '' && row.textContent !== '';
+}
+
+/** Copies what is selected, as the browser's menu does. It answers whether something was. */
+export function copySelected(element) {
+  return selectedText(element) !== '' && document.execCommand('copy');
+}
+
+/** Gives the browser the text of an element's rows, whenever what is selected there is copied. */
+export function copyAsLines(element) {
+  document.addEventListener('copy', (event) => {
+    const text = selectedText(element);
+    if (text === '' || document.activeElement instanceof HTMLInputElement) return;
+    event.clipboardData.setData('text/plain', text);
+    event.preventDefault();
+  });
+}
+
+/** What a click in the rows of a terminal does: it tells that keys are wanted, where nothing was selected by it, and with
+ *  Shift it selects from the click before. */
+export class Mouse {
+  #node = null;
+  #offset = 0;
+
+  constructor(element, wantsKeys) {
+    element.addEventListener('mousedown', (event) => this.#extend(event));
+    element.addEventListener('click', () => {
+      if (selectedText(element) !== '') return;
+      const selection = document.getSelection();
+      if (element.contains(selection?.anchorNode ?? null)) [this.#node, this.#offset] = [selection.anchorNode, selection.anchorOffset];
+      wantsKeys();
+    });
+  }
+
+  // The browser does so itself where something is selected.
+  #extend(event) {
+    const selection = document.getSelection();
+    if (!event.shiftKey || event.button !== 0 || selection?.isCollapsed === false || !this.#node?.isConnected) return;
+    const place = placeAt(event.clientX, event.clientY);
+    if (place === null) return;
+    event.preventDefault();
+    // Keys go to the terminal again once one is pressed, and the selection ends then.
+    /** @type {HTMLElement} */ (document.activeElement)?.blur();
+    const length = this.#node.data?.length ?? this.#node.childNodes.length;
+    selection.setBaseAndExtent(this.#node, Math.min(this.#offset, length), place.node, place.offset);
+  }
+}
+
+function placeAt(x, y) {
+  const document = /** @type {any} */ (globalThis.document);
+  if (document.caretPositionFromPoint) {
+    const place = document.caretPositionFromPoint(x, y);
+    return place && { node: place.offsetNode, offset: place.offset };
+  }
+  const range = document.caretRangeFromPoint?.(x, y);
+  return range ? { node: range.startContainer, offset: range.startOffset } : null;
+}
+"
+}
+
+// `/sharp.js`.
+fn sharp_js() -> &'static str {
+    "\
+// Sharp text: the cells of the screen, drawn with a font of the browser at the device's own pixels. Each picture of a
+// cell is made once, and then copied to where it stands; only cells that have changed are drawn.
+
+import { CELL_HEIGHT, CELL_WIDTH, BOX } from './font.js';
+import { PICTURE, faceOf, inkOf, isUnderlined, paperOf } from './cells.js';
+import { inkColour, paperColour, pixelOf } from './palette.js';
+
+/** The fonts that text is drawn with. */
+export const FAMILY = 'ui-monospace, Menlo, Consolas, \"DejaVu Sans Mono\", \"Liberation Mono\", monospace';
+
+/** The advance of a character, as a part of the font's size. */
+export function advance() {
+  const context = document.createElement('canvas').getContext('2d');
+  context.font = `100px ${FAMILY}`;
+  return context.measureText('M').width / 100;
+}
+
+/**
+ * The size of a cell in pixels of the device, and that of the font, whose advance is the cell's width.
+ * @typedef {{ width: number, height: number, font: number }} Cell
+ */
+
+// From one line of a text to the next, as a part of the font's size.
+const [LEAST_LINE, MOST_LINE] = [1.17, 1.3];
+const MOST_SIDE = 16000;
+const LEAST_WIDTH = 2;
+const MOST = { columns: 512, rows: 256 };
+
+/**
+ * The cell of a screen that fits into a room. Where a font's size is wanted, the cell has that size, whether it fits or
+ * not. All lengths are in pixels of the device. @returns {Cell}
+ */
+export function cellFor({ columns, rows, room, wanted, ratio }) {
+  const most = Math.max(LEAST_WIDTH, Math.floor(MOST_SIDE / Math.max(columns, 2 * rows)));
+  const wide = wanted ? Math.round(wanted * ratio) : Math.floor(Math.min(room.width / columns, (room.height / rows / LEAST_LINE) * ratio));
+  const width = Math.min(Math.max(wide, LEAST_WIDTH), most);
+  const font = width / ratio;
+  const high = wanted ? font * MOST_LINE : Math.min(room.height / rows, font * MOST_LINE);
+  return { width, height: Math.max(Math.floor(high), Math.ceil(font)), font };
+}
+
+/** How many columns and rows a room has, of cells that are so large, within what a session may have.
+ *  @param {{ width: number, height: number }} room @param {{ width: number, height: number }} cell
+ *  @param {import('./follow.js').Size} least */
+export function sizeFor(room, cell, least) {
+  const count = (length, side, fewest, most) => Math.min(Math.max(Math.floor(length / side), fewest), most);
+  return { columns: count(room.width, cell.width, least.columns, MOST.columns), rows: count(room.height, cell.height, least.rows, MOST.rows) };
+}
+
+/** A canvas that shows cells as sharp text. */
+export class Sharp {
+  #canvas;
+  #context;
+  #pen;
+  #columns = 0;
+  /** @type {Cell} */
+  #cell = { width: 0, height: 0, font: 0 };
+  #baseline = 0;
+  #image = new ImageData(1, 1);
+  #pixels = new Uint32Array(1);
+  // What is shown in each cell, and the pictures of cells, which are as large as cells.
+  #shown = new Int32Array(0);
+  #faces = new Map();
+  #tiles = new Map();
+  #mostTiles = 0;
+
+  constructor(canvas) {
+    this.#canvas = canvas;
+    this.#context = canvas.getContext('2d', { alpha: false });
+    this.#pen = document.createElement('canvas').getContext('2d', { willReadFrequently: true });
+  }
+
+  /** Sets the size of the screen and of its cells. Nothing is shown until `show`. */
+  fit(columns, rows, cell) {
+    const [width, height] = [columns * cell.width, rows * cell.height];
+    Object.assign(this.#canvas, { width, height });
+    this.#columns = columns;
+    this.#cell = cell;
+    this.#image = new ImageData(width, height);
+    this.#pixels = new Uint32Array(this.#image.data.buffer);
+    this.#shown = new Int32Array(columns * rows).fill(-2);
+    this.#faces.clear();
+    this.#tiles.clear();
+    this.#mostTiles = Math.ceil(2 ** 22 / (cell.width * cell.height));
+    Object.assign(this.#pen.canvas, { width: cell.width, height: cell.height });
+    this.#pen.font = `${cell.font}px ${FAMILY}`;
+    const { fontBoundingBoxAscent: above, fontBoundingBoxDescent: below } = this.#pen.measureText('M');
+    this.#baseline = Math.round((cell.height - above - below) / 2 + above);
+    this.#pen.fillStyle = this.#pen.strokeStyle = '#fff';
+  }
+
+  /** Shows nothing, until `fit` and `show`. */
+  clear() {
+    this.#context.clearRect(0, 0, this.#canvas.width, this.#canvas.height);
+  }
+
+  /**
+   * Shows cells, as many as `fit` told. `pictureAt` gives the pixels of the cell of a column and a row.
+   * @param {Int32Array} cells @param {(x: number, y: number) => Uint32Array} pictureAt
+   */
+  show(cells, pictureAt) {
+    const [columns, shown] = [this.#columns, this.#shown];
+    const rows = cells.length / columns;
+    /** @type {[y: number, left: number, right: number][]} */
+    const changed = [];
+    const tiles = Array(columns).fill(null);
+    for (let y = 0, k = 0; y < rows; y++) {
+      let [left, right] = [columns, 0];
+      for (let x = 0; x < columns; x++, k++) {
+        const cell = cells[k];
+        tiles[x] = null;
+        if (cell === shown[k] && cell !== PICTURE) continue;
+        tiles[x] = cell === PICTURE ? this.#enlarged(pictureAt(x, y)) : this.#tiles.get(cell) ?? this.#made(cell);
+        if (x < left) left = x;
+        right = x + 1;
+      }
+      if (right > 0) {
+        this.#place(tiles, y, left, right);
+        changed.push([y, left, right]);
+      }
+    }
+    shown.set(cells);
+    this.#paint(changed);
+  }
+
+  // One paint where most changed, else one a row.
+  #paint(changed) {
+    const { width, height } = this.#cell;
+    const put = (top, bottom, left, right) => this.#context.putImageData(this.#image, 0, 0, left * width, top * height, (right - left) * width, (bottom - top) * height);
+    if (changed.length < 8) changed.forEach(([y, left, right]) => put(y, y + 1, left, right));
+    else put(changed[0][0], changed[changed.length - 1][0] + 1, Math.min(...changed.map((it) => it[1])), Math.max(...changed.map((it) => it[2])));
+  }
+
+  // Places the pictures of a part of a row, pixel line by pixel line, as they lie in memory.
+  #place(tiles, y, left, right) {
+    const [pixels, width, height] = [this.#pixels, this.#cell.width, this.#cell.height];
+    for (let line = 0; line < height; line++) {
+      let to = ((y * height + line) * this.#columns + left) * width;
+      for (let x = left; x < right; x++) {
+        const tile = tiles[x];
+        if (tile === null) { to += width; continue; }
+        let from = line * width;
+        const end = from + width;
+        for (; from + 4 <= end; from += 4, to += 4) {
+          pixels[to] = tile[from];
+          pixels[to + 1] = tile[from + 1];
+          pixels[to + 2] = tile[from + 2];
+          pixels[to + 3] = tile[from + 3];
+        }
+        for (; from < end; from++, to++) pixels[to] = tile[from];
+      }
+    }
+  }
+
+  #made(cell) {
+    if (this.#tiles.size >= this.#mostTiles) this.#tiles.clear();
+    const tile = this.#drawn(cell);
+    this.#tiles.set(cell, tile);
+    return tile;
+  }
+
+  #drawn(cell) {
+    const paper = paperColour(paperOf(cell));
+    const ink = inkColour(inkOf(cell), paperOf(cell));
+    const strength = this.#face(faceOf(cell));
+    const tile = Uint32Array.from(strength, (part) => pixelOf(/** @type {any} */ (paper.map((it, k) => Math.round(it + ((ink[k] - it) * part) / 255)))));
+    if (isUnderlined(cell)) {
+      const { width, height, font } = this.#cell;
+      const thick = Math.max(1, Math.round(font / 15));
+      const top = Math.min(height - thick, this.#baseline + Math.max(1, Math.round(font / 9)));
+      tile.fill(pixelOf(ink), top * width, (top + thick) * width);
+    }
+    return tile;
+  }
+
+  // How much of each pixel of a cell a face covers, 0 to 255.
+  #face(face) {
+    let strength = this.#faces.get(face);
+    if (strength !== undefined) return strength;
+    const { width, height, font } = this.#cell;
+    this.#pen.clearRect(0, 0, width, height);
+    if (face === BOX) {
+      const thick = this.#pen.lineWidth = Math.max(1, Math.round(font / 14));
+      const [left, top] = [Math.ceil(width / 8) + thick / 2, this.#baseline - Math.round(font * 0.7) + thick / 2];
+      this.#pen.strokeRect(left, top, width - 2 * left, this.#baseline - top - thick / 2);
+    } else {
+      this.#pen.fillText(String.fromCharCode(face), 0, this.#baseline);
+    }
+    strength = this.#pen.getImageData(0, 0, width, height).data.filter((_, k) => k % 4 === 3);
+    this.#faces.set(face, strength);
+    return strength;
+  }
+
+  // A picture of a cell, pixel by pixel, as large as the cells here.
+  #enlarged(picture) {
+    const { width, height } = this.#cell;
+    const at = (k, x) => Math.floor(((k - x) / width / height) * CELL_HEIGHT) * CELL_WIDTH + Math.floor((x / width) * CELL_WIDTH);
+    return Uint32Array.from({ length: width * height }, (_, k) => picture[at(k, k % width)]);
+  }
+}
+"
+}
+
+// `/speech.js`.
+fn speech_js() -> &'static str {
+    "\
+// What a screen reader says by itself: the lines that are new, once they have settled, and at most a screen of them a
+// second.
+
+const SETTLED = 300;
+const BETWEEN = 1000;
+
+/** What is new in a line: what was added at its end, or all of it where it is another one. */
+export function newPart(before, now) {
+  return (now.startsWith(before) ? now.slice(before.length) : now).trim();
+}
+
+/** Says the new lines of a screen in an element that is a live region. */
+export class Speech {
+  #region;
+  #timers;
+  // The screen as it was last said, and as it is.
+  #said = [];
+  #lines = [];
+  #waiting = [];
+  #typed = '';
+  #timer = 0;
+  #first = 0;
+  #isOn = true;
+
+  /** `timers` has the calls of a browser's window for time. */
+  constructor(region, timers = { set: (act, time) => setTimeout(act, time), clear: (timer) => clearTimeout(timer), now: () => Date.now() }) {
+    this.#region = region;
+    this.#timers = timers;
+  }
+
+  get isOn() {
+    return this.#isOn;
+  }
+
+  set isOn(isOn) {
+    this.#isOn = isOn;
+    this.#waiting = [];
+    this.#said = this.#lines;
+    if (!isOn) this.#region.replaceChildren();
+  }
+
+  /** The screen has these lines, and those that are gone went off its top since the last call. */
+  note(lines, gone) {
+    for (const line of gone) {
+      const [before, ...rest] = this.#said;
+      this.#said = rest;
+      this.#await(before ?? '', line);
+    }
+    this.#lines = [...lines];
+    if (!this.#isOn) { this.#said = this.#lines; return; }
+    if (gone.length === 0 && lines.every((line, y) => line === (this.#said[y] ?? ''))) return;
+    const now = this.#timers.now();
+    if (this.#timer === 0) this.#first = now;
+    else this.#timers.clear(this.#timer);
+    this.#timer = this.#timers.set(() => this.#say(), Math.max(0, Math.min(SETTLED, this.#first + BETWEEN - now)));
+  }
+
+  /** The screen has so many columns now. What is left of a line isn't new. */
+  cut(columns) {
+    this.#said = this.#said.map((line) => line.slice(0, columns).trimEnd());
+  }
+
+  /** A character was typed, whose echo needs not be said. */
+  typed(character) {
+    this.#typed = (this.#typed + character).slice(-200);
+  }
+
+  #await(before, now) {
+    const part = this.#isOn ? newPart(before, now) : '';
+    if (part !== '') this.#waiting.push(part);
+    if (this.#waiting.length > 2 * this.#lines.length) this.#waiting.splice(0, this.#waiting.length - this.#lines.length);
+  }
+
+  #say() {
+    this.#timer = 0;
+    this.#lines.forEach((line, y) => this.#await(this.#said[y] ?? '', line));
+    this.#said = this.#lines;
+    const parts = this.#waiting.slice(-this.#lines.length);
+    this.#waiting = [];
+    const isEcho = parts.length === 1 && this.#typed.endsWith(parts[0]);
+    this.#typed = '';
+    if (isEcho || parts.length === 0) return;
+    this.#region.replaceChildren(...parts.map((part) => {
+      const line = document.createElement('p');
+      line.textContent = part;
+      return line;
+    }));
+  }
+}
+"
+}
+
+// `/style.css`.
+fn style_css() -> &'static str {
+    "\
+/* The terminal fills the window, with one line of text below it. */
+:root { --ground: #101316; --field: #101316; --raised: #181c21; --edge: #2c333b; --text: #d7dce1; --quiet: #9aa5b1; --accent: #6cb2f5; --good: #58c48a; --warn: #e8bd4f; --bad: #f2777a; color-scheme: dark; }
+@media (prefers-color-scheme: light) { :root { --ground: #dfe3e7; --field: #fff; --raised: #f3f5f7; --edge: #b9c1c9; --text: #1b2127; --quiet: #4d5863; --accent: #1a63b0; --good: #1d8549; --warn: #7a5000; --bad: #b3261e; color-scheme: light; } }
+* { box-sizing: border-box; }
+html, body { height: 100%; margin: 0; background: var(--ground); color: var(--text); font: 14px/1.45 system-ui, sans-serif; }
+body { display: flex; flex-direction: column; height: 100dvh; }
+main { flex: 1; min-height: 0; display: grid; place-items: center; overflow: auto; }
+[hidden] { display: none !important; }
+.unseen { position: absolute; width: 1px; height: 1px; margin: 0; overflow: hidden; clip-path: inset(50%); white-space: nowrap; }
+
+#forms { display: flex; flex-wrap: wrap; gap: 1.25em; place-content: center; padding: 1.5em; }
+form { display: flex; flex-direction: column; gap: .9em; width: min(22em, 100%); padding: 1.5em; background: var(--raised); border: 1px solid var(--edge); border-radius: 10px; }
+h1 { font-size: 1.2em; font-weight: 600; margin: 0 0 .2em; }
+form p { margin: 0; font-size: .92em; color: var(--quiet); }
+form > button { margin-top: auto; }
+label { display: grid; gap: .3em; }
+.check { display: flex; gap: .5em; align-items: center; }
+.check input { flex: none; }
+.row { display: grid; grid-template-columns: 1fr 1fr 1fr; gap: .7em; }
+input, select, button { font: inherit; padding: .4em .6em; min-width: 0; border-radius: 6px; border: 1px solid #67727e; background: var(--field); color: inherit; }
+input::placeholder { color: var(--quiet); }
+input:user-invalid { border-color: var(--bad); }
+button { background: #2563a8; border-color: #2563a8; color: #fff; cursor: pointer; }
+button:hover { background: #2f74c0; }
+summary { cursor: pointer; color: var(--quiet); border-radius: 4px; }
+details[open] > summary { margin-bottom: .5em; }
+:is(input, select, button, a, summary):focus-visible { outline: 2px solid var(--accent); outline-offset: 2px; }
+
+/* Above the terminal, which fills the window, are the lines that have left it. */
+#screen { width: 100%; height: 100%; overflow: auto; scrollbar-gutter: stable; scrollbar-color: #4b5560 transparent; forced-color-adjust: none; cursor: text; }
+#screen[data-turning] { overflow: hidden; }
+#screen:not(:has(#sheet)) { display: grid; place-items: center; }
+#sheet { width: fit-content; min-width: 100%; min-height: 100%; padding: 0 10px; display: flex; flex-direction: column; align-items: center; }
+#stage { flex: 1 0 auto; min-height: 100cqh; padding: 10px 0; display: grid; place-content: center; }
+#screen { container-type: size; }
+#terminal { position: relative; background: #000; box-shadow: 0 0 0 5px #000; outline: 1px solid var(--edge); outline-offset: 5px; }
+#terminal:focus-within { outline-color: #4d7fb3; }
+#terminal > * { position: absolute; left: 0; top: 0; }
+#terminal canvas { width: 100%; height: 100%; display: none; }
+#picture { image-rendering: pixelated; }
+#screen[data-text=\"exact\"] #picture, #screen[data-text=\"sharp\"] #sharp { display: block; }
+#text, #scrollback, .probe { font: var(--font)/var(--cell-height) var(--family); letter-spacing: var(--spacing); font-variant-ligatures: none; font-kerning: none; text-size-adjust: none; -webkit-text-size-adjust: none; }
+#text { width: 100%; height: 100%; overflow: hidden; color: transparent; }
+.line { height: var(--cell-height); white-space: pre; overflow-wrap: normal; }
+.probe { position: absolute; visibility: hidden; }
+#scrollback { width: var(--width, 0); color: #aaa; }
+#scrollback:not(:empty) { padding-bottom: 2px; }
+.block { content-visibility: auto; contain-intrinsic-height: calc(var(--lines) * var(--cell-height)); width: calc(var(--columns, 0) * var(--cell-width)); min-width: 100%; background: #000; }
+.gap { margin: 0; padding: .1em 0; font: italic 12px/1.6 system-ui, sans-serif; letter-spacing: 0; color: #9aa5b1; border-top: 1px dashed #4b5560; user-select: none; }
+#text ::selection, #scrollback ::selection { background: #2c5c94; color: #fff; }
+#screen[data-text=\"exact\"] #text ::selection { background: #4a8fe0a0; color: transparent; }
+body[data-state=\"ended\"] #terminal { filter: brightness(.6); }
+
+/* It has the focus, stands at the cursor, and is seen while an input method shows what it makes. */
+#keys { left: calc(var(--x, 0) * var(--cell-width)) !important; top: calc(var(--y, 0) * var(--cell-height)) !important; width: 1px; height: var(--cell-height); padding: 0; border: 0; outline: 0; margin: 0; opacity: 0; scroll-margin: 0 6em; resize: none; overflow: hidden; white-space: pre; font: var(--font)/var(--cell-height) var(--family); background: #20364f; color: #fff; caret-color: transparent; pointer-events: none; }
+#keys.composing { opacity: 1; width: calc(var(--length, 1) * 2 * var(--cell-width)); border-bottom: 1px solid var(--accent); }
+
+footer { display: flex; flex-wrap: wrap; gap: .2em 1.1em; align-items: center; padding: .3em .9em; background: var(--raised); border-top: 1px solid var(--edge); min-height: 2.5em; font-size: 13px; color: var(--quiet); }
+body[data-state=\"idle\"] footer, body[data-state=\"idle\"] #touch { display: none; }
+footer::before { content: \"\"; width: .6em; height: .6em; border-radius: 50%; background: var(--warn); }
+body[data-state=\"open\"] footer::before { background: var(--good); }
+body[data-state=\"ended\"] footer::before { background: var(--bad); }
+footer button { padding: .1em .9em; }
+#message { font-weight: 600; color: var(--text); }
+body[data-state=\"stalled\"] #message { color: var(--warn); }
+#message:empty, #rights:empty { display: none; }
+#hint { display: none; color: var(--warn); }
+body[data-state=\"open\"][data-types]:has(footer :focus) #hint { display: inline; }
+#links { margin-left: auto; }
+#links a { color: var(--accent); margin-left: .4em; }
+#panel { position: relative; margin-left: auto; }
+#links:not([hidden]) ~ #panel { margin-left: 0; }
+#panel > summary { padding: .1em .5em; }
+#panel[open] > summary { margin: 0; color: var(--text); }
+.panel { position: absolute; right: 0; bottom: calc(100% + .7em); z-index: 1; width: min(24em, calc(100vw - 1.8em)); max-height: calc(100dvh - 5em); overflow: auto; padding: 1.1em 1.2em; background: var(--raised); border: 1px solid var(--edge); border-radius: 10px; box-shadow: 0 8px 28px #000a; color: var(--text); }
+.panel form { gap: .7em; width: auto; padding: 0; background: none; border: 0; }
+.panel label:not(.check) { grid-template-columns: 1fr 11em; align-items: center; }
+.panel dl { margin: 1em 0 .8em; padding-top: .9em; border-top: 1px solid var(--edge); display: grid; gap: .35em; }
+.panel dt { color: var(--text); }
+.panel dd { margin: -.35em 0 .2em; color: var(--quiet); }
+.panel p { margin: 0; color: var(--quiet); }
+
+/* Keys that a keyboard on a screen hasn't. */
+#touch { display: none; gap: .35em; padding: .35em .5em; background: var(--raised); border-top: 1px solid var(--edge); overflow-x: auto; scrollbar-width: none; }
+#touch button { flex: 1 0 auto; min-width: 2.4em; min-height: 2.8em; padding: 0 .3em; background: var(--ground); border-color: var(--edge); color: var(--text); touch-action: manipulation; }
+#touch button[aria-pressed=\"true\"] { background: #2563a8; color: #fff; }
+/* A phone enlarges a page whose fields have smaller letters. */
+@media (pointer: coarse) { input, select { font-size: 16px; } }
+@media (pointer: coarse) { body[data-types]:not([data-state=\"ended\"]) #touch { display: flex; } }
+"
+}
+
+// `/textlayer.js`.
+fn textlayer_js() -> &'static str {
+    "\
+// The characters of the screen, as text that lies over its picture: it can be selected, copied, found and read aloud,
+// and is never seen. What is selected stays so while its characters stay: rows that go up take their element with
+// them, and of a row that changes only the characters that differ are replaced.
+
+import { textOf } from './cells.js';
+
+/** A row of text. */
+export function rowElement(text) {
+  const row = document.createElement('div');
+  row.className = 'line';
+  row.append(text);
+  return row;
+}
+
+/** Makes the text of a node another one, by replacing what stands between their common beginning and end. */
+export function rewrite(node, text) {
+  const old = node.data;
+  const least = Math.min(old.length, text.length);
+  let begin = 0;
+  while (begin < least && old[begin] === text[begin]) begin++;
+  let end = 0;
+  while (end < least - begin && old[old.length - 1 - end] === text[text.length - 1 - end]) end++;
+  node.replaceData(begin, old.length - end - begin, text.slice(begin, text.length - end));
+}
+
+/** The rows of text over a picture. */
+export class TextLayer {
+  #element;
+  #shown = new Int32Array(0);
+  #columns = 0;
+  /** The text of each row. @type {string[]} */
+  lines = [];
+
+  constructor(element) {
+    this.#element = element;
+  }
+
+  clear() {
+    this.#refit(0, 0);
+  }
+
+  /** Shows the cells of a screen, of which so many lines have gone up since the last call. */
+  show(cells, columns, gone) {
+    if (gone > 0 && gone < this.lines.length) this.#rise(gone);
+    if (columns !== this.#columns || cells.length !== this.#shown.length) this.#refit(cells.length / columns, columns);
+    for (let y = 0; y < this.lines.length; y++) {
+      const [from, to] = [y * columns, (y + 1) * columns];
+      if (this.#isShown(cells, from, to)) continue;
+      const text = textOf(cells.subarray(from, to));
+      if (text === this.lines[y]) continue;
+      rewrite(this.#element.children[y].firstChild, text);
+      this.lines[y] = text;
+    }
+    this.#shown.set(cells);
+  }
+
+  #isShown(cells, from, to) {
+    for (let k = from; k < to; k++) if (cells[k] !== this.#shown[k]) return false;
+    return true;
+  }
+
+  // Rows that stay keep their elements, and so what is selected of them.
+  #refit(rows, columns) {
+    this.#columns = columns;
+    this.#shown = new Int32Array(rows * columns).fill(-2);
+    for (let y = this.lines.length; y < rows; y++) this.#element.append(rowElement(''));
+    for (let y = this.lines.length; y > rows; y--) this.#element.lastElementChild.remove();
+    this.lines = Array.from({ length: rows }, (_, y) => this.lines[y] ?? '');
+  }
+
+  #rise(gone) {
+    for (const row of [...this.#element.children].slice(0, gone)) {
+      rewrite(row.firstChild, '');
+      this.#element.append(row);
+    }
+    this.lines = [...this.lines.slice(gone), ...Array(gone).fill('')];
+    this.#shown.copyWithin(0, gone * this.#columns);
+    this.#shown.fill(-2, (this.lines.length - gone) * this.#columns);
+  }
+}
+"
+}
+
+// `/touch.js`.
+fn touch_js() -> &'static str {
+    "\
+// The keys that a keyboard on a screen hasn't, as buttons. Control and Alt hold for the next key.
+
+import { ALT, CONTROL, keysymNamed } from './keysyms.js';
+
+const HELD = { Control: CONTROL, Alt: ALT };
+
+/** Lets the buttons of an element press the keys that their `data-key` names, by a keyboard whose field keeps the focus. */
+export function buttonsOf(element, field, keyboard) {
+  const buttons = [...element.querySelectorAll('button')];
+  // A button that takes the focus would hide the keyboard on the screen.
+  element.addEventListener('pointerdown', (event) => event.preventDefault());
+  element.addEventListener('mousedown', (event) => event.preventDefault());
+  const press = async (button) => {
+    const { key } = button.dataset;
+    if (key === 'Paste') keyboard.type(await navigator.clipboard.readText().catch(() => ''));
+    else if (key in HELD) button.setAttribute('aria-pressed', String(keyboard.hold(HELD[key])));
+    else keyboard.tap(keysymNamed(key));
+  };
+  buttons.forEach((button) => button.addEventListener('click', () => press(button)));
+  field.addEventListener('free', () => buttons.forEach((it) => { if (it.hasAttribute('aria-pressed')) it.setAttribute('aria-pressed', 'false'); }));
+  const paste = buttons.find((it) => it.dataset.key === 'Paste');
+  // A page that isn't reached by HTTPS may not read the clipboard.
+  if (paste) paste.hidden = !navigator.clipboard?.readText;
+}
+"
+}
+
+// `/tunnel.js`.
+fn tunnel_js() -> &'static str {
+    "\
+// A tunnel to the gateway over plain HTTP requests (docs/PROTOCOL.md, \"The HTTP tunnel\"): one request opens it,
+// others read what the viewer is given and write what it sends.
+
+import { textOf } from './instructions.js';
+
+/** A request that was refused, or had no answer: `code` is the status of Guacamole, 0 where there is none. */
+export class Refusal extends Error {
+  constructor(code, status) {
+    super(`status ${status}, code ${code}`);
+    this.code = code;
+    this.status = status;
+  }
+}
+
+// The text that the answer to a request has.
+async function answerTo(url, options) {
+  let response;
+  try {
+    response = await fetch(url, { cache: 'no-store', ...options });
+    if (response.ok) return await response.text();
+  } catch {
+    throw new Refusal(0, 0);
+  }
+  throw new Refusal(Number(response.headers.get('Guacamole-Status-Code')) || 0, response.status);
+}
+
+// The most instructions that one request may have.
+const MOST_INSTRUCTIONS = 4096;
+
+/** A viewer's tunnel. */
+export class Tunnel {
+  #path;
+  #id;
+  #waiting = [];
+  #isWriting = false;
+  #asked = Infinity;
+
+  constructor(path, id) {
+    this.#path = path;
+    this.#id = id;
+  }
+
+  /** Opens a tunnel: `form` has the fields of a session that begins, or the ID of one that is joined. */
+  static async open(path, form) {
+    const id = await answerTo(`${path}?connect`, { method: 'POST', body: new URLSearchParams(form) });
+    return new Tunnel(path, id);
+  }
+
+  /** For how many milliseconds a write has had no answer: 0 where none is under way. A read may wait as long as nothing
+   *  happens, so it tells nothing of the link. */
+  get silence() {
+    return Math.max(0, performance.now() - this.#asked);
+  }
+
+  /** What the viewer is given next: whole instructions, or an empty text where there is nothing new yet. */
+  async read() {
+    const text = await answerTo(`${this.#path}?read:${this.#id}`);
+    if (!text.endsWith('0.;')) throw new Refusal(0, 0);
+    return text.slice(0, -'0.;'.length);
+  }
+
+  /** Sends instructions in the order of the calls, those that wait together in one request. */
+  async write(instruction) {
+    this.#waiting.push(instruction);
+    if (this.#isWriting) return;
+    this.#isWriting = true;
+    try {
+      while (this.#waiting.length > 0) {
+        const body = this.#waiting.splice(0, MOST_INSTRUCTIONS).join('');
+        this.#asked = performance.now();
+        await answerTo(`${this.#path}?write:${this.#id}`, { method: 'POST', body });
+      }
+    } finally {
+      this.#isWriting = false;
+      this.#asked = Infinity;
+    }
+  }
+
+  /** Leaves. It can be called while the page goes away. */
+  leave() {
+    navigator.sendBeacon(`${this.#path}?write:${this.#id}`, textOf('disconnect'));
+  }
+}
+"
+}
+
+// `/view.js`.
+fn view_js() -> &'static str {
+    "\
+// One view of a session, from its opening to its end.
+
+import { CELL_HEIGHT, CELL_WIDTH } from './font.js';
+import { Unreadable, instructionsOf, textOf } from './instructions.js';
+import { Rest } from './rest.js';
+import { Refusal } from './tunnel.js';
+
+/**
+ * How a view ended: by the host, by an `error` of the gateway or a refusal of it, by what can't be read, or by a fault
+ * of the page.
+ * @typedef {{ by: 'host' } | { by: 'error', code: number } | { by: 'refusal', code: number, status: number } | { by: 'unreadable' } | { by: 'fault' }} End
+ */
+
+// How long, in milliseconds, the gateway may take for a write before the link counts as stalled, and for something new
+// behind a key before the viewer is told that nothing answers.
+const STALLED = 5000;
+const UNANSWERED = 3000;
+const BETWEEN_LOOKS = 500;
+// Pixels to the inch, which the protocol has and the gateway passes over.
+const RESOLUTION = 96;
+
+/** A viewer's way: it reads, shows and acknowledges, and sends keys. */
+export class View {
+  #tunnel;
+  #display;
+  #readOnly;
+  #rest = new Rest();
+  #told;
+  #sent = 0;
+  #isStalled = false;
+  #isAnswered = true;
+  #looks = 0;
+
+  /**
+   * @param {import('./tunnel.js').Tunnel} tunnel
+   * @param {{ draw(instruction: string[]): boolean, settle(): void, show(): void }} display
+   * @param {boolean} readOnly
+   * @param {{ shown(stamp: string): void, stalled(isStalled: boolean): void, answered(isAnswered: boolean): void }} told
+   */
+  constructor(tunnel, display, readOnly, told) {
+    this.#tunnel = tunnel;
+    this.#display = display;
+    this.#readOnly = readOnly;
+    this.#told = told;
+  }
+
+  /** Whether keys are sent. */
+  get types() {
+    return !this.#readOnly;
+  }
+
+  /** Shows what the viewer is given until the session is over, and answers how it ended. @returns {Promise<End>} */
+  async run() {
+    this.#looks = setInterval(() => this.#look(), BETWEEN_LOOKS);
+    try {
+      for (;;) {
+        const text = await this.#tunnel.read();
+        const end = this.#play(text);
+        if (end) return end;
+        // A gateway may answer at once though nothing is new. It isn't asked again as fast as it can answer.
+        if (text === '') await this.#rest.once();
+        else this.#rest.cut();
+      }
+    } catch (fault) {
+      this.leave();
+      return endOf(fault);
+    } finally {
+      clearInterval(this.#looks);
+    }
+  }
+
+  /** Sends a key, but for a viewer who only looks on. A fault of it is told by the read that fails with it. */
+  press(keysym, isPressed) {
+    if (!this.types) return;
+    this.#tunnel.write(textOf('key', keysym, isPressed ? 1 : 0)).catch(() => {});
+    this.#rest.cut();
+    if (isPressed && this.#sent === 0) this.#sent = performance.now();
+  }
+
+  /** Gives the session a size, but for a viewer who only looks on. @param {import('./follow.js').Size} size */
+  resize({ columns, rows }) {
+    if (!this.types) return;
+    this.#tunnel.write(textOf('size', columns * CELL_WIDTH, rows * CELL_HEIGHT, RESOLUTION)).catch(() => {});
+    this.#rest.cut();
+  }
+
+  leave() {
+    this.#tunnel.leave();
+  }
+
+  // Draws instructions, shows them at their last sync and acknowledges it. It answers how the session ended, where one
+  // of them says so.
+  #play(text) {
+    let stamp = null;
+    /** @type {End | null} */
+    let end = null;
+    for (const instruction of instructionsOf(text)) {
+      const [opcode, ...given] = instruction;
+      if (opcode === 'sync') {
+        stamp = given[0];
+        this.#display.settle();
+      } else if (opcode === 'disconnect') end = { by: 'host' };
+      else if (opcode === 'error') end = { by: 'error', code: Number(given[1]) };
+      else this.#display.draw(instruction);
+    }
+    if (stamp !== null) this.#show(stamp);
+    return end;
+  }
+
+  #show(stamp) {
+    this.#display.show();
+    this.#told.shown(stamp);
+    this.#tunnel.write(textOf('sync', stamp)).catch(() => {});
+    this.#sent = 0;
+    this.#answer(true);
+  }
+
+  #look() {
+    const isStalled = this.#tunnel.silence > STALLED || globalThis.navigator?.onLine === false;
+    if (isStalled !== this.#isStalled) this.#told.stalled(isStalled);
+    this.#isStalled = isStalled;
+    if (this.#sent !== 0 && performance.now() - this.#sent > UNANSWERED && !isStalled) this.#answer(false);
+  }
+
+  #answer(isAnswered) {
+    if (isAnswered !== this.#isAnswered) this.#told.answered(isAnswered);
+    this.#isAnswered = isAnswered;
+  }
+}
+
+/** How a fault ends a view. A frame that can't be read ends it, as all that isn't foreseen does. @returns {End} */
+export function endOf(fault) {
+  if (fault instanceof Refusal) return { by: 'refusal', code: fault.code, status: fault.status };
+  if (fault instanceof Unreadable) return { by: 'unreadable' };
+  console.error(fault);
+  return { by: 'fault' };
+}
+"
+}

@@ -1,0 +1,12 @@
+//! The files of the page, as the program hands them out.
+#![tactic(auto)]
+
+mod files;
+
+use page_files::PageFile;
+use std::alloc::{AllocError, Global};
+
+/// All files of the page, in the order of their paths. They stay for as long as the program runs.
+pub fn page(alloc: Global) -> Result<&'static [PageFile], AllocError> {
+    Ok(Vec::from_array(alloc, files::all())?.leak())
+}
