@@ -1,5 +1,7 @@
--- A byte that was looked at.
+-- A byte that was looked at, and pastes that are typed behind it.
 mod Looks
+mod Typed
+mod Fronts
 mod Beginning
 -- A request that is due no response.
 mod Replying

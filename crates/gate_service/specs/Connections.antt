@@ -1,7 +1,9 @@
 -- What one connection read and wrote, by its first byte (this project's own).
 use Rattle.std.specs.Prelude.{◌≡◌, ℕ, List, [], ◌∷◌, Option, IfSome}
 use Rattle.gate_model.specs.text.Spelling.{IsDigit}
-use Rattle.gate_outside.specs.Edge.{AtEnd}
+use Rattle.gate_model.specs.Sequences.{BeginsWith}
+use Rattle.gate_outside.specs.Edge.{AtEnd, came}
+use Rattle.guac_handshake.specs.Texts.{error_text}
 use Rattle.http_front.specs.declared.request.Incoming.{Incoming}
 use Rattle.http_front.specs.declared.response.Response.{Response}
 use Rattle.user_serve.specs.Users.{UserRun}
@@ -14,15 +16,17 @@ use Rattle.gate_service.specs.declared.routing.ConnEnd.TheVariants.{User, Http, 
 abbrev pub Begins : (ℕ → Type 0) → Option (List ℕ) → Type 0
 Begins P left = IfSome left (λ bytes. (first : ℕ) × (more : List ℕ) × (bytes ≡ first ∷ more) × P first)
 
--- by what was left before and what is left now. It is a viewer's connection where it begins with a digit, and then
--- these bytes were read and written for the viewer; it is HTTP where it begins with another byte, and then they are
--- those of one request and of the response that is due for it; at every other end there were none
-abbrev pub ConnRun : (Incoming → Response → Type 0) → Option (List ℕ) → Option (List ℕ) → ConnEnd → List ℕ → List ℕ → Type 0
-ConnRun due before left (User end) read written = Begins IsDigit before × UserRun left end read written
-ConnRun due before left (Http end) read written = Begins (λ first. IsDigit first → ⊥) before × HttpRun due end read written
-ConnRun due before left Ended read written = AtEnd before × (read ≡ []) × (written ≡ [])
-ConnRun due before left ReadFault read written = (read ≡ []) × (written ≡ [])
-ConnRun due before left NoMemory read written = (read ≡ []) × (written ≡ [])
+-- by what was left before, the same with its pastes typed, and what is left now. It is a viewer's connection where it
+-- begins with a digit: then the bytes that were given, in which what is pasted stands as keys, and those that were
+-- written are the viewer's; or for want of memory none were given, and a front of the `error` of 512 was written. It is
+-- HTTP where it begins with another byte, and then they are those of one request, as it came, and of the response that
+-- is due for it. At every other end there were none
+abbrev pub ConnRun : (Incoming → Response → Type 0) → Option (List ℕ) → Option (List ℕ) → Option (List ℕ) → ConnEnd → List ℕ → List ℕ → Type 0
+ConnRun due before typed left (User end) read written = Begins IsDigit before × (typed ≡ came read left) × UserRun left end read written
+ConnRun due before typed left (Http end) read written = Begins (λ first. IsDigit first → ⊥) before × (before ≡ came read left) × HttpRun due end read written
+ConnRun due before typed left Ended read written = AtEnd before × (before ≡ left) × (read ≡ []) × (written ≡ [])
+ConnRun due before typed left ReadFault read written = (before ≡ left) × (read ≡ []) × (written ≡ [])
+ConnRun due before typed left NoMemory read written = Begins IsDigit before × (before ≡ left) × (read ≡ []) × BeginsWith (error_text 512) written
 
 -- a fact of a viewer's end
 abbrev pub IfUser : ConnEnd → (UserEnd → Type 0) → Type 0
@@ -32,10 +36,10 @@ IfUser Ended F = Unit {0}
 IfUser ReadFault F = Unit {0}
 IfUser NoMemory F = Unit {0}
 
--- a fact of the ends at which nobody was served
+-- a fact of the ends at which nobody was served, nor told so
 abbrev pub IfUnserved : ConnEnd → Type 0 → Type 0
 IfUnserved (User end) P = Unit {0}
 IfUnserved (Http end) P = OnSilent end P
 IfUnserved Ended P = P
 IfUnserved ReadFault P = P
-IfUnserved NoMemory P = P
+IfUnserved NoMemory P = Unit {0}

@@ -1,5 +1,6 @@
--- In reading order: a source that was looked at, what a request read and wrote, what one connection did, the words of
+-- In reading order: a source whose pastes may be typed, one that was looked at, what a request read and wrote, what one connection did, the words of
 -- the service.
+pub mod Typings
 pub mod Lookaheads
 pub mod Requests
 pub mod Connections

@@ -13,11 +13,13 @@ mod notes;
 mod noting;
 mod paging;
 mod program;
+mod refusing;
 mod requests;
 mod routing;
 mod seen;
 mod service;
 mod tidying;
+mod typing;
 
 pub use lookahead::Lookahead;
 pub use program::{Host, top};

@@ -1,16 +1,22 @@
-//! A source whose first byte can be looked at.
+//! A source whose first byte can be looked at, and whose pastes can be typed.
 
-ghost use Rattle.std.specs.Prelude.{◌≡◌, ◌≤◌, IfOk, OnErr};
-ghost use Rattle.gate_outside.specs.Edge.{AtEnd, Rose, came, most_faults};
-ghost use Rattle.gate_service.specs.Lookaheads.{IsFirst, left_of, looked, source_of};
+ghost use Rattle.std.specs.Prelude.{◌≡◌, ◌≤◌, IfOk, OnErr, OnOk};
+ghost use Rattle.gate_outside.specs.Edge.{Rose, came};
+ghost use Rattle.gate_service.specs.Lookaheads.{IsFirst, faults_of, has_begun, left_of, looked, source_of, typed_of};
+ghost use Rattle.gate_service.specs.Typings as typing;
 
+use crate::typing::Typing;
+use clip_stream::Paster;
+use gate_model::NoMemory;
 use gate_outside::{Failed, Source};
+use std::alloc::Global;
 
-/// A source whose first byte can be looked at, and is still the first that is left (this project's own).
+/// A source whose first byte can be looked at, and is still the first that is left; and from which, once that is asked,
+/// what is pasted comes as keys (this project's own).
 #[derive(Drop)]
 pub struct Lookahead<S> {
     byte: Option<u8>,
-    source: S,
+    source: Typing<S>,
 }
 
 impl<S: Source> Lookahead<S> {
@@ -19,7 +25,10 @@ impl<S: Source> Lookahead<S> {
         ensures left { left_of S.left result ≡ S.left source }
         ensures source { source_of result ≡ source }
     {
-        Lookahead { byte: None, source }
+        Lookahead {
+            byte: None,
+            source: Typing::new(source),
+        }
     }
 
     /// The first byte that is left, or None at the source's end. What is left stays as it was; a fault comes only
@@ -27,25 +36,44 @@ impl<S: Source> Lookahead<S> {
     pub fn peek(&mut self) -> Result<Option<u8>, Failed>
         ensures same { left_of S.left self.new ≡ left_of S.left self.old }
         ensures first { IfOk result (IsFirst (left_of S.left self.old)) }
-        ensures cause { OnErr result (Rose (S.faults (source_of self.old)) (S.faults (source_of self.new))) }
-        ensures later { S.faults (source_of self.old) ≤ S.faults (source_of self.new) }
-        ensures few { S.faults (source_of self.old) ≤ most_faults → S.faults (source_of self.new) ≤ most_faults }
+        ensures begun { has_begun self.new ≡ has_begun self.old }
+        ensures cause { OnErr result (Rose (faults_of S.faults self.old) (faults_of S.faults self.new)) }
+        ensures later { faults_of S.faults self.old ≤ faults_of S.faults self.new }
     {
         if self.byte.is_none() {
             self.byte = next(&mut self.source)?;
         }
         Ok(self.byte)
     }
+
+    /// From here on what is pasted comes as keys: what is left is `pasted` of what was, unless it is so already. It takes
+    /// all the memory that this needs; where that is wanting all stays as it was.
+    pub fn begin_pastes(&mut self, alloc: Global) -> Result<(), NoMemory>
+        ensures typed { OnOk result (left_of S.left self.new ≡ typed_of S.left self.old) }
+        ensures unchanged { OnErr result (left_of S.left self.new ≡ left_of S.left self.old) }
+        ensures faults { faults_of S.faults self.new ≡ faults_of S.faults self.old }
+    {
+        if self.source.is_begun() {
+            return Ok(());
+        }
+        let mut pastes = Paster::new(alloc)?;
+        if let Some(byte) = self.byte {
+            pastes.feed(&[byte]);
+            self.byte = None;
+        }
+        self.source.begin(pastes);
+        Ok(())
+    }
 }
 
 // The next byte of a source, or None at its end.
-fn next<S: Source>(source: &mut S) -> Result<Option<u8>, Failed>
-    ensures came { IfOk result (λ byte. S.left source.old ≡ came (looked byte) (S.left source.new)) }
-    ensures first { IfOk result (IsFirst (S.left source.old)) }
-    ensures unchanged { OnErr result (S.left source.new ≡ S.left source.old) }
-    ensures cause { OnErr result (Rose (S.faults source.old) (S.faults source.new)) }
-    ensures later { S.faults source.old ≤ S.faults source.new }
-    ensures few { S.faults source.old ≤ most_faults → S.faults source.new ≤ most_faults }
+fn next<S: Source>(source: &mut Typing<S>) -> Result<Option<u8>, Failed>
+    ensures came { IfOk result (λ byte. typing.left_of S.left source.old ≡ came (looked byte) (typing.left_of S.left source.new)) }
+    ensures first { IfOk result (IsFirst (typing.left_of S.left source.old)) }
+    ensures unchanged { OnErr result (typing.left_of S.left source.new ≡ typing.left_of S.left source.old) }
+    ensures begun { typing.has_begun source.new ≡ typing.has_begun source.old }
+    ensures cause { OnErr result (Rose (typing.faults_of S.faults source.old) (typing.faults_of S.faults source.new)) }
+    ensures later { typing.faults_of S.faults source.old ≤ typing.faults_of S.faults source.new }
 {
     let mut into = [0u8; 1];
     let count = source.read(&mut into)?;
@@ -57,11 +85,11 @@ fn next<S: Source>(source: &mut S) -> Result<Option<u8>, Failed>
 }
 
 impl<S: Source> Source for Lookahead<S> {
-    ghost use Rattle.gate_service.specs.Lookaheads.{left_of, source_of};
+    ghost use Rattle.gate_service.specs.Lookaheads.{faults_of, left_of};
 
     ghost left = { λ s. left_of S.left s };
 
-    ghost faults = { λ s. S.faults (source_of s) };
+    ghost faults = { λ s. faults_of S.faults s };
 
     fn read(&mut self, into: &mut [u8]) -> Result<usize, Failed> {
         match self.byte {

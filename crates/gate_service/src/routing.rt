@@ -10,13 +10,15 @@ ghost use Rattle.user_serve.specs.declared.ends.IntakeEnd.TheVariants as intakes
 ghost use Rattle.user_serve.specs.declared.ends.OutletEnd.TheVariants as outlets;
 ghost use Rattle.user_serve.specs.declared.ends.UserEnd.TheVariants as users;
 ghost use Rattle.gate_service.specs.Connections.{ConnRun, IfUnserved, IfUser};
-ghost use Rattle.gate_service.specs.Lookaheads.{left_of, source_of};
+ghost use Rattle.gate_service.specs.Lookaheads.{faults_of, left_of, typed_of};
 ghost use Rattle.gate_service.specs.Requests.{IsAnswer, IsDue};
 ghost use Rattle.gate_service.specs.declared.requests.HttpEnd.TheVariants as https;
 ghost use Rattle.gate_service.specs.declared.routing.ConnEnd.TheVariants as ends;
 
 use crate::Lookahead;
+use crate::refusing::refuse;
 use crate::requests::{HttpEnd, serve_request};
+use gate_model::NoMemory;
 use gate_outside::{Bell, Dice, Failed, Sink, Source};
 use guac_handshake::Door;
 use http_tunnel::Tunnel;
@@ -38,13 +40,14 @@ pub enum ConnEnd {
     Ended,
     /// The read of its first byte failed.
     ReadFault,
-    /// Want of memory, before anything is read. Looking at a byte takes none.
+    /// Want of memory for a viewer's pastes, before more than its first byte is read.
     NoMemory,
 }
 
 /// Serves one connection. It looks at the first byte; where that is a digit, it serves a viewer by `serve_user`, over
-/// that byte and what comes behind it, and the place of a visit is for the caller to give back to the door. Where it
-/// is another, it reads one request and writes one response: that of `http_tunnel::tunnel_request` for a whole
+/// that byte and what comes behind it, in which what is pasted is typed as keys, and the place of a visit is for the
+/// caller to give back to the door. Where there is no memory for the pastes, the viewer is refused by the `error` of
+/// 512. Where it is another byte, it reads one request and writes one response: that of `http_tunnel::tunnel_request` for a whole
 /// request, whose condition and promise on the tunnels it has, the refusal's status with code 768 for a request that
 /// is refused, and 500 with code 512 where memory is wanting. A connection that ends early, or whose read fails, is
 /// answered nothing (this project's own).
@@ -68,24 +71,25 @@ where
     B: Bell + Send,
     requires { AreHome (T.told tunnels.old) }
     ensures home { AreHome (T.told tunnels.new) }
-    ensures ran { (read : List ℕ) × (written : List ℕ) × (left_of S.left source.old ≡ came read (left_of S.left source.new)) × (K.written sink.new ≡ gained (K.written sink.old) written) ×
+    ensures ran { (read : List ℕ) × (written : List ℕ) × (K.written sink.new ≡ gained (K.written sink.old) written) ×
         ConnRun (IsDue (IsAnswer D.id_of (D.sessions door.old) (D.sessions door.new) (D.draws door.old) (D.asked door.old) (D.asked door.new) (D.out door.old) (D.out door.new) (X.draws dice.old) (T.told tunnels.old) (T.told tunnels.new) (Rose (D.dial_faults door.old) (D.dial_faults door.new)) (Rose (D.start_faults door.old) (D.start_faults door.new))) ((door.new ≡ door.old) × (tunnels.new ≡ tunnels.old) × (dice.new ≡ dice.old)))
-        (left_of S.left source.old) (left_of S.left source.new) result read written }
-    ensures read_fault { result ≡ ends.ReadFault → Rose (S.faults (source_of source.old)) (S.faults (source_of source.new)) }
+        (left_of S.left source.old) (typed_of S.left source.old) (left_of S.left source.new) result read written }
+    ensures read_fault { result ≡ ends.ReadFault → Rose (faults_of S.faults source.old) (faults_of S.faults source.new) }
     ensures untouched { IfUnserved result ((sink.new ≡ sink.old) × (door.new ≡ door.old) × (tunnels.new ≡ tunnels.old) × (dice.new ≡ dice.old)) }
+    ensures refused { result ≡ ends.NoMemory → (door.new ≡ door.old) × (tunnels.new ≡ tunnels.old) × (dice.new ≡ dice.old) }
 
     // The causes of the other ends of HTTP.
     ensures http_ended { result ≡ ends.Http https.Ended → AtEnd (left_of S.left source.new) }
-    ensures http_read { result ≡ ends.Http https.ReadFault → Rose (S.faults (source_of source.old)) (S.faults (source_of source.new)) }
+    ensures http_read { result ≡ ends.Http https.ReadFault → Rose (faults_of S.faults source.old) (faults_of S.faults source.new) }
     ensures http_write { result ≡ ends.Http https.WriteFault → Rose (K.faults sink.old) (K.faults sink.new) }
 
     // What the contract of `serve_user` says of a viewer's end. It leaves the tunnels and the dice alone.
     ensures apart { IfUser result (λ end. (tunnels.new ≡ tunnels.old) × (dice.new ≡ dice.old)) }
-    ensures greeting { IfUser result (HasGreeted D.id_of (D.sessions door.old) (D.sessions door.new) (D.draws door.old) (left_of S.left source.old) (left_of S.left source.new) (K.written sink.old) (K.written sink.new) (D.asked door.old) (D.asked door.new)) }
+    ensures greeting { IfUser result (HasGreeted D.id_of (D.sessions door.old) (D.sessions door.new) (D.draws door.old) (typed_of S.left source.old) (left_of S.left source.new) (K.written sink.old) (K.written sink.new) (D.asked door.old) (D.asked door.new)) }
     ensures door { IfUser result (LeavesDoor D.id_of (D.out door.old) (D.out door.new) (D.sessions door.old) (D.sessions door.new)) }
-    ensures intake_fault { IfUser result (λ end. IfServed end (λ visit. visit.intake ≡ intakes.ReadFault → Rose (S.faults (source_of source.old)) (S.faults (source_of source.new)))) }
+    ensures intake_fault { IfUser result (λ end. IfServed end (λ visit. visit.intake ≡ intakes.ReadFault → Rose (faults_of S.faults source.old) (faults_of S.faults source.new))) }
     ensures outlet_fault { IfUser result (λ end. IfServed end (λ visit. visit.outlet ≡ outlets.WriteFault → Rose (K.faults sink.old) (K.faults sink.new))) }
-    ensures greeting_read { result ≡ ends.User users.ReadFault → Rose (S.faults (source_of source.old)) (S.faults (source_of source.new)) }
+    ensures greeting_read { result ≡ ends.User users.ReadFault → Rose (faults_of S.faults source.old) (faults_of S.faults source.new) }
     ensures greeting_write { result ≡ ends.User users.WriteFault → Rose (K.faults sink.old) (K.faults sink.new) }
     ensures dial { result ≡ ends.User (users.Refused 519) → Rose (D.dial_faults door.old) (D.dial_faults door.new) }
     ensures busy { result ≡ ends.User (users.Refused 513) → Rose (D.start_faults door.old) (D.start_faults door.new) }
@@ -97,7 +101,7 @@ where
 
     ensures later_dials { D.dial_faults door.old ≤ D.dial_faults door.new }
     ensures later_starts { D.start_faults door.old ≤ D.start_faults door.new }
-    ensures later_reads { S.faults (source_of source.old) ≤ S.faults (source_of source.new) }
+    ensures later_reads { faults_of S.faults source.old ≤ faults_of S.faults source.new }
     ensures later_writes { K.faults sink.old ≤ K.faults sink.new }
 {
     let byte = match source.peek() {
@@ -105,9 +109,14 @@ where
         Ok(None) => return ConnEnd::Ended,
         Err(Failed) => return ConnEnd::ReadFault,
     };
-    if byte.is_ascii_digit() {
-        ConnEnd::User(serve_user(rt, alloc, source, sink, door, bell))
-    } else {
-        ConnEnd::Http(serve_request(rt, alloc, source, sink, door, tunnels, dice, bell))
+    if !byte.is_ascii_digit() {
+        return ConnEnd::Http(serve_request(rt, alloc, source, sink, door, tunnels, dice, bell));
+    }
+    match source.begin_pastes(alloc) {
+        Ok(()) => ConnEnd::User(serve_user(rt, alloc, source, sink, door, bell)),
+        Err(NoMemory) => {
+            refuse(alloc, sink);
+            ConnEnd::NoMemory
+        }
     }
 }
