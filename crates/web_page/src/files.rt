@@ -3,7 +3,7 @@
 use page_files::PageFile;
 
 /// All of them, in the order of their paths.
-pub(crate) fn all() -> [PageFile; 28] {
+pub(crate) fn all() -> [PageFile; 30] {
     [
         PageFile {
             path: "/cells.js",
@@ -66,9 +66,19 @@ pub(crate) fn all() -> [PageFile; 28] {
             body: messages_js(),
         },
         PageFile {
+            path: "/outbox.js",
+            kind: "text/javascript; charset=utf-8",
+            body: outbox_js(),
+        },
+        PageFile {
             path: "/palette.js",
             kind: "text/javascript; charset=utf-8",
             body: palette_js(),
+        },
+        PageFile {
+            path: "/paste.js",
+            kind: "text/javascript; charset=utf-8",
+            body: paste_js(),
         },
         PageFile {
             path: "/play.css",
@@ -397,10 +407,11 @@ const KEY = 'guacgate';
  * @property {number} size  the size of the font in pixels of the page, or 0 for what fits the window
  * @property {number} lines  how many lines are kept above the screen
  * @property {boolean} speaks  whether new lines are said
+ * @property {boolean} asks  whether it is asked before several lines are pasted
  */
 
 /** @type {Choices} */
-export const FIRST = { text: 'sharp', size: 0, lines: 10000, speaks: true };
+export const FIRST = { text: 'sharp', size: 0, lines: 10000, speaks: true, asks: true };
 
 /** The sizes of the font that can be chosen, and the numbers of lines. */
 export const SIZES = [0, 10, 12, 14, 16, 18, 20, 24, 28, 32];
@@ -415,6 +426,7 @@ export function choicesOf(text) {
     size: SIZES.includes(kept.size) ? kept.size : FIRST.size,
     lines: LINES.includes(kept.lines) ? kept.lines : FIRST.lines,
     speaks: typeof kept.speaks === 'boolean' ? kept.speaks : FIRST.speaks,
+    asks: typeof kept.asks === 'boolean' ? kept.asks : FIRST.asks,
   };
 }
 
@@ -438,6 +450,7 @@ export function choose(form, choices, changed) {
     form.elements.size.value = String(choices.size);
     form.elements.lines.value = String(choices.lines);
     form.elements.speaks.checked = choices.speaks;
+    form.elements.asks.checked = choices.asks;
   };
   const set = (next) => {
     choices = next;
@@ -450,9 +463,10 @@ export function choose(form, choices, changed) {
     size: Number(form.elements.size.value),
     lines: Number(form.elements.lines.value),
     speaks: form.elements.speaks.checked,
+    asks: form.elements.asks.checked,
   }));
   fill();
-  return { change: (part) => set({ ...choices, ...part }) };
+  return { get now() { return choices; }, change: (part) => set({ ...choices, ...part }) };
 }
 "
 }
@@ -537,10 +551,17 @@ export class Display {
     this.clear();
   }
 
-  /** Begins anew, with layers that have no pixels, and nothing above a black screen. */
-  clear() {
+  /** What is drawn begins anew, with layers that have no pixels. What is shown stays until the next sync, and lines may be
+   *  missing between them. */
+  renew() {
     this.#cells = new Cells();
     this.#layers = this.#cells.layers = new Layers(this.#cells);
+    this.#scrollback.add([null]);
+  }
+
+  /** Begins anew, with nothing above a black screen. */
+  clear() {
+    this.renew();
     this.#shown = new Int32Array(0);
     this.#columns = 0;
     this.#cursor = -1;
@@ -1025,14 +1046,24 @@ fn index_html() -> &'static str {
   <button type=\"button\" data-key=\"ArrowRight\" aria-label=\"right\">→</button>
   <button type=\"button\" data-key=\"Paste\">Paste</button>
 </div>
+<dialog id=\"asking\" aria-labelledby=\"asking-title\" aria-describedby=\"asking-text\">
+  <form method=\"dialog\">
+    <h1 id=\"asking-title\">Paste?</h1>
+    <pre id=\"asking-text\"></pre>
+    <label class=\"check\"><input name=\"never\" type=\"checkbox\"> don’t ask again</label>
+    <div class=\"buttons\"><button value=\"paste\" autofocus>Paste</button> <button value=\"\" formnovalidate>Cancel</button></div>
+  </form>
+</dialog>
 <footer>
   <span id=\"message\" role=\"status\"></span>
+  <span id=\"notice\" role=\"status\"></span>
   <span id=\"rights\" role=\"status\"></span>
   <span id=\"hint\">Click the terminal, or press Shift-Tab, to type.</span>
   <span id=\"links\" hidden>Links for others: <a id=\"look\">look on</a> <a id=\"type\">type too</a></span>
   <details id=\"panel\">
     <summary>View</summary>
-    <div class=\"panel\">
+    <!-- not a stop of its own where it scrolls, since all in it is reached -->
+    <div class=\"panel\" tabindex=\"-1\">
       <form id=\"choices\">
         <label>Text
           <select name=\"text\"><option value=\"sharp\">sharp</option><option value=\"exact\">exact pixels</option></select>
@@ -1041,6 +1072,7 @@ fn index_html() -> &'static str {
         <label class=\"check\"><input id=\"keep\" type=\"checkbox\"> keep this size, whatever the window’s</label>
         <label>Lines kept above the screen <select name=\"lines\"></select></label>
         <label class=\"check\"><input name=\"speaks\" type=\"checkbox\"> say new lines to a screen reader</label>
+        <label class=\"check\"><input name=\"asks\" type=\"checkbox\"> ask before several lines are pasted</label>
       </form>
       <dl>
         <dt>Control-F6, Control-Shift-Esc</dt><dd>leaves the terminal</dd>
@@ -1080,22 +1112,42 @@ function endOf(text, start, characters) {
   return at;
 }
 
-/** The instructions of a text, each a list of its elements. The text has whole instructions alone. */
-export function* instructionsOf(text) {
-  let at = 0;
+/** The instructions of a text from a place on, each with the place behind it. One that isn't finished is left out. */
+export function* instructionsFrom(text, start) {
+  let at = start;
   while (at < text.length) {
-    const elements = [];
-    for (let separator = ','; separator === ','; at++) {
+    const instruction = [];
+    for (let separator = ','; separator === ',';) {
       const dot = text.indexOf('.', at);
-      const length = text.slice(at, dot);
-      if (dot < 0 || !/^[0-9]{1,5}$/.test(length)) throw new Unreadable(`no length at ${at}`);
+      const length = text.slice(at, dot < 0 ? text.length : dot);
+      if (dot < 0 && /^[0-9]{0,5}$/.test(length)) return;
+      if (!/^[0-9]{1,5}$/.test(length)) throw new Unreadable(`no length at ${at}`);
       const end = endOf(text, dot + 1, Number(length));
-      elements.push(text.slice(dot + 1, end));
-      at = end;
-      separator = text[at];
-      if (separator !== ',' && separator !== ';') throw new Unreadable(`no end at ${at}`);
+      if (end >= text.length) return;
+      instruction.push(text.slice(dot + 1, end));
+      separator = text[end];
+      if (separator !== ',' && separator !== ';') throw new Unreadable(`no end at ${end}`);
+      at = end + 1;
     }
-    yield elements;
+    yield { instruction, end: at };
+  }
+}
+
+/** Reads instructions of a text that comes in pieces. */
+export class Reader {
+  #rest = '';
+
+  /** The instructions, each a list of its elements, that are finished by a piece. */
+  read(piece) {
+    const text = this.#rest + piece;
+    const found = [...instructionsFrom(text, 0)];
+    this.#rest = text.slice(found.at(-1)?.end ?? 0);
+    return found.map(({ instruction }) => instruction);
+  }
+
+  /** Whether no instruction is left unfinished. */
+  get isWhole() {
+    return this.#rest === '';
   }
 }
 
@@ -1123,6 +1175,8 @@ export class Keyboard {
   #act;
   #isMac;
   #isSelected;
+  #paste;
+  #isPasting = false;
   // By where the key is: the keysym that it was pressed with, so that the release names the same.
   #down = new Map();
   // The modifiers that are held for the next key alone, by buttons.
@@ -1132,15 +1186,16 @@ export class Keyboard {
    * @param {HTMLTextAreaElement} field
    * @param {(keysym: number, isPressed: boolean) => void} send
    * @param {(action: import('./keysyms.js').Action) => void} act does what the page itself does at a key
-   * @param {{ isMac: boolean, isSelected: () => boolean }} surroundings  whether Option makes characters, and whether
-   *   text is selected
+   * @param {{ isMac: boolean, isSelected: () => boolean, paste: (text: string) => void }} surroundings  whether Option
+   *   makes characters, whether text is selected, and what takes a text that is pasted
    */
-  constructor(field, send, act, { isMac, isSelected }) {
+  constructor(field, send, act, { isMac, isSelected, paste }) {
     this.#field = field;
     this.#send = send;
     this.#act = act;
     this.#isMac = isMac;
     this.#isSelected = isSelected;
+    this.#paste = paste;
     field.addEventListener('keydown', (event) => this.press(event));
     field.addEventListener('keyup', (event) => this.#release(event.code));
     field.addEventListener('compositionstart', () => field.classList.add('composing'));
@@ -1148,9 +1203,12 @@ export class Keyboard {
     field.addEventListener('compositionend', () => this.#takeField());
     field.addEventListener('input', (event) => { if (!(/** @type {InputEvent} */ (event).isComposing)) this.#takeField(); });
     // What is pasted falls into the field, too. It may have come by Control, which is let go first.
-    field.addEventListener('paste', () => this.#releaseAll());
+    field.addEventListener('paste', () => {
+      this.letGo();
+      this.#isPasting = true;
+    });
     // The browser tells no release of a key that is let go elsewhere.
-    field.addEventListener('blur', () => this.#releaseAll());
+    field.addEventListener('blur', () => this.letGo());
     this.#empty();
   }
 
@@ -1163,7 +1221,7 @@ export class Keyboard {
     event.preventDefault();
     if (meaning === 'nothing') return;
     if ('action' in meaning) return this.#act(meaning.action);
-    if (meaning.isBare) this.#releaseAll();
+    if (meaning.isBare) this.letGo();
     else this.#holdAsIn(event, meaning);
     this.#beginHeld(meaning.keysym);
     this.#down.set(event.code, meaning.keysym);
@@ -1218,7 +1276,8 @@ export class Keyboard {
     this.#send(keysym, false);
   }
 
-  #releaseAll() {
+  /** Releases all keys that are down. */
+  letGo() {
     [...this.#down.keys()].forEach((code) => this.#release(code));
   }
 
@@ -1227,8 +1286,11 @@ export class Keyboard {
     const { value } = this.#field;
     this.#empty();
     const text = value.replaceAll(SENTINEL, '');
+    const isPasted = this.#isPasting;
+    this.#isPasting = false;
+    if (isPasted) this.#paste(text);
     // With Control held by a button, a letter is meant.
-    if (text !== '') this.type(this.#held.has(CONTROL) ? text.toLowerCase() : text);
+    else if (text !== '') this.type(this.#held.has(CONTROL) ? text.toLowerCase() : text);
     else if (value === '') this.tap(keysymNamed('Backspace'));
   }
 
@@ -1260,13 +1322,16 @@ const NAMED = {
 };
 
 // By where the key is, since the left one and the right one are held each for itself. Shift changes nothing there.
-const MODIFIERS = { ControlLeft: 0xffe3, ControlRight: 0xffe4, AltLeft: 0xffe9, AltRight: 0xffea };
+const PLACES = { ControlLeft: 0xffe3, ControlRight: 0xffe4, AltLeft: 0xffe9, AltRight: 0xffea };
 
 /** Control and Alt, which change what other keys send. */
-export const { ControlLeft: CONTROL, AltLeft: ALT } = MODIFIERS;
+export const { ControlLeft: CONTROL, AltLeft: ALT } = PLACES;
+
+/** All of them. */
+export const MODIFIERS = Object.values(PLACES);
 
 /** Whether the keysym is Control or Alt. */
-export const isModifier = (keysym) => Object.values(MODIFIERS).includes(keysym);
+export const isModifier = (keysym) => MODIFIERS.includes(keysym);
 
 /** The keysym of a key by its name, as Tab. */
 export const keysymNamed = (name) => NAMED[name];
@@ -1311,7 +1376,7 @@ const EVER = ['Backspace', 'Enter', 'Escape', 'Delete'];
 export function meaningOfKey(event, isMac) {
   const { key, code } = event;
   if (event.metaKey) return 'browser';
-  if (key === 'Control' || (key === 'Alt' && !isMac)) return code in MODIFIERS ? { keysym: MODIFIERS[code] } : 'browser';
+  if (key === 'Control' || (key === 'Alt' && !isMac)) return code in PLACES ? { keysym: PLACES[code] } : 'browser';
   if (key === 'AltGraph' || key === 'Dead' || key === 'Process' || key === 'Unidentified') return 'browser';
   if ([...key].length === 1) return character(event, isMac);
   return named(event, isMac);
@@ -1527,13 +1592,14 @@ import { Display } from './display.js';
 import { Follow } from './follow.js';
 import { Keyboard, isPaste } from './keyboard.js';
 import { meaningOfKey } from './keysyms.js';
-import { rightsOf, wayOn, wordsOf } from './messages.js';
-import { faultOf, formOf, joinBy, linkOf, requestOf, sessionOf, sizeOf, titleOf } from './request.js';
+import { BACK, LOST, THROWN, rightsOf, wayOn, wordsOf, wordsOfLink } from './messages.js';
+import { Paster } from './paste.js';
+import { faultOf, formOf, joinBy, linkOf, remember, remembered, requestOf, sessionOf, sizeOf, titleOf } from './request.js';
 import { Mouse, copyAsLines, copySelected, selectedText } from './selection.js';
 import { Speech } from './speech.js';
 import { buttonsOf } from './touch.js';
-import { Tunnel } from './tunnel.js';
-import { View, endOf } from './view.js';
+import { HttpTunnel } from './tunnel.js';
+import { View } from './view.js';
 
 /** @type {(id: string) => any} */
 const at = (id) => document.getElementById(id);
@@ -1541,6 +1607,9 @@ const at = (id) => document.getElementById(id);
 const PATH = location.origin + new URL('tunnel', location.href).pathname;
 const IS_MAC = /^(Mac|iP)/.test(navigator.platform);
 const FIELDS = ['hostname', 'port', 'columns', 'rows', 'terminal-type'];
+// How long, in milliseconds, what happened is told, and what a page that leaves is given to be gone.
+const NOTICED = 20000;
+const LEAVING = 3000;
 
 /** @type {View | null} */
 let view = null;
@@ -1560,15 +1629,47 @@ function tell(state, message = '') {
   at('message').textContent = message;
 }
 
+let noticed = 0;
+function notice(words) {
+  at('notice').textContent = words;
+  clearTimeout(noticed);
+  noticed = setTimeout(() => { at('notice').textContent = ''; }, NOTICED);
+}
+
+// What became of keys while the link was bad, until it is told that it is back.
+let trouble = '';
+function tellTrouble(words) {
+  trouble = words;
+  notice(words);
+}
+
 const told = {
   shown(stamp) {
     document.body.dataset.stamp = stamp;
     follow.shows(display.size);
   },
-  stalled(isStalled) {
-    tell(isStalled ? 'stalled' : 'open', isStalled ? 'The gateway hasn’t answered for 5 seconds. What you type is sent when it does.' : '');
+  changed(state) {
+    const before = document.body.dataset.state;
+    if (state === before) return;
+    tell(state, wordsOfLink(state, view?.types));
+    at('rights').textContent = state === 'open' ? rightsOf(request) : '';
+    at('again').hidden = state !== 'lost';
+    if (state === 'lost') keyboard.letGo();
+    if (state !== 'open') return;
+    if (before === 'opening') opened();
+    else notice(`${BACK} ${trouble}`.trim());
+    trouble = '';
   },
   answered(isAnswered) { at('rights').textContent = rightsOf(request, isAnswered); },
+  lost() {
+    keyboard.letGo();
+    tellTrouble(LOST);
+  },
+  thrown() {
+    // Nothing more is kept until the link is back.
+    at('message').textContent = wordsOfLink(document.body.dataset.state, false);
+    tellTrouble(THROWN);
+  },
 };
 
 // What is seen around the terminal while a request is under way.
@@ -1576,6 +1677,11 @@ function surround() {
   at('forms').hidden = true;
   at('again').hidden = true;
   at('screen').hidden = false;
+  at('again').textContent = 'Try now';
+  at('again').onclick = () => {
+    view?.hurry();
+    focusKeys();
+  };
   at('rights').textContent = '';
   at('links').hidden = !request.id;
   at('type').hidden = request.readOnly;
@@ -1600,29 +1706,31 @@ async function start(asked) {
   request = asked;
   surround();
   tell('opening', 'Opening …');
+  notice('');
   display.clear();
   const size = sizeOf(request, display.measured());
-  let end;
-  try {
-    view = new View(await Tunnel.open(PATH, formOf(request, size)), display, request.readOnly, told);
-    follow.begin(request.id ? null : size);
-    letFollow(!request.readOnly && !request.keepsSize);
-    focusKeys();
-    tell('open');
-    at('rights').textContent = rightsOf(request);
-    end = await view.run();
-  } catch (fault) {
-    end = endOf(fault);
-  }
-  const wasOpen = view !== null;
+  follow.begin(request.id ? null : size);
+  view = new View(() => new HttpTunnel(PATH), display, request.readOnly, told);
+  const end = await view.run(formOf(request, size));
+  // A page that is about to be another one needs no word of it.
+  if (end.by === 'left') await new Promise((passed) => setTimeout(passed, LEAVING));
   view = null;
   letFollow(false);
-  finish(end, wasOpen);
+  finish(end);
 }
 
-function finish(end, wasOpen) {
+// The session is there.
+function opened() {
+  remember(request);
+  letFollow(!request.readOnly && !request.keepsSize);
+  focusKeys();
+}
+
+function finish(end) {
   const { word, isAgain, isReload } = wayOn(end, request);
-  tell('ended', wordsOf(end, wasOpen));
+  if (end.by !== 'left') remember(null);
+  paster.forget();
+  tell('ended', wordsOf(end, !request.id));
   at('rights').textContent = '';
   at('links').hidden = true;
   at('again').textContent = word;
@@ -1688,8 +1796,11 @@ function send(keysym, isPressed) {
   view.press(keysym, isPressed);
 }
 
-const keyboard = new Keyboard(at('keys'), send, (action) => act[action](), { isMac: IS_MAC, isSelected: () => selectedText(at('screen')) !== '' });
-buttonsOf(at('touch'), at('keys'), keyboard);
+const paste = (text) => paster.paste(text);
+const keyboard = new Keyboard(at('keys'), send, (action) => act[action](), { isMac: IS_MAC, isSelected: () => selectedText(at('screen')) !== '', paste });
+const paster = new Paster(at('asking'), (text) => keyboard.type(text), notice, () => choices.now.asks, () => choices.change({ asks: false }));
+at('asking').addEventListener('close', focusKeys);
+buttonsOf(at('touch'), at('keys'), keyboard, paste);
 copyAsLines(at('screen'));
 new Mouse(at('screen'), focusKeys);
 
@@ -1735,16 +1846,27 @@ at('keep').addEventListener('change', () => {
   request.keepsSize = at('keep').checked;
   letFollow(view !== null && !request.keepsSize);
   if (!request.id) return;
+  remember(request);
   history.replaceState(null, '', linkOf(request, location.href));
   linkOthers();
 });
 // What is wrong in a part of a form that is folded would be told nowhere.
 at('open').addEventListener('invalid', (event) => event.target.closest('details')?.setAttribute('open', ''), true);
-addEventListener('hashchange', () => location.reload());
+addEventListener('hashchange', () => {
+  remember(null);
+  location.reload();
+});
 addEventListener('pagehide', () => view?.leave());
-// Nobody can come back to a session that was opened here, so the browser asks before it is left.
-addEventListener('beforeunload', (event) => { if (view && !request.id) event.preventDefault(); });
-begin(requestOf(location.hash));
+// A page that the browser has kept has left its session.
+addEventListener('pageshow', (event) => { if (event.persisted) location.reload(); });
+// Nobody can come back to a session that was opened here, so the browser asks before it is left. Any other is left now:
+// Firefox may end a page before it sends what is sent at its end.
+addEventListener('beforeunload', (event) => {
+  if (view === null || document.body.dataset.state === 'opening') return;
+  if (request.id) view.leave();
+  else event.preventDefault();
+});
+begin(requestOf(location.hash) ?? remembered());
 for (const id of ['open', 'join']) judge(at(id));
 "
 }
@@ -1789,6 +1911,8 @@ export function wordsOf(end, wasOpen) {
     case 'host': return 'The host has ended the session.';
     case 'error': return meaningOf({ code: end.code, status: 0 });
     case 'refusal': return (wasOpen && WHILE_OPEN[end.code]) || meaningOf(end);
+    case 'left': return 'You have left the session.';
+    case 'unreachable': return 'The link to the gateway was lost, and this session can’t be reached from here any more.';
     case 'unreadable': return 'The gateway sent something that this page can’t read.';
     default: return 'This page has a fault, and can’t go on.';
   }
@@ -1805,11 +1929,112 @@ export function wayOn(end, request) {
   return { word: 'Open another', isAgain: false };
 }
 
+/** How the link is, `types` where keys are sent. */
+export function wordsOfLink(state, types) {
+  const kept = types ? ' Keys are kept for 10 seconds.' : '';
+  if (state === 'lost') return `The link is lost. This page comes back by itself.${kept}`;
+  return state === 'unstable' ? `The gateway doesn’t answer.${kept}` : '';
+}
+
+/** What became of what was typed while the link was bad. */
+export const LOST = 'Some keys may be lost.';
+export const THROWN = 'What you typed was thrown away.';
+export const BACK = 'The link is back.';
+
 /** Who may type. The gateway tells nobody whose keys count, so of who joins it is said what is done, and what came of it. */
 export function rightsOf({ id, readOnly }, isAnswered = true) {
   if (readOnly) return 'You look on. Your keys are not sent.';
   if (!id) return 'You may type. Nobody else may join.';
   return isAnswered ? 'Your keys are sent.' : 'Your keys are sent, and nothing answers. This session may let you look on alone.';
+}
+"
+}
+
+// `/outbox.js`.
+fn outbox_js() -> &'static str {
+    "\
+// What a view sends, in its order. While there is no link, what is typed is kept for a while, and then thrown away: half
+// of a line that comes late is worse than none.
+
+import { textOf } from './instructions.js';
+import { MODIFIERS } from './keysyms.js';
+
+// The most instructions that are sent together.
+const MOST_INSTRUCTIONS = 4096;
+// How long, in milliseconds, keys are kept.
+const KEPT = 10000;
+
+const RELEASES = MODIFIERS.map((keysym) => ({ text: textOf('key', keysym, 0), isKey: true }));
+
+/** Sends instructions by one tunnel after the other. */
+export class Outbox {
+  /** @type {{ text: string, isKey: boolean }[]} */
+  #waiting = [];
+  /** @type {import('./tunnel.js').Tunnel | null} */
+  #tunnel = null;
+  #isSending = false;
+  #told;
+  #timer = 0;
+  #isThrown = false;
+
+  /** @param {{ lost(): void, thrown(): void }} told  keys may not have come to the host, or were thrown away */
+  constructor(told) {
+    this.#told = told;
+  }
+
+  /** Sends by this tunnel from now on. What isn't a key was for the one before. */
+  use(tunnel) {
+    this.#tunnel = tunnel;
+    this.#waiting = this.#waiting.filter(({ isKey }) => isKey);
+  }
+
+  /** Adds an instruction. Once keys were thrown away no others are kept. */
+  add(text, isKey = false) {
+    if (isKey && this.#isThrown) return;
+    this.#waiting.push({ text, isKey });
+    this.turn();
+  }
+
+  /** Modifiers that were held before are released before anything else is sent. */
+  release() {
+    this.#waiting.unshift(...RELEASES);
+  }
+
+  /** The tunnel has another state. */
+  turn() {
+    if (this.#tunnel?.state === 'open') {
+      clearTimeout(this.#timer);
+      this.#timer = 0;
+      this.#isThrown = false;
+      this.#send();
+    } else if (this.#timer === 0 && this.#waiting.some(({ isKey }) => isKey)) this.#timer = setTimeout(() => this.#throw(), KEPT);
+  }
+
+  #throw() {
+    this.#isThrown = true;
+    this.#waiting = this.#waiting.filter(({ isKey }) => !isKey);
+    this.release();
+    this.#told.thrown();
+  }
+
+  async #send() {
+    if (this.#isSending) return;
+    this.#isSending = true;
+    while (this.#tunnel?.state === 'open' && this.#waiting.length > 0) {
+      const part = this.#waiting.splice(0, MOST_INSTRUCTIONS);
+      await this.#tunnel.send(part.map(({ text }) => text).join('')).catch((fault) => this.#failed(part, fault));
+    }
+    this.#isSending = false;
+  }
+
+  // What may have been done isn't sent again: a Return that comes twice does harm, and a key that is missing is seen.
+  #failed(part, fault) {
+    if (fault.isUndone) this.#waiting.unshift(...part);
+    else if (part.some(({ isKey }) => isKey)) {
+      this.release();
+      this.#told.lost();
+    }
+  }
 }
 "
 }
@@ -1882,6 +2107,75 @@ function lift(ink, paper) {
 
 /** A colour as CSS has it. @param {Colour} colour */
 export const cssOf = (colour) => `rgb(${colour.join(',')})`;
+"
+}
+
+// `/paste.js`.
+fn paste_js() -> &'static str {
+    "\
+// What is pasted. Several lines are asked about, since each may be a command that the host does at once.
+
+/** The most bytes that are pasted, in UTF-8. */
+export const MOST = 262144;
+// How much of it is shown.
+const SHOWN = 2000;
+
+/** How many lines and bytes a text has. A line that is finished begins no other one. */
+export function sizeOf(text) {
+  const lines = text.split(/\\r\\n|\\r|\\n/);
+  if (lines.at(-1) === '') lines.pop();
+  return { lines: lines.length, bytes: new TextEncoder().encode(text).length };
+}
+
+/** Pastes texts into a terminal: `asking` is a dialog, `type` types, `tell` tells why one isn't pasted. */
+export class Paster {
+  #asking;
+  #type;
+  #tell;
+  #isAsked;
+  #stopAsking;
+  #text = '';
+
+  /**
+   * @param {HTMLDialogElement} asking @param {(text: string) => void} type @param {(words: string) => void} tell
+   * @param {() => boolean} isAsked  whether it is asked @param {() => void} stopAsking
+   */
+  constructor(asking, type, tell, isAsked, stopAsking) {
+    this.#asking = asking;
+    this.#type = type;
+    this.#tell = tell;
+    this.#isAsked = isAsked;
+    this.#stopAsking = stopAsking;
+    asking.addEventListener('close', () => this.#answer());
+  }
+
+  paste(text) {
+    const { lines, bytes } = sizeOf(text);
+    if (bytes > MOST) return this.#tell(`This is too long to paste: it has ${bytes.toLocaleString('en')} bytes, and at most ${MOST.toLocaleString('en')} are pasted. Nothing was sent.`);
+    if (lines < 2 || !this.#isAsked()) return this.#type(text);
+    const [title, sample] = this.#asking.querySelectorAll('h1, pre');
+    title.textContent = `Paste ${lines.toLocaleString('en')} lines?`;
+    sample.textContent = text.length > SHOWN ? `${text.slice(0, SHOWN)}…` : text;
+    this.#text = text;
+    this.#asking.returnValue = '';
+    this.#asking.querySelector('input').checked = false;
+    this.#asking.showModal();
+  }
+
+  // The session may be over by now.
+  #answer() {
+    const text = this.#text;
+    this.#text = '';
+    if (this.#asking.returnValue !== 'paste') return;
+    if (this.#asking.querySelector('input').checked) this.#stopAsking();
+    this.#type(text);
+  }
+
+  /** Takes a question back. */
+  forget() {
+    this.#asking.close();
+  }
+}
 "
 }
 
@@ -2217,7 +2511,7 @@ fn player_js() -> &'static str {
 // A player of recordings: the text of instructions is read once, from its beginning, and any of its syncs is shown
 // from the picture that was kept before it. It knows of no canvas, so it can be tried without a browser.
 
-import { Unreadable } from './instructions.js';
+import { Unreadable, instructionsFrom } from './instructions.js';
 import { Layers } from './layers.js';
 
 /** A picture is kept every so many characters of the recording, or sooner, where drawing took long. */
@@ -2227,37 +2521,6 @@ const KEPT_AFTER = 30;
 const MOST_KEPT = 512;
 /** How long a part of the reading takes, in milliseconds, before whoever shows it has a turn. */
 const PART = 25;
-
-// Where the value of so many characters ends that begins at a place. A character has two units where it is a surrogate
-// pair.
-function endOf(text, start, characters) {
-  const end = start + characters;
-  if (!/[\\ud800-\\udfff]/.test(text.slice(start, end))) return end;
-  let at = start;
-  for (let n = 0; n < characters && at < text.length; n++) at += text.codePointAt(at) > 0xffff ? 2 : 1;
-  return at;
-}
-
-/** The instructions of a text from a place on, each with the place behind it. One that isn't finished is left out. */
-function* instructionsFrom(text, start) {
-  let at = start;
-  while (at < text.length) {
-    const instruction = [];
-    for (let separator = ','; separator === ',';) {
-      const dot = text.indexOf('.', at);
-      const length = text.slice(at, dot < 0 ? text.length : dot);
-      if (dot < 0 && /^[0-9]{0,5}$/.test(length)) return;
-      if (!/^[0-9]{1,5}$/.test(length)) throw new Unreadable(`no length at ${at}`);
-      const end = endOf(text, dot + 1, Number(length));
-      if (end >= text.length) return;
-      instruction.push(text.slice(dot + 1, end));
-      separator = text[end];
-      if (separator !== ',' && separator !== ';') throw new Unreadable(`no end at ${end}`);
-      at = end + 1;
-    }
-    yield { instruction, end: at };
-  }
-}
 
 // Pixels in a quarter of the room, where they have few colours, as those of a terminal do.
 function packed(pixels) {
@@ -2578,6 +2841,23 @@ export function faultOf(name, value) {
   }
 }
 
+// Where a tab keeps the session that it shows.
+const KEY = 'guacgate';
+
+/** Keeps a session whose ID is known, so that a reload comes back to it, or forgets it. */
+export function remember(request) {
+  try {
+    if (request?.id) sessionStorage.setItem(KEY, JSON.stringify({ id: request.id, readOnly: request.readOnly, keepsSize: request.keepsSize }));
+    else sessionStorage.removeItem(KEY);
+  } catch { /* Then the address alone leads back. */ }
+}
+
+/** The session that this tab has shown, where it is loaded again, or null. */
+export function remembered() {
+  const [way] = /** @type {PerformanceNavigationTiming[]} */ (performance.getEntriesByType('navigation'));
+  try { return way?.type === 'reload' ? JSON.parse(sessionStorage.getItem(KEY) ?? 'null') : null; } catch { return null; }
+}
+
 const idIn = (text) => text.replace('%24', '$').match(/\\$[0-9a-f]{8}(-[0-9a-f]{4}){3}-[0-9a-f]{12}/)?.[0];
 
 /** The address that others join by, where the session's ID is known. */
@@ -2604,28 +2884,41 @@ fn rest_js() -> &'static str {
     "\
 // How long a page waits before it asks again.
 
-const SHORT = 10;
-const LONGEST = 160;
+/** Rests in milliseconds: between reads that found nothing, and between tries to come back to a gateway that isn't
+ *  reached. `hidden` is the least one of a page that nobody sees. */
+export const READS = { lengths: [0, 10, 20, 40, 80, 160], hidden: 1000, events: ['visibilitychange'] };
+export const TRIES = { lengths: [300, 1000, 3000, 10000], hidden: 60000, events: ['online', 'visibilitychange'] };
 
-/** Rests between requests that found nothing: none behind the first, then 10 milliseconds, 20, 40, 80, and 160 from
- *  there on. */
+/** Rests, each of the length that is listed behind the one before, and of the last one from there on. */
 export class Rest {
-  #length = 0;
+  #of;
+  #count = 0;
   #end = () => {};
+
+  /** The events of the page's window end a rest. @param {{ lengths: number[], hidden: number, events: string[] }} of */
+  constructor(of) {
+    this.#of = of;
+  }
 
   /** Rests once. */
   async once() {
+    const { lengths, hidden, events } = this.#of;
+    const length = lengths[Math.min(this.#count++, lengths.length - 1)];
+    const cut = () => this.cut();
+    let timer;
     await new Promise((end) => {
       this.#end = () => end(undefined);
-      setTimeout(end, this.#length);
+      timer = setTimeout(end, globalThis.document?.hidden ? Math.max(length, hidden) : length);
+      events.forEach((name) => globalThis.addEventListener?.(name, cut));
     });
-    this.#length = Math.min(2 * this.#length || SHORT, LONGEST);
+    clearTimeout(timer);
+    events.forEach((name) => globalThis.removeEventListener?.(name, cut));
   }
 
   /** Ends a rest that is under way, and begins anew. */
   cut() {
     this.#end();
-    this.#length = 0;
+    this.#count = 0;
   }
 }
 "
@@ -3200,6 +3493,17 @@ details[open] > summary { margin-bottom: .5em; }
 #text ::selection, #scrollback ::selection { background: #2c5c94; color: #fff; }
 #screen[data-text=\"exact\"] #text ::selection { background: #4a8fe0a0; color: transparent; }
 body[data-state=\"ended\"] #terminal { filter: brightness(.6); }
+body[data-state=\"lost\"] #terminal { filter: brightness(.75); }
+
+/* What is asked about is a part of the terminal, above the line at its foot. */
+#asking { position: fixed; inset: auto 0 3em; margin: 0 auto; width: min(48em, calc(100vw - 1.8em)); padding: 0; background: #000; color: #d7dce1; border: 1px solid #4d7fb3; font: 14px/1.35 var(--family, monospace); color-scheme: dark; }
+#asking::backdrop { background: #0006; }
+#asking form { width: auto; gap: .7em; padding: .9em 1.1em; background: none; border: 0; }
+#asking h1 { margin: 0; font-size: 1em; color: #e8bd4f; }
+#asking pre { margin: 0; max-height: 30vh; overflow: auto; font: inherit; color: #aaa; white-space: pre; scrollbar-color: #4b5560 transparent; }
+#asking button, #asking input { border-radius: 0; }
+#asking button[value=\"\"] { background: none; color: inherit; border-color: #67727e; }
+.buttons { display: flex; gap: .7em; }
 
 /* It has the focus, stands at the cursor, and is seen while an input method shows what it makes. */
 #keys { left: calc(var(--x, 0) * var(--cell-width)) !important; top: calc(var(--y, 0) * var(--cell-height)) !important; width: 1px; height: var(--cell-height); padding: 0; border: 0; outline: 0; margin: 0; opacity: 0; scroll-margin: 0 6em; resize: none; overflow: hidden; white-space: pre; font: var(--font)/var(--cell-height) var(--family); background: #20364f; color: #fff; caret-color: transparent; pointer-events: none; }
@@ -3212,14 +3516,17 @@ body[data-state=\"open\"] footer::before { background: var(--good); }
 body[data-state=\"ended\"] footer::before { background: var(--bad); }
 footer button { padding: .1em .9em; }
 #message { font-weight: 600; color: var(--text); }
-body[data-state=\"stalled\"] #message { color: var(--warn); }
-#message:empty, #rights:empty { display: none; }
+body:is([data-state=\"unstable\"], [data-state=\"lost\"]) #message { color: var(--warn); }
+#notice { color: var(--text); }
+/* The line keeps its height, so that the terminal does. */
+footer:has(#notice:not(:empty)) :is(#rights, #links), body:not([data-state=\"open\"]) #links { display: none; }
+#message:empty, #notice:empty, #rights:empty { display: none; }
 #hint { display: none; color: var(--warn); }
 body[data-state=\"open\"][data-types]:has(footer :focus) #hint { display: inline; }
 #links { margin-left: auto; }
 #links a { color: var(--accent); margin-left: .4em; }
 #panel { position: relative; margin-left: auto; }
-#links:not([hidden]) ~ #panel { margin-left: 0; }
+body[data-state=\"open\"] footer:not(:has(#notice:not(:empty))) #links:not([hidden]) ~ #panel { margin-left: 0; }
 #panel > summary { padding: .1em .5em; }
 #panel[open] > summary { margin: 0; color: var(--text); }
 .panel { position: absolute; right: 0; bottom: calc(100% + .7em); z-index: 1; width: min(24em, calc(100vw - 1.8em)); max-height: calc(100dvh - 5em); overflow: auto; padding: 1.1em 1.2em; background: var(--raised); border: 1px solid var(--edge); border-radius: 10px; box-shadow: 0 8px 28px #000a; color: var(--text); }
@@ -3335,23 +3642,24 @@ import { ALT, CONTROL, keysymNamed } from './keysyms.js';
 
 const HELD = { Control: CONTROL, Alt: ALT };
 
-/** Lets the buttons of an element press the keys that their `data-key` names, by a keyboard whose field keeps the focus. */
-export function buttonsOf(element, field, keyboard) {
+/** Lets the buttons of an element press the keys that their `data-key` names, by a keyboard whose field keeps the focus,
+ *  and paste. */
+export function buttonsOf(element, field, keyboard, paste) {
   const buttons = [...element.querySelectorAll('button')];
   // A button that takes the focus would hide the keyboard on the screen.
   element.addEventListener('pointerdown', (event) => event.preventDefault());
   element.addEventListener('mousedown', (event) => event.preventDefault());
   const press = async (button) => {
     const { key } = button.dataset;
-    if (key === 'Paste') keyboard.type(await navigator.clipboard.readText().catch(() => ''));
+    if (key === 'Paste') paste(await navigator.clipboard.readText().catch(() => ''));
     else if (key in HELD) button.setAttribute('aria-pressed', String(keyboard.hold(HELD[key])));
     else keyboard.tap(keysymNamed(key));
   };
   buttons.forEach((button) => button.addEventListener('click', () => press(button)));
   field.addEventListener('free', () => buttons.forEach((it) => { if (it.hasAttribute('aria-pressed')) it.setAttribute('aria-pressed', 'false'); }));
-  const paste = buttons.find((it) => it.dataset.key === 'Paste');
+  const pasting = buttons.find((it) => it.dataset.key === 'Paste');
   // A page that isn't reached by HTTPS may not read the clipboard.
-  if (paste) paste.hidden = !navigator.clipboard?.readText;
+  if (pasting) pasting.hidden = !navigator.clipboard?.readText;
 }
 "
 }
@@ -3359,10 +3667,35 @@ export function buttonsOf(element, field, keyboard) {
 // `/tunnel.js`.
 fn tunnel_js() -> &'static str {
     "\
-// A tunnel to the gateway over plain HTTP requests (docs/PROTOCOL.md, \"The HTTP tunnel\"): one request opens it,
-// others read what the viewer is given and write what it sends.
+// Ways to the gateway. A tunnel carries instructions there and back and tells how the link is, as those of Guacamole's
+// own client do; a view knows nothing of what it stands on.
 
-import { textOf } from './instructions.js';
+import { Reader, Unreadable, textOf } from './instructions.js';
+import { READS, Rest, TRIES } from './rest.js';
+
+/** @typedef {'connecting' | 'open' | 'unstable' | 'closed'} State */
+
+/**
+ * Who is told of a tunnel: each new state, and with `closed` the fault, where it is closed by one; and the instructions
+ * that came together.
+ * @typedef {object} Hearer
+ * @property {(state: State, fault?: Error) => void} changed
+ * @property {(instructions: string[][]) => void} given
+ */
+
+/**
+ * A tunnel, for one connection.
+ * @typedef {object} Tunnel
+ * @property {State} state
+ * @property {string} session  the ID of the session once it is open, or nothing where the tunnel isn't told it
+ * @property {(form: Record<string, string>, hearer: Hearer) => void} connect  opens a session, or joins one
+ * @property {(text: string) => Promise<void>} send  sends whole instructions, and ends once they have come to the gateway
+ * @property {() => void} cut  gives the link up, as if it was lost
+ * @property {() => void} disconnect  leaves, also while the page goes away
+ * @property {() => Promise<void>} giveBack  gives back the place of a closed tunnel, or fails where nothing is reached
+ */
+
+const NO_MEMORY = 512;
 
 /** A request that was refused, or had no answer: `code` is the status of Guacamole, 0 where there is none. */
 export class Refusal extends Error {
@@ -3371,75 +3704,182 @@ export class Refusal extends Error {
     this.code = code;
     this.status = status;
   }
-}
 
-// The text that the answer to a request has.
-async function answerTo(url, options) {
-  let response;
-  try {
-    response = await fetch(url, { cache: 'no-store', ...options });
-    if (response.ok) return await response.text();
-  } catch {
-    throw new Refusal(0, 0);
+  /** Whether it is the link's, or the gateway's for a while, so that the same may work later. */
+  get mayPass() {
+    return this.code === NO_MEMORY || (this.code === 0 && [0, 500, 502, 503, 504].includes(this.status));
   }
-  throw new Refusal(Number(response.headers.get('Guacamole-Status-Code')) || 0, response.status);
+
+  /** Whether it tells that nothing was done. A request without an answer may have been heard. */
+  get isUndone() {
+    return this.mayPass && [500, 502, 503].includes(this.status);
+  }
 }
 
-// The most instructions that one request may have.
-const MOST_INSTRUCTIONS = 4096;
+// Behind what a read gives.
+const END = '0.;';
+// In milliseconds: how long a session may take to open, and any other request but a read, which waits for news; after
+// which time without an answer a link counts as unstable; how long a page that is seen hears nothing before it asks
+// whether the gateway is there.
+const OPENING = 120000;
+const LIMIT = 15000;
+const STALLED = 5000;
+const QUIET = 10000;
+const BETWEEN_LOOKS = 500;
 
-/** A viewer's tunnel. */
-export class Tunnel {
+const isLast = ([opcode]) => opcode === 'disconnect' || opcode === 'error';
+
+/** A tunnel over plain HTTP requests (docs/PROTOCOL.md, \"The HTTP tunnel\"): one request opens it, others read what the
+ *  viewer is given and write what it sends. @implements {Tunnel} */
+export class HttpTunnel {
+  /** @type {State} */
+  state = 'connecting';
+  session = '';
   #path;
-  #id;
-  #waiting = [];
-  #isWriting = false;
-  #asked = Infinity;
+  #id = '';
+  /** @type {Hearer} */
+  #hearer = { changed() {}, given() {} };
+  #reader = new Reader();
+  #rest = new Rest(READS);
+  // The requests that are under way, and since when those that aren't reads have had no answer.
+  #underWay = new Set();
+  #asked = new Set();
+  #answered = 0;
+  #isLost = false;
+  #looks = 0;
 
-  constructor(path, id) {
+  constructor(path) {
     this.#path = path;
-    this.#id = id;
   }
 
-  /** Opens a tunnel: `form` has the fields of a session that begins, or the ID of one that is joined. */
-  static async open(path, form) {
-    const id = await answerTo(`${path}?connect`, { method: 'POST', body: new URLSearchParams(form) });
-    return new Tunnel(path, id);
-  }
-
-  /** For how many milliseconds a write has had no answer: 0 where none is under way. A read may wait as long as nothing
-   *  happens, so it tells nothing of the link. */
-  get silence() {
-    return Math.max(0, performance.now() - this.#asked);
-  }
-
-  /** What the viewer is given next: whole instructions, or an empty text where there is nothing new yet. */
-  async read() {
-    const text = await answerTo(`${this.#path}?read:${this.#id}`);
-    if (!text.endsWith('0.;')) throw new Refusal(0, 0);
-    return text.slice(0, -'0.;'.length);
-  }
-
-  /** Sends instructions in the order of the calls, those that wait together in one request. */
-  async write(instruction) {
-    this.#waiting.push(instruction);
-    if (this.#isWriting) return;
-    this.#isWriting = true;
+  async connect(form, hearer) {
+    this.#hearer = hearer;
+    this.session = form.id ?? '';
     try {
-      while (this.#waiting.length > 0) {
-        const body = this.#waiting.splice(0, MOST_INSTRUCTIONS).join('');
-        this.#asked = performance.now();
-        await answerTo(`${this.#path}?write:${this.#id}`, { method: 'POST', body });
-      }
-    } finally {
-      this.#isWriting = false;
-      this.#asked = Infinity;
+      this.#id = await this.#answerTo('connect', new URLSearchParams(form), this.session !== '' ? LIMIT : OPENING);
+      this.#become('open');
+      this.#looks = setInterval(() => this.#look(), BETWEEN_LOOKS);
+      while (this.state !== 'closed') await this.#read();
+    } catch (fault) {
+      this.#close(fault);
     }
   }
 
-  /** Leaves. It can be called while the page goes away. */
-  leave() {
-    navigator.sendBeacon(`${this.#path}?write:${this.#id}`, textOf('disconnect'));
+  async #read() {
+    // A gateway without memory for an answer gives it to the next read.
+    const text = await this.#answerTo('read').catch((fault) => {
+      if (fault.code !== NO_MEMORY) throw fault;
+      return END;
+    });
+    if (!text.endsWith(END)) throw new Refusal(0, 0);
+    const instructions = this.#reader.read(text.slice(0, -END.length));
+    if (!this.#reader.isWhole) throw new Unreadable('an instruction without its end');
+    if (instructions.length > 0) this.#hearer.given(instructions);
+    if (instructions.some(isLast)) {
+      this.#id = '';
+      return this.#close();
+    }
+    // A gateway may answer at once though nothing is new. It isn't asked again as fast as it can answer.
+    if (instructions.length === 0 || globalThis.document?.hidden) await this.#rest.once();
+    else this.#rest.cut();
+  }
+
+  async send(text) {
+    this.#rest.cut();
+    try {
+      await this.#answerTo('write', text, LIMIT);
+    } catch (fault) {
+      // Who can join again sees the whole screen then. Who can't goes on with the reads, as long as they are answered.
+      if (this.session !== '' || !fault.mayPass) this.#close(fault);
+      else this.#regain();
+      throw fault;
+    }
+  }
+
+  cut() {
+    this.#close(new Refusal(0, 0));
+  }
+
+  disconnect() {
+    if (this.#id !== '') navigator.sendBeacon(`${this.#path}?write:${this.#id}`, textOf('disconnect'));
+    this.#id = '';
+    this.#close();
+  }
+
+  async giveBack() {
+    if (this.#id === '') return;
+    try {
+      await this.#answerTo('write', textOf('disconnect'), LIMIT);
+    } catch (fault) {
+      if (fault.mayPass) throw fault;
+    }
+    this.#id = '';
+  }
+
+  #become(state) {
+    if (state === this.state || this.state === 'closed') return;
+    this.state = state;
+    this.#hearer.changed(state);
+  }
+
+  /** @param {Error} [fault] */
+  #close(fault) {
+    if (this.state === 'closed') return;
+    this.state = 'closed';
+    clearInterval(this.#looks);
+    this.#underWay.forEach((it) => it.abort());
+    this.#hearer.changed('closed', fault);
+  }
+
+  // Whether the link gives answers. A read may wait as long as nothing happens, so it tells nothing of that.
+  #look() {
+    const now = performance.now();
+    const isSilent = now - Math.min(...this.#asked) > STALLED;
+    this.#become(isSilent || this.#isLost ? 'unstable' : 'open');
+    // A machine without a network may be the gateway's own.
+    const quiet = globalThis.navigator?.onLine === false ? BETWEEN_LOOKS : QUIET;
+    if (this.state === 'open' && this.#asked.size === 0 && now - this.#answered > quiet && !globalThis.document?.hidden) this.send('').catch(() => {});
+  }
+
+  // Asks until the gateway is there again.
+  async #regain() {
+    if (this.#isLost) return;
+    this.#isLost = true;
+    this.#become('unstable');
+    const rest = new Rest(TRIES);
+    while (this.#isLost && this.state !== 'closed') {
+      await rest.once();
+      try {
+        await this.#answerTo('write', '', LIMIT);
+        this.#isLost = false;
+      } catch (fault) {
+        if (!fault.mayPass) this.#close(fault);
+      }
+    }
+    this.#become('open');
+  }
+
+  // The text that the answer to a request has.
+  /** @param {'connect' | 'read' | 'write'} what @param {BodyInit} [body] @param {number} [limit] */
+  async #answerTo(what, body = '', limit = 0) {
+    const abort = new AbortController();
+    const since = performance.now();
+    const timer = limit > 0 ? setTimeout(() => abort.abort(), limit) : 0;
+    this.#underWay.add(abort);
+    if (what === 'write') this.#asked.add(since);
+    let response;
+    try {
+      response = await fetch(`${this.#path}?${what}${what === 'connect' ? '' : `:${this.#id}`}`, { ...(what === 'read' ? {} : { method: 'POST', body }), cache: 'no-store', signal: abort.signal });
+      if (response.ok) return await response.text();
+    } catch {
+      throw new Refusal(0, 0);
+    } finally {
+      clearTimeout(timer);
+      this.#underWay.delete(abort);
+      this.#asked.delete(since);
+      this.#answered = performance.now();
+    }
+    throw new Refusal(Number(response.headers.get('Guacamole-Status-Code')) || 0, response.status);
   }
 }
 "
@@ -3448,50 +3888,85 @@ export class Tunnel {
 // `/view.js`.
 fn view_js() -> &'static str {
     "\
-// One view of a session, from its opening to its end.
+// One view of a session, from its opening to its end, by one tunnel after the other where the link is lost.
 
 import { CELL_HEIGHT, CELL_WIDTH } from './font.js';
-import { Unreadable, instructionsOf, textOf } from './instructions.js';
-import { Rest } from './rest.js';
+import { Unreadable, textOf } from './instructions.js';
+import { isModifier } from './keysyms.js';
+import { Outbox } from './outbox.js';
+import { Rest, TRIES } from './rest.js';
 import { Refusal } from './tunnel.js';
 
 /**
- * How a view ended: by the host, by an `error` of the gateway or a refusal of it, by what can't be read, or by a fault
- * of the page.
- * @typedef {{ by: 'host' } | { by: 'error', code: number } | { by: 'refusal', code: number, status: number } | { by: 'unreadable' } | { by: 'fault' }} End
+ * How a view ended: by the host, by whoever left, by an `error` of the gateway or a refusal of it, by a link that is lost
+ * to a session that can't be joined, by what can't be read, or by a fault of the page.
+ * @typedef {{ by: 'host' } | { by: 'left' } | { by: 'error', code: number } | { by: 'refusal', code: number, status: number } | { by: 'unreachable' } | { by: 'unreadable' } | { by: 'fault' }} End
  */
 
-// How long, in milliseconds, the gateway may take for a write before the link counts as stalled, and for something new
-// behind a key before the viewer is told that nothing answers.
-const STALLED = 5000;
+/**
+ * Who is told of a view: the stamp that is shown; how the link is; whether something new comes behind a key; that keys
+ * may be lost, or were thrown away.
+ * @typedef {object} Told
+ * @property {(stamp: string) => void} shown
+ * @property {(state: 'open' | 'unstable' | 'lost') => void} changed
+ * @property {(isAnswered: boolean) => void} answered
+ * @property {() => void} lost
+ * @property {() => void} thrown
+ */
+
+// How long, in milliseconds, something new may take behind a key before the viewer is told that nothing answers.
 const UNANSWERED = 3000;
 const BETWEEN_LOOKS = 500;
+// Where the clock went on by so much between two looks the machine has slept, and a link may be dead that looks open.
+// Browsers look once a minute for a page that isn't seen.
+const SLEPT = 20000;
+const SLEPT_HIDDEN = 90000;
+// A link that was open for so long begins anew with its tries.
+const STEADY = 10000;
 // Pixels to the inch, which the protocol has and the gateway passes over.
 const RESOLUTION = 96;
+// The statuses of a tunnel or a session that isn't there, and of one that is full.
+const ABSENT = 516;
+const FULL = 797;
 
 /** A viewer's way: it reads, shows and acknowledges, and sends keys. */
 export class View {
-  #tunnel;
+  #make;
+  /** @type {import('./tunnel.js').Tunnel | null} */
+  #tunnel = null;
+  // Tunnels whose places aren't given back yet.
+  #past = new Set();
   #display;
   #readOnly;
-  #rest = new Rest();
   #told;
+  #outbox;
+  #tries = new Rest(TRIES);
+  // What the next tunnel opens or joins.
+  /** @type {Record<string, string>} */
+  #form = {};
+  #wasOpen = false;
+  #hasLeft = false;
+  /** @type {End | null} */
+  #end = null;
+  // A size that was told while there was no link.
+  #size = '';
   #sent = 0;
-  #isStalled = false;
   #isAnswered = true;
   #looks = 0;
+  #looked = { at: 0, isHidden: false };
 
   /**
-   * @param {import('./tunnel.js').Tunnel} tunnel
-   * @param {{ draw(instruction: string[]): boolean, settle(): void, show(): void }} display
+   * @param {() => import('./tunnel.js').Tunnel} make  makes a tunnel for each connection
+   * @param {{ draw(instruction: string[]): boolean, settle(): void, show(): void, renew(): void }} display
    * @param {boolean} readOnly
-   * @param {{ shown(stamp: string): void, stalled(isStalled: boolean): void, answered(isAnswered: boolean): void }} told
+   * @param {Told} told
    */
-  constructor(tunnel, display, readOnly, told) {
-    this.#tunnel = tunnel;
+  constructor(make, display, readOnly, told) {
+    this.#make = make;
     this.#display = display;
     this.#readOnly = readOnly;
     this.#told = told;
+    this.#outbox = new Outbox(told);
   }
 
   /** Whether keys are sent. */
@@ -3499,77 +3974,137 @@ export class View {
     return !this.#readOnly;
   }
 
-  /** Shows what the viewer is given until the session is over, and answers how it ended. @returns {Promise<End>} */
-  async run() {
+  /** Shows what the viewer is given until the session is over or can't be reached, and answers how it ended. The form
+   *  opens a session, or joins one by its ID. It is joined again where the link was lost and its ID is known.
+   *  @returns {Promise<End>} */
+  async run(form) {
+    this.#form = form;
+    this.#looked.at = Date.now();
     this.#looks = setInterval(() => this.#look(), BETWEEN_LOOKS);
-    try {
-      for (;;) {
-        const text = await this.#tunnel.read();
-        const end = this.#play(text);
-        if (end) return end;
-        // A gateway may answer at once though nothing is new. It isn't asked again as fast as it can answer.
-        if (text === '') await this.#rest.once();
-        else this.#rest.cut();
-      }
-    } catch (fault) {
-      this.leave();
-      return endOf(fault);
-    } finally {
-      clearInterval(this.#looks);
+    /** @type {End | null} */
+    let end = null;
+    while (!this.#hasLeft && (end = await this.#attend()) === null) {
+      this.#told.changed('lost');
+      await this.#tries.once();
     }
+    clearInterval(this.#looks);
+    if (end === null || this.#hasLeft) end = { by: 'left' };
+    this.leave();
+    return end;
   }
 
-  /** Sends a key, but for a viewer who only looks on. A fault of it is told by the read that fails with it. */
+  // One connection, from its opening to its end. It answers how the view ended, or null where it can be tried again.
+  /** @returns {Promise<End | null>} */
+  async #attend() {
+    const since = Date.now();
+    let fault;
+    try {
+      for (const tunnel of this.#past) {
+        await tunnel.giveBack();
+        this.#past.delete(tunnel);
+      }
+      fault = await this.#hear();
+    } catch (caught) {
+      fault = caught;
+    }
+    const wasHere = this.#tunnel !== null;
+    if (this.#tunnel !== null) this.#past.add(this.#tunnel);
+    this.#tunnel = null;
+    this.#outbox.use(null);
+    if (this.#end !== null || this.#hasLeft) return this.#end;
+    if (!this.#wasOpen || !(fault instanceof Refusal)) return endOf(fault);
+    if (this.#form.id === undefined) return fault.mayPass ? { by: 'unreachable' } : endOf(fault);
+    if (wasHere && Date.now() - since > STEADY) this.#tries.cut();
+    return fault.mayPass || fault.code === FULL || (wasHere && fault.code === ABSENT) ? null : endOf(fault);
+  }
+
+  // Hears a tunnel until it is closed, and answers by which fault.
+  #hear() {
+    const tunnel = this.#make();
+    return new Promise((closed) => {
+      tunnel.connect(this.#form, {
+        given: (instructions) => this.#play(instructions),
+        changed: (state, fault) => {
+          if (state === 'open' && this.#tunnel === null) this.#begin(tunnel);
+          this.#outbox.turn();
+          if (!this.#hasLeft && (state === 'open' || state === 'unstable')) this.#told.changed(state);
+          if (state === 'closed') closed(fault);
+        },
+      });
+    });
+  }
+
+  #begin(tunnel) {
+    if (this.#hasLeft) return tunnel.disconnect();
+    this.#tunnel = tunnel;
+    if (tunnel.session !== '') this.#form = { id: tunnel.session, 'read-only': String(this.#readOnly) };
+    this.#outbox.use(tunnel);
+    if (this.#wasOpen) {
+      this.#display.renew();
+      if (this.types) this.#outbox.release();
+      if (this.#size !== '') this.#outbox.add(this.#size);
+    }
+    this.#wasOpen = true;
+    this.#size = '';
+    this.#sent = 0;
+  }
+
+  /** Sends a key, but for a viewer who only looks on. */
   press(keysym, isPressed) {
-    if (!this.types) return;
-    this.#tunnel.write(textOf('key', keysym, isPressed ? 1 : 0)).catch(() => {});
-    this.#rest.cut();
-    if (isPressed && this.#sent === 0) this.#sent = performance.now();
+    if (!this.types || !this.#wasOpen) return;
+    this.#outbox.add(textOf('key', keysym, isPressed ? 1 : 0), true);
+    if (isPressed && !isModifier(keysym) && this.#sent === 0 && this.#tunnel?.state === 'open') this.#sent = performance.now();
   }
 
   /** Gives the session a size, but for a viewer who only looks on. @param {import('./follow.js').Size} size */
   resize({ columns, rows }) {
     if (!this.types) return;
-    this.#tunnel.write(textOf('size', columns * CELL_WIDTH, rows * CELL_HEIGHT, RESOLUTION)).catch(() => {});
-    this.#rest.cut();
+    const text = textOf('size', columns * CELL_WIDTH, rows * CELL_HEIGHT, RESOLUTION);
+    if (this.#tunnel === null) this.#size = text;
+    else this.#outbox.add(text);
   }
 
+  /** Tries at once to come back to a link that is lost. */
+  hurry() {
+    this.#tries.cut();
+  }
+
+  /** Leaves, also while the page goes away. */
   leave() {
-    this.#tunnel.leave();
+    this.#hasLeft = true;
+    this.#tries.cut();
+    this.#tunnel?.disconnect();
+    this.#past.forEach((tunnel) => tunnel.disconnect());
   }
 
-  // Draws instructions, shows them at their last sync and acknowledges it. It answers how the session ended, where one
-  // of them says so.
-  #play(text) {
+  // Draws instructions, shows them at their last sync and acknowledges it.
+  #play(instructions) {
     let stamp = null;
-    /** @type {End | null} */
-    let end = null;
-    for (const instruction of instructionsOf(text)) {
+    for (const instruction of instructions) {
       const [opcode, ...given] = instruction;
       if (opcode === 'sync') {
         stamp = given[0];
         this.#display.settle();
-      } else if (opcode === 'disconnect') end = { by: 'host' };
-      else if (opcode === 'error') end = { by: 'error', code: Number(given[1]) };
+      } else if (opcode === 'disconnect') this.#end = { by: 'host' };
+      else if (opcode === 'error') this.#end = { by: 'error', code: Number(given[1]) };
       else this.#display.draw(instruction);
     }
     if (stamp !== null) this.#show(stamp);
-    return end;
   }
 
   #show(stamp) {
     this.#display.show();
     this.#told.shown(stamp);
-    this.#tunnel.write(textOf('sync', stamp)).catch(() => {});
+    this.#outbox.add(textOf('sync', stamp));
     this.#sent = 0;
     this.#answer(true);
   }
 
   #look() {
-    const isStalled = this.#tunnel.silence > STALLED || globalThis.navigator?.onLine === false;
-    if (isStalled !== this.#isStalled) this.#told.stalled(isStalled);
-    this.#isStalled = isStalled;
-    if (this.#sent !== 0 && performance.now() - this.#sent > UNANSWERED && !isStalled) this.#answer(false);
+    const { at, isHidden } = this.#looked;
+    this.#looked = { at: Date.now(), isHidden: globalThis.document?.hidden === true };
+    if (this.#form.id !== undefined && this.#looked.at - at > (isHidden ? SLEPT_HIDDEN : SLEPT)) this.#tunnel?.cut();
+    if (this.#sent !== 0 && performance.now() - this.#sent > UNANSWERED && this.#tunnel?.state === 'open') this.#answer(false);
   }
 
   #answer(isAnswered) {
@@ -3578,7 +4113,8 @@ export class View {
   }
 }
 
-/** How a fault ends a view. A frame that can't be read ends it, as all that isn't foreseen does. @returns {End} */
+/** How a fault ends a view. A frame that can't be read ends it, as all that isn't foreseen does.
+ *  @returns {End} */
 export function endOf(fault) {
   if (fault instanceof Refusal) return { by: 'refusal', code: fault.code, status: fault.status };
   if (fault instanceof Unreadable) return { by: 'unreadable' };
