@@ -41,6 +41,11 @@ export class Refusal extends Error {
     return this.code === NO_MEMORY || (this.code === 0 && [0, 500, 502, 503, 504].includes(this.status));
   }
 
+  /** Whether the session is over for the viewer. */
+  get isOver() {
+    return this.code === 516 || this.code === 523;
+  }
+
   /** Whether it tells that nothing was done. A request without an answer may have been heard. */
   get isUndone() {
     return this.mayPass && [500, 502, 503].includes(this.status);
@@ -78,6 +83,9 @@ export class HttpTunnel {
   #answered = 0;
   #isLost = false;
   #looks = 0;
+  #end = () => {};
+  /** @type {Promise<void>} */
+  #ended = new Promise((resolve) => { this.#end = resolve; });
 
   constructor(path) {
     this.#path = path;
@@ -120,6 +128,8 @@ export class HttpTunnel {
     try {
       await this.#answerTo('write', text, LIMIT);
     } catch (fault) {
+      // The read that is under way tells that a session is over, and why.
+      if (fault.isOver) return this.#ended;
       // Who can join again sees the whole screen then. Who can't goes on with the reads, as long as they are answered.
       if (this.session !== '' || !fault.mayPass) this.#close(fault);
       else this.#regain();
@@ -157,6 +167,7 @@ export class HttpTunnel {
   #close(fault) {
     if (this.state === 'closed') return;
     this.state = 'closed';
+    this.#end();
     clearInterval(this.#looks);
     this.#underWay.forEach((it) => it.abort());
     this.#hearer.changed('closed', fault);
@@ -184,7 +195,7 @@ export class HttpTunnel {
         await this.#answerTo('write', '', LIMIT);
         this.#isLost = false;
       } catch (fault) {
-        if (!fault.mayPass) this.#close(fault);
+        if (!fault.mayPass && !fault.isOver) this.#close(fault);
       }
     }
     this.#become('open');

@@ -71,8 +71,7 @@ def try_leaving(driver, telnet, web):
     page.click("#terminal")
     page.type(*"exit", RETURN)
     page.shows("the page is ended", "ended", STATE)
-    # A telnetd that ends with bytes unread resets its connection, and the gateway has lost the host then.
-    check("the end has its cause", True, page.run(MESSAGE).startswith(("The host has ended", "The gateway has closed")))
+    page.shows("the end has its cause", "The host has ended the session.", MESSAGE)
     page.shows("the button has the focus", "again", FOCUS)
     check_list(page, "an end")
     page.type(RETURN)

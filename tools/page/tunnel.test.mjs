@@ -48,6 +48,21 @@ for (const [given, code, status, mayPass] of [[answer('', 404, '516'), 516, 404,
   });
 }
 
+for (const refusal of [answer('', 404, '516'), answer('', 410, '523')]) {
+  test(`a write that is answered with ${refusal.status} leaves the end to the read`, async () => {
+    let end;
+    const { tunnel, news, closed } = network({ read: [() => new Promise((give) => { end = () => give(END); })], write: [refusal] });
+    await new Promise((go) => setTimeout(go));
+    const sent = tunnel.send('3.nop;');
+    await new Promise((go) => setTimeout(go));
+    assert.equal(tunnel.state, 'open');
+    end();
+    assert.equal(await closed, undefined);
+    assert.equal(await sent, undefined);
+    assert.deepEqual(news, ['open', 'disconnect', 'closed']);
+  });
+}
+
 test('a read that has no memory is made again', async () => {
   const { asked, closed } = network({ read: [answer('', 500, '512'), END] });
   assert.equal(await closed, undefined);
