@@ -40,8 +40,9 @@ def joined(driver, link, first, words="&keep-size"):
 
 def typed_over(page, link, stream, seconds):
     """Types letters while the link is cut for so long, and answers them, those that came to the host, and what was told."""
-    page.type(*"clear", RETURN)
-    until(True, lambda: screen_of(stream()).startswith(("$", "#")))
+    # What is typed while the screen is cleared goes with it.
+    page.type(*"clear; echo ready", RETURN)
+    until(True, lambda: screen_of(stream()).startswith("ready\n") and screen_of(stream()).rstrip()[-1:] in ("$", "#"))
     until_ready(page, stream)
     page.type(*"echo ")
     until_shown(page, stream, " echo\n")
@@ -60,8 +61,8 @@ def typed_over(page, link, stream, seconds):
     eventually(f"that it is back is told behind {seconds} seconds", True, lambda: "The link is back." in told())
     page.shows(f"a page is back behind {seconds} seconds", "open", STATE)
     page.type(RETURN)
-    until(True, lambda: len(screen_of(stream()).rstrip().split("\n")) >= 3 and screen_of(stream()).rstrip()[-1:] in ("$", "#"))
-    return typed, screen_of(stream()).split("\n")[1], told()
+    until(True, lambda: len(screen_of(stream()).rstrip().split("\n")) >= 4 and screen_of(stream()).rstrip()[-1:] in ("$", "#"))
+    return typed, screen_of(stream()).split("\n")[2], told()
 
 
 def try_blips(driver, gateway, telnet, web):
