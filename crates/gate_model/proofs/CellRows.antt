@@ -2,11 +2,12 @@
 use Rattle.std.proofs.Common.{◌≡◌, ℕ, List, [], ◌∷◌, false, refl}
 use Rattle.std.specs.Prelude.{map}
 use Rattle.gate_model.specs.declared.cell.Cell.{Cell}
+use Rattle.gate_model.specs.declared.cell.Half.TheVariants.{Whole}
 use Rattle.gate_model.specs.terminal.Cells.{CellGrid, blank_grid, cell_at, put, erased, inserted, deleted, scrolled_up, scrolled_down}
 
 -- a cell of a character, in the colours of a blank one
 letter : ℕ → Cell
-letter c = record { ch = c; ink = 7; paper = 0; under = false }
+letter c = record { ch = c; ink = 7; paper = 0; under = false; half = Whole }
 
 -- a grid of 3 columns and 3 rows with the characters A to I, row by row
 letters : CellGrid

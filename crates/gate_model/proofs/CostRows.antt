@@ -1,6 +1,8 @@
 -- Worked buffers, changed places and costs, computed from the definitions.
 use Rattle.std.specs.Prelude.{◌≡◌, ℕ, List, [], ◌∷◌, true, false, refl, pos, negsuc, length, Some}
 use Rattle.bstr.proofs.Computing.{computing}
+use Rattle.unicode_width.proofs.Computing.{unicode_width}
+use Rattle.gate_model.specs.terminal.Printing.{width_of}
 use Rattle.gate_model.specs.text.Reading.{read}
 use Rattle.gate_model.specs.picture.Palette.{colour_of}
 use Rattle.gate_model.specs.declared.colour.Colour.{Colour}
@@ -46,25 +48,25 @@ fed h bytes =
 
 -- a first A, then a B, whose cell showed the cursor, and then an A that has its buffer
 first_glyph : fed (opening 4 1) (65 ∷ []) ≡ record { scrolled = 0; changed = 0 ∷ 1 ∷ []; fresh = 1; most = 47 }
-unfolding computing read opening fed
+unfolding computing read opening fed width_of unicode_width
 first_glyph = refl
 
 second_glyph : fed (Feed (65 ∷ []) 2 [] ∷ opening 4 1) (66 ∷ []) ≡ record { scrolled = 0; changed = 1 ∷ 2 ∷ []; fresh = 1; most = 47 }
-unfolding computing read opening fed
+unfolding computing read opening fed width_of unicode_width
 second_glyph = refl
 
 known_glyph : fed (Feed (66 ∷ []) 3 [] ∷ Feed (65 ∷ []) 2 [] ∷ opening 4 1) (65 ∷ []) ≡ record { scrolled = 0; changed = 2 ∷ 3 ∷ []; fresh = 0; most = 7 }
-unfolding computing read opening fed
+unfolding computing read opening fed width_of unicode_width
 known_glyph = refl
 
 -- three lines on two rows: the row of A goes, and that of B moves up
 scroll : fed (opening 2 2) (65 ∷ 13 ∷ 10 ∷ 66 ∷ 13 ∷ 10 ∷ 67 ∷ []) ≡ record { scrolled = 1; changed = 0 ∷ 2 ∷ 3 ∷ []; fresh = 2; most = 89 }
-unfolding computing read opening fed
+unfolding computing read opening fed width_of unicode_width
 scroll = refl
 
 -- the keys that were shown, the oldest first: a blank under the cursor, a blank, the A and the B
 shown_so_far : length (keys_shown (Feed (65 ∷ []) 3 [] ∷ Feed (66 ∷ []) 2 [] ∷ opening 4 1)) ≡ 4
-unfolding computing read opening
+unfolding computing read opening width_of unicode_width
 shown_so_far = refl
 
 -- ---- keys
@@ -91,5 +93,5 @@ one_buffer : let m = layers (shown (screen (sized 1 1) [] [])) (letter 65 ∷ []
     ((m (pos 0)).width ≡ 8) × ((m (pos 0)).height ≡ 16) × ((m (pos 0)).pixel 7 15 ≡ Some grey)
     × ((m (negsuc 0)).width ≡ 8) × ((m (negsuc 0)).height ≡ 16) × ((m (negsuc 0)).pixel 1 4 ≡ Some grey) × ((m (negsuc 0)).pixel 1 2 ≡ Some black)
     × ((m (negsuc 1)).width ≡ 0) × ((m (pos 1)).height ≡ 0) × (buffer_key (letter 65 ∷ []) (negsuc 0) ≡ Some (letter 65))
-unfolding computing read colour_of picture lit letter grey black
+unfolding computing read colour_of picture lit letter grey black width_of unicode_width
 one_buffer = (refl, refl, refl, refl, refl, refl, refl, refl, refl, refl)

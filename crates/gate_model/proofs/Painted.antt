@@ -1,13 +1,12 @@
 -- The screen of a history keeps its colours, and is of the size in force.
-use Rattle.std.proofs.Common.{◌≡◌, ℕ, zero, suc, ◌*◌, ◌%◌, ◌/◌, List, [], ◌∷◌, ◌++◌, Bool, true, false, refl, sym, subst, length, arith, lit<, get_or}
-use Rattle.std.specs.List.{range_with_len}
-use Rattle.std.specs.Prelude.{All, IfSome, Option, Some, None, if◌then◌else◌, ◌&&◌, nat_lt}
+use Rattle.std.proofs.Common.{◌≡◌, ℕ, ◌*◌, List, [], ◌∷◌, ◌++◌, refl, sym, subst, length}
+use Rattle.std.specs.Prelude.{IfSome, Option, Some, None}
 use Rattle.std.specs.Option.{option_map}
-use Rattle.std.proofs.lemmas.List.Elements.{All-map, All-replicate}
-use Rattle.gate_model.specs.declared.cell.Cell.{Cell}
+use Rattle.std.proofs.lemmas.List.Elements.{All-replicate}
 use Rattle.gate_model.specs.declared.entry.Entry.{Entry}
 use Rattle.gate_model.specs.declared.entry.Entry.TheVariants.{Start, Feed, Size, Join, Read, Write, Take, Leave, Close}
 use Rattle.gate_model.specs.terminal.Cells.{CellGrid, blank, cell_at, kept_at, place}
+use Rattle.gate_model.specs.terminal.Cells as cells
 use Rattle.gate_model.specs.terminal.Effects.{effect}
 use Rattle.gate_model.specs.terminal.Resizing.{resized, saved_within}
 use Rattle.gate_model.specs.terminal.Screens.{Happening, Does, Turns, AreColoured, after_all, happens, shown}
@@ -16,27 +15,12 @@ use Rattle.gate_model.specs.terminal.Terminal.{Saved, Terminal, opening_screen}
 use Rattle.gate_model.specs.session.History.{History, at, bytes, columns, rows, cuts, first_size, size_now}
 use Rattle.gate_model.specs.session.Steps.{Legal}
 use Rattle.gate_model.proofs.Added.{IsNext, next}
-use Rattle.gate_model.proofs.ScreenLaws.{Coloured, IsPainted, IsPen, coloured-shown, effect-keeps, plain_pen}
-
-blank_coloured : Coloured blank
-blank_coloured = (lit< tt, lit< tt)
-
-coloured_at : (xs : List Cell) (place : ℕ) → All Coloured xs → Coloured (get_or xs place blank)
-coloured_at [] place c = blank_coloured
-coloured_at (x ∷ xs) zero c = c zero blank (omega arith)
-coloured_at (x ∷ xs) (suc n) c = coloured_at xs n (λ i d lt. c (suc i) d (omega (arith, lt)))
-
-kept_coloured : (x y : ℕ) (g : CellGrid) → All Coloured g.cells → Coloured (kept_at x y g)
-kept_coloured x y g c = pick (nat_lt x g.cols && nat_lt y g.rows)
-  where
-    pick : (b : Bool) → Coloured (if b then cell_at x y g else blank)
-    pick true = coloured_at g.cells (place x y g) c
-    pick false = blank_coloured
+use Rattle.gate_model.proofs.CellsKept.{resized_kept}
+use Rattle.gate_model.proofs.ScreenLaws.{Coloured, is_plain, mended-keeps, IsPainted, IsPen, coloured-shown, effect-keeps, plain_pen}
 
 resized_painted : (cols rows : ℕ) (t : Terminal) → IsPainted t → IsPainted (resized cols rows t)
 resized_painted cols rows t p = record {
-  cells = All-map Coloured (λ at. kept_at (at % cols) (at / cols) t.grid) (range_with_len 0 (rows * cols))
-      (λ i d lt. kept_coloured (get_or (range_with_len 0 (rows * cols)) i d % cols) (get_or (range_with_len 0 (rows * cols)) i d / cols) t.grid p.cells);
+  cells = (mended-keeps (cells.resized cols rows t.grid)).painted (resized_kept Coloured is_plain cols rows t.grid p.cells);
   pen = p.pen;
   saved = of_saved t.saved p.saved;
 }
@@ -51,7 +35,7 @@ after_all_painted t (Does c ∷ hs) p = after_all_painted (effect c t) hs ((effe
 after_all_painted t (Turns s ∷ hs) p = after_all_painted (resized s.columns s.rows t) hs (resized_painted s.columns s.rows t p)
 
 pub opened-painted : (c r : ℕ) → IsPainted (opening_screen c r)
-opened-painted c r = record { cells = All-replicate Coloured (r * c) blank blank_coloured; pen = plain_pen; saved = tt }
+opened-painted c r = record { cells = All-replicate Coloured (r * c) blank is_plain; pen = plain_pen; saved = tt }
 
 pub painted-at : (h : History) → IsPainted (at h)
 painted-at h = after_all_painted (opening_screen (columns h) (rows h)) (happens (bytes h) (cuts h)) (opened-painted (columns h) (rows h))

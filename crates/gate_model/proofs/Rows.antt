@@ -2,6 +2,8 @@
 use Rattle.std.proofs.Common.{◌≡◌, [], ◌∷◌, true, false, refl, pos}
 use Rattle.std.specs.Prelude.{Some, None}
 use Rattle.bstr.proofs.Computing.{computing}
+use Rattle.unicode_width.proofs.Computing.{unicode_width}
+use Rattle.gate_model.specs.terminal.Printing.{width_of}
 use Rattle.gate_model.specs.text.Reading.{read}
 use Rattle.gate_model.specs.picture.Palette.{colour_of}
 use Rattle.gate_model.specs.declared.colour.Colour.{Colour}
@@ -35,23 +37,23 @@ letter = (refl, refl, refl, refl, refl)
 
 -- the cursor on one blank cell
 smallest : (picture (shown (screen (sized 1 1) [] [])) 0 0 ≡ grey) × (picture (shown (screen (sized 1 1) [] [])) 7 15 ≡ grey)
-unfolding computing read colour_of picture lit grey
+unfolding computing read colour_of picture lit grey width_of unicode_width
 smallest = (refl, refl)
 
 -- an A, and the cursor behind it
 one_glyph : let s = shown (screen (sized 2 1) (65 ∷ []) []) in (picture s 1 4 ≡ grey) × (picture s 1 2 ≡ black) × (picture s 2 2 ≡ grey) × (picture s 8 0 ≡ grey)
-unfolding computing read colour_of picture lit grey black
+unfolding computing read colour_of picture lit grey black width_of unicode_width
 one_glyph = (refl, refl, refl, refl)
 
 -- the last column holds back the wrap until the next character
 pending_wrap : let before = shown (screen (sized 2 2) (65 ∷ 66 ∷ []) []) in let after = shown (screen (sized 2 2) (65 ∷ 66 ∷ 67 ∷ []) []) in
     (picture before 8 0 ≡ grey) × (picture after 8 0 ≡ black) × (picture after 1 18 ≡ black) × (picture after 1 20 ≡ grey) × (picture after 8 16 ≡ grey)
-unfolding computing read colour_of picture lit grey black
+unfolding computing read colour_of picture lit grey black width_of unicode_width
 pending_wrap = (refl, refl, refl, refl, refl)
 
 -- three lines on two rows
 scrolled : let s = shown (screen (sized 2 2) (65 ∷ 13 ∷ 10 ∷ 66 ∷ 13 ∷ 10 ∷ 67 ∷ []) []) in (picture s 1 2 ≡ grey) × (picture s 8 0 ≡ black) × (picture s 1 18 ≡ black)
-unfolding computing read colour_of picture lit grey black
+unfolding computing read colour_of picture lit grey black width_of unicode_width
 scrolled = (refl, refl, refl)
 
 -- a fill covers the path and nothing else; a rectangle after a fill begins a new path

@@ -1,37 +1,39 @@
 -- What every effect keeps: the size of the screen, and that each ink and paper is a colour.
-use Rattle.std.proofs.Common.{◌≡◌, ℕ, zero, suc, ◌+◌, ◌-◌, ◌*◌, ◌<◌, List, [], ◌∷◌, ◌++◌, Bool, true, false, refl, ◌∙◌, ap, length, take, drop, replicate, arith, lit<}
+use Rattle.std.proofs.Common.{◌≡◌, ℕ, zero, suc, ◌+◌, ◌-◌, ◌*◌, ◌<◌, List, [], ◌∷◌, ◌++◌, Bool, true, false, refl, ◌∙◌, ap, replicate, arith, lit<}
 use Rattle.std.specs.Prelude.{All, map, min, if◌then◌else◌, ◌==◌, ◌&&◌, nat_le, nat_lt, Option, Some, None, IfSome, unwrap_or}
 use Rattle.std.specs.Int.{is_in_range}
 use Rattle.std.proofs.lemmas.Bool.Decides.{nat_tests}
-use Rattle.std.proofs.lemmas.List.Elements.{All-set, All-append, All-drop, All-take, All-replicate, All-map}
+use Rattle.std.proofs.lemmas.List.Elements.{All-set, All-map}
 use Rattle.gate_model.specs.declared.cell.Cell.{Cell}
+use Rattle.gate_model.specs.declared.cell.Half.TheVariants.{Left, Right}
 use Rattle.gate_model.specs.declared.key.Key.{Key}
 use Rattle.gate_model.specs.declared.control.Control.{Control}
 use Rattle.gate_model.specs.declared.control.Control.TheVariants.{Print, Code, Esc, Csi}
 use Rattle.gate_model.specs.declared.control.Params.{Params}
 use Rattle.gate_model.specs.terminal.Arguments.{choice, first_amount, first_choice, listed}
 use Rattle.gate_model.specs.picture.Pictures.{key_at, blank_key}
-use Rattle.gate_model.specs.terminal.Cells.{CellGrid, blank, with_part, place, rows_of, rest_of_row, moved_left, moved_right, erased, inserted, deleted}
+use Rattle.gate_model.specs.terminal.Cells.{CellGrid, blank, with_part, place, put, mended_cell, mended, spaced, rows_of, rest_of_row, moved_left, moved_right, erased, inserted, deleted}
 use Rattle.gate_model.specs.terminal.Cells as cells
 use Rattle.gate_model.specs.terminal.Terminal.{Pen, Saved, Terminal, plain}
-use Rattle.gate_model.specs.terminal.Pens.{styled_after, styled_by, is_colour, colour_size, drawn_with, pen_ink, pen_paper}
+use Rattle.gate_model.specs.terminal.Pens.{styled_after, styled_by, is_colour, colour_size, chosen_index, with_colour, drawn_with, pen_ink, pen_paper}
 use Rattle.gate_model.specs.terminal.TabStops.{with_stop, stops_cleared}
 use Rattle.gate_model.specs.terminal.Cursor.{returned, moved_back, moved_on, moved_up, moved_down, to_column, to_row, to_place, tabbed_on, tabbed_back, saved_cursor, restored_cursor}
 use Rattle.gate_model.specs.terminal.Editing.{blanked, cursor_place, place_count, display_erased, line_erased, characters_erased, characters_inserted, characters_deleted}
 use Rattle.gate_model.specs.terminal.Modes.{modes_set}
-use Rattle.gate_model.specs.terminal.Printing.{wrapped, opened_for, placed, printed, printed_often, repeated_as}
+use Rattle.gate_model.specs.terminal.Printing.{width_of, is_wide, fitting, wrapped, given_room, opened_for, placed, printed_as, printed, printed_often, repeated_as}
 use Rattle.gate_model.specs.terminal.Scrolling.{line_feed, scrolled_up, scrolled_down, is_within, are_margins, named_bottom}
 use Rattle.gate_model.specs.terminal.Effects.{act, code_effect, cursor_effect, editing_effect, effect, escape_effect, private_effect, reset, sequence_effect}
+use Rattle.gate_model.proofs.CellsKept.{blanks_kept, part_kept, erased_kept, inserted_kept, deleted_kept, up_kept, down_kept, mended_kept}
 use Rattle.gate_model.specs.terminal.Screens.{after_controls, key_of, exchanged, exchanged_at, shown, IsColoured, AreColoured}
 
 -- a cell's ink and paper are indexes of the palette
 abbrev pub Coloured : Cell → Type 0
-Coloured c = (c.ink < 16) × (c.paper < 16)
+Coloured c = (c.ink < 256) × (c.paper < 256)
 
--- a pen's ink and paper are of the first eight colours
+-- a pen's ink and paper are of the palette
 pub record IsPen (p : Pen) : Type 0 where
-  pub ink : IfSome p.ink (λ i. i < 8)
-  pub paper : IfSome p.paper (λ i. i < 8)
+  pub ink : IfSome p.ink (λ i. i < 256)
+  pub paper : IfSome p.paper (λ i. i < 256)
 
 -- every colour of a screen is one
 pub record IsPainted (t : Terminal) : Type 0 where
@@ -75,49 +77,37 @@ edits t n k p s = record { columns = k.columns; rows = k.rows; painted = λ q. r
 
 -- ---- cells
 
-is_plain : (7 < 16) × (0 < 16)
+pub is_plain : (7 < 256) × (0 < 256)
 is_plain = (lit< tt, lit< tt)
 
-blanks : (n : ℕ) → All Coloured (replicate n blank)
-blanks n = All-replicate Coloured n blank is_plain
-
-part_coloured : (from to : ℕ) (run xs : List Cell) → All Coloured run → All Coloured xs → All Coloured (with_part from to run xs)
-part_coloured from to run xs r a = All-append Coloured (take from xs ++ run) (drop to xs) (All-append Coloured (take from xs) run (All-take Coloured from xs a) r) (All-drop Coloured to xs a)
-
-left_coloured : (n : ℕ) (run : List Cell) → All Coloured run → All Coloured (moved_left n run)
-left_coloured n run a = All-append Coloured (drop n run) (replicate (min n (length run)) blank) (All-drop Coloured n run a) (blanks (min n (length run)))
-
-right_coloured : (n : ℕ) (run : List Cell) → All Coloured run → All Coloured (moved_right n run)
-right_coloured n run a = All-append Coloured (replicate (min n (length run)) blank) (take (length run - n) run) (blanks (min n (length run))) (All-take Coloured (length run - n) run a)
-
-range_coloured : (a b : ℕ) (xs : List Cell) → All Coloured xs → All Coloured (take (b - a) (drop a xs))
-range_coloured a b xs c = All-take Coloured (b - a) (drop a xs) (All-drop Coloured a xs c)
-
 blanked-keeps : (from to : ℕ) (g : CellGrid) → KeepsGrid g (blanked from to g)
-blanked-keeps from to g = record { columns = refl; rows = refl; painted = λ c. part_coloured from to (replicate (to - from) blank) g.cells (blanks (to - from)) c }
+blanked-keeps from to g = record { columns = refl; rows = refl; painted = part_kept Coloured is_plain from to (replicate (to - from) blank) g.cells (blanks_kept Coloured is_plain (to - from)) }
 
 erased-keeps : (y from to : ℕ) (g : CellGrid) → KeepsGrid g (erased y from to g)
-erased-keeps y from to g = record { columns = refl; rows = refl; painted = λ c. part_coloured (place from y g) (place to y g) (replicate (to - from) blank) g.cells (blanks (to - from)) c }
+erased-keeps y from to g = record { columns = refl; rows = refl; painted = erased_kept Coloured is_plain y from to g }
 
 inserted-keeps : (x y n : ℕ) (g : CellGrid) → KeepsGrid g (inserted x y n g)
-inserted-keeps x y n g = record { columns = refl; rows = refl; painted = λ c. part_coloured (place x y g) (place g.cols y g) (moved_right n (rest_of_row x y g)) g.cells (right_coloured n (rest_of_row x y g) (range_coloured (place x y g) (place g.cols y g) g.cells c)) c }
+inserted-keeps x y n g = record { columns = refl; rows = refl; painted = inserted_kept Coloured is_plain x y n g }
 
 deleted-keeps : (x y n : ℕ) (g : CellGrid) → KeepsGrid g (deleted x y n g)
-deleted-keeps x y n g = record { columns = refl; rows = refl; painted = λ c. part_coloured (place x y g) (place g.cols y g) (moved_left n (rest_of_row x y g)) g.cells (left_coloured n (rest_of_row x y g) (range_coloured (place x y g) (place g.cols y g) g.cells c)) c }
+deleted-keeps x y n g = record { columns = refl; rows = refl; painted = deleted_kept Coloured is_plain x y n g }
 
 up-keeps : (top bottom n : ℕ) (g : CellGrid) → KeepsGrid g (cells.scrolled_up top bottom n g)
-up-keeps top bottom n g = record { columns = refl; rows = refl; painted = λ c. part_coloured (place 0 top g) (place 0 (bottom + 1) g) (moved_left (n * g.cols) (rows_of top bottom g)) g.cells (left_coloured (n * g.cols) (rows_of top bottom g) (range_coloured (place 0 top g) (place 0 (bottom + 1) g) g.cells c)) c }
+up-keeps top bottom n g = record { columns = refl; rows = refl; painted = up_kept Coloured is_plain top bottom n g }
 
 down-keeps : (top bottom n : ℕ) (g : CellGrid) → KeepsGrid g (cells.scrolled_down top bottom n g)
-down-keeps top bottom n g = record { columns = refl; rows = refl; painted = λ c. part_coloured (place 0 top g) (place 0 (bottom + 1) g) (moved_right (n * g.cols) (rows_of top bottom g)) g.cells (right_coloured (n * g.cols) (rows_of top bottom g) (range_coloured (place 0 top g) (place 0 (bottom + 1) g) g.cells c)) c }
+down-keeps top bottom n g = record { columns = refl; rows = refl; painted = down_kept Coloured is_plain top bottom n g }
+
+pub mended-keeps : (g : CellGrid) → KeepsGrid g (mended g)
+mended-keeps g = record { columns = refl; rows = refl; painted = mended_kept Coloured is_plain (λ cell is. is) g }
 
 -- ---- pens
 
 pub plain_pen : IsPen plain
 plain_pen = record { ink = tt; paper = tt }
 
-below_8 : (low n : ℕ) → (nat_le low n && nat_le n (low + 7)) ≡ true → n - low < 8
-below_8 low n is = grind (arith, nat_tests)
+colour_below : (low n : ℕ) → (nat_le low n && nat_le n (low + 7)) ≡ true → n - low < 256
+colour_below low n is = grind (arith, nat_tests)
 
 pen_chosen : (b : Bool) (p q : Pen) → (b ≡ true → IsPen p) → IsPen q → IsPen (if b then p else q)
 pen_chosen true p q k l = k refl
@@ -132,35 +122,49 @@ styled_by-pen n p is =
     pen_chosen (n == 22) _ _ (λ e. record { ink = is.ink; paper = is.paper }) (
     pen_chosen (n == 24) _ _ (λ e. record { ink = is.ink; paper = is.paper }) (
     pen_chosen (n == 27) _ _ (λ e. record { ink = is.ink; paper = is.paper }) (
-    pen_chosen (is_in_range 30 37 n) _ _ (λ e. record { ink = below_8 30 n e; paper = is.paper }) (
+    pen_chosen (is_in_range 30 37 n) _ _ (λ e. record { ink = colour_below 30 n e; paper = is.paper }) (
     pen_chosen (n == 39) _ _ (λ e. record { ink = tt; paper = is.paper }) (
-    pen_chosen (is_in_range 40 47 n) _ _ (λ e. record { ink = is.ink; paper = below_8 40 n e }) (
+    pen_chosen (is_in_range 40 47 n) _ _ (λ e. record { ink = is.ink; paper = colour_below 40 n e }) (
     pen_chosen (n == 49) _ _ (λ e. record { ink = is.ink; paper = tt }) is))))))))))
+
+chosen_small : (ps : List ℕ) → IfSome (chosen_index ps) (λ n. n < 256)
+chosen_small [] = tt
+chosen_small (p ∷ []) = tt
+chosen_small (p ∷ n ∷ ps) = pick (p == 5 && nat_le (choice n) 255) refl
+  where
+    pick : (b : Bool) → (p == 5 && nat_le (choice n) 255) ≡ b → IfSome (if b then Some (choice n) else None) (λ k. k < 256)
+    pick true e = grind (arith, nat_tests)
+    pick false e = tt
+
+with_colour-pen : (p : ℕ) (o : Option ℕ) (pen : Pen) → IfSome o (λ n. n < 256) → IsPen pen → IsPen (with_colour p o pen)
+with_colour-pen p None pen k is = is
+with_colour-pen p (Some n) pen k is = pen_chosen (p == 38) _ _ (λ e. record { ink = k; paper = is.paper }) record { ink = is.ink; paper = k }
 
 styled_after-pen : (skipped : ℕ) (p : Pen) (ns : List ℕ) → IsPen p → IsPen (styled_after skipped p ns)
 styled_after-pen skipped p [] is = is
 styled_after-pen (suc k) p (n ∷ ns) is = styled_after-pen k p ns is
-styled_after-pen zero p (n ∷ ns) is = pen_chosen (is_colour n) _ _ (λ e. styled_after-pen (colour_size ns) p ns is) (styled_after-pen 0 (styled_by (choice n) p) ns (styled_by-pen (choice n) p is))
+styled_after-pen zero p (n ∷ ns) is = pen_chosen (is_colour n) _ _ (λ e. styled_after-pen (colour_size ns) (with_colour n (chosen_index ns) p) ns (with_colour-pen n (chosen_index ns) p (chosen_small ns) is)) (styled_after-pen 0 (styled_by (choice n) p) ns (styled_by-pen (choice n) p is))
 
 -- the cell that a pen prints is of the palette
 drawn_coloured : (p : Pen) (c : ℕ) → IsPen p → Coloured (drawn_with p c)
 drawn_coloured p c is = pick p.reverse
   where
-    at_most : (o : Option ℕ) (d : ℕ) → IfSome o (λ i. i < 8) → d < 8 → unwrap_or o d < 8
+    at_most : (o : Option ℕ) (d : ℕ) → IfSome o (λ i. i < 256) → d < 256 → unwrap_or o d < 256
     at_most None d k lt = lt
     at_most (Some i) d k lt = k
 
-    bold : (b : Bool) (n : ℕ) → n < 8 → n + (if b then 8 else 0) < 16
-    bold true n lt = omega (arith, lt)
-    bold false n lt = omega (arith, lt)
+    bold : (b c : Bool) (n : ℕ) → nat_lt n 8 ≡ c → n < 256 → n + (if b && c then 8 else 0) < 256
+    bold true true n e lt = let low : n < 8 = grind (arith, nat_tests) in omega (arith, low)
+    bold true false n e lt = omega (arith, lt)
+    bold false c n e lt = omega (arith, lt)
 
-    ink : pen_ink p < 16
-    ink = bold p.bold (unwrap_or p.ink 7) (at_most p.ink 7 is.ink (omega arith))
+    ink : pen_ink p < 256
+    ink = bold p.bold (nat_lt (unwrap_or p.ink 7) 8) (unwrap_or p.ink 7) refl (at_most p.ink 7 is.ink (omega arith))
 
-    paper : pen_paper p < 16
-    paper = let lt : unwrap_or p.paper 0 < 8 = at_most p.paper 0 is.paper (omega arith) in omega (arith, lt)
+    paper : pen_paper p < 256
+    paper = let lt : unwrap_or p.paper 0 < 256 = at_most p.paper 0 is.paper (omega arith) in omega (arith, lt)
 
-    pick : (b : Bool) → ((if b then pen_paper p else pen_ink p) < 16) × ((if b then pen_ink p else pen_paper p) < 16)
+    pick : (b : Bool) → ((if b then pen_paper p else pen_ink p) < 256) × ((if b then pen_ink p else pen_paper p) < 256)
     pick true = (paper, ink)
     pick false = (ink, paper)
 
@@ -178,18 +182,37 @@ line_feed-keeps t = chosen (t.y == t.bottom) t _ _ (scrolled_up-keeps 1 t) (chos
 wrapped-keeps : (t : Terminal) → Keeps t (wrapped t)
 wrapped-keeps t = chosen t.pending t _ t (on_to t (returned t) (line_feed (returned t)) (still t (returned t) refl refl refl) (line_feed-keeps (returned t))) (same t)
 
-opened_for-keeps : (t : Terminal) → Keeps t (opened_for t)
-opened_for-keeps t = chosen t.modes.insert t _ t (edits t (characters_inserted 1 t) (inserted-keeps t.x t.y 1 t.grid) refl refl) (same t)
+given_room-keeps : (wide : Bool) (t : Terminal) → Keeps t (given_room wide t)
+given_room-keeps wide t = chosen (wide && t.x + 1 == t.grid.cols) t _ t (chosen t.modes.wrap t _ _ (on_to t (returned t) (line_feed (returned t)) (still t (returned t) refl refl refl) (line_feed-keeps (returned t))) (still t (record t { x = t.x - 1 }) refl refl refl)) (same t)
 
-placed-keeps : (c : ℕ) (t : Terminal) → Keeps t (placed c t)
-placed-keeps c t = record {
+opened_for-keeps : (n : ℕ) (t : Terminal) → Keeps t (opened_for n t)
+opened_for-keeps n t = chosen t.modes.insert t _ t (edits t (characters_inserted n t) (inserted-keeps t.x t.y n t.grid) refl refl) (same t)
+
+placed-keeps : (wide : Bool) (c : ℕ) (t : Terminal) → Keeps t (placed wide c t)
+placed-keeps false c t = record {
   columns = refl;
   rows = refl;
   painted = λ q. record { cells = All-set Coloured t.grid.cells (place t.x t.y t.grid) (drawn_with t.pen c) (drawn_coloured t.pen c q.pen) q.cells; pen = q.pen; saved = q.saved };
 }
+placed-keeps true c t = record {
+  columns = refl;
+  rows = refl;
+  painted = λ q.
+      let k = drawn_coloured t.pen c q.pen in
+      let left : Cell = record (drawn_with t.pen c) { half = Left } in
+      let first = All-set Coloured t.grid.cells (place t.x t.y t.grid) left k q.cells in
+      record { cells = All-set Coloured (put t.x t.y left t.grid).cells (place (t.x + 1) t.y t.grid) (record (drawn_with t.pen c) { half = Right }) k first; pen = q.pen; saved = q.saved };
+}
+
+printed_as-keeps : (wide : Bool) (c : ℕ) (t : Terminal) → Keeps t (printed_as wide c t)
+printed_as-keeps wide c t =
+    let n = if wide then 2 else 1 in
+    let u = given_room wide (wrapped t) in
+    on_to t (wrapped t) (printed_as wide c t) (wrapped-keeps t)
+    (on_to (wrapped t) u (printed_as wide c t) (given_room-keeps wide (wrapped t)) (on_to u (opened_for n u) (printed_as wide c t) (opened_for-keeps n u) (placed-keeps wide c (opened_for n u))))
 
 printed-keeps : (c : ℕ) (t : Terminal) → Keeps t (printed c t)
-printed-keeps c t = on_to t (wrapped t) (printed c t) (wrapped-keeps t) (on_to (wrapped t) (opened_for (wrapped t)) (printed c t) (opened_for-keeps (wrapped t)) (placed-keeps c (opened_for (wrapped t))))
+printed-keeps c t = let shown_as = fitting t.grid.cols c in chosen (width_of c == 0) t t _ (same t) (printed_as-keeps (is_wide shown_as) shown_as t)
 
 printed_often-keeps : (n c : ℕ) (t : Terminal) → Keeps t (printed_often n c t)
 unfolding printed_often
@@ -211,7 +234,7 @@ restored_cursor-keeps t = record { columns = refl; rows = refl; painted = λ q. 
     of_saved (Some s) k = k
 
 reset-keeps : (t : Terminal) → Keeps t (reset t)
-reset-keeps t = record { columns = refl; rows = refl; painted = λ q. record { cells = blanks (t.grid.rows * t.grid.cols); pen = plain_pen; saved = tt } }
+reset-keeps t = record { columns = refl; rows = refl; painted = λ q. record { cells = blanks_kept Coloured is_plain (t.grid.rows * t.grid.cols); pen = plain_pen; saved = tt } }
 
 code-keeps : (code : ℕ) (t : Terminal) → Keeps t (code_effect code t)
 code-keeps code t =
@@ -289,7 +312,7 @@ act-keeps (Esc last) t = escape-keeps last t
 act-keeps (Csi private params last) t = chosen private t _ _ (private-keeps params last t) (sequence-keeps params last t)
 
 pub effect-keeps : (c : Control) (t : Terminal) → Keeps t (effect c t)
-effect-keeps c t = on_to t (act c t) (effect c t) (act-keeps c t) (still (act c t) (effect c t) refl refl refl)
+effect-keeps c t = on_to t (act c t) (effect c t) (act-keeps c t) (edits (act c t) (effect c t) (mended-keeps (act c t).grid) refl refl)
 
 -- ---- any number of functions
 

@@ -1,6 +1,6 @@
 -- How many lines were scrolled is only counted: no control function looks at the number, and no report tells it.
 use Rattle.std.proofs.Common.{◌≡◌, ℕ, zero, suc, ◌+◌, List, [], ◌∷◌, ◌++◌, Bool, true, false, refl, ◌∙◌, ap, arith}
-use Rattle.std.specs.Prelude.{min, if◌then◌else◌, ◌==◌, nat_lt, Option, Some, None}
+use Rattle.std.specs.Prelude.{min, if◌then◌else◌, ◌==◌, ◌&&◌, ◌+◌, nat_lt, Option, Some, None}
 use Rattle.std.specs.Int.{is_in_range}
 use Rattle.gate_model.specs.declared.control.Control.{Control}
 use Rattle.gate_model.specs.declared.control.Control.TheVariants.{Print, Code, Esc, Csi}
@@ -9,7 +9,8 @@ use Rattle.gate_model.specs.terminal.Arguments.{first_amount, first_choice}
 use Rattle.gate_model.specs.terminal.Terminal.{Terminal}
 use Rattle.gate_model.specs.terminal.Cursor.{returned}
 use Rattle.gate_model.specs.terminal.Editing.{display_erased, line_erased}
-use Rattle.gate_model.specs.terminal.Printing.{wrapped, opened_for, placed, printed, printed_often, repeated_as}
+use Rattle.gate_model.specs.terminal.Cells.{mended}
+use Rattle.gate_model.specs.terminal.Printing.{width_of, is_wide, fitting, given_room, printed_as, wrapped, opened_for, placed, printed, printed_often, repeated_as}
 use Rattle.gate_model.specs.terminal.Reports.{report}
 use Rattle.gate_model.specs.terminal.Replies.{reports_from}
 use Rattle.gate_model.specs.terminal.Scrolling.{is_whole, scrolled_up, line_feed, reverse_line_feed, is_within, lines_inserted, lines_deleted, are_margins, with_margins}
@@ -50,13 +51,27 @@ reverse-counted k t = chosen k (t.y == t.top) _ _ _ _ record { is = refl } recor
 wrapped-counted : (k : ℕ) (t : Terminal) → Counted k (wrapped (scrolled_more k t)) (wrapped t)
 wrapped-counted k t = chosen k t.pending _ _ _ _ (line_feed-counted k (returned t)) (same k t)
 
-opened-counted : (k : ℕ) (t : Terminal) → Counted k (opened_for (scrolled_more k t)) (opened_for t)
-opened-counted k t = chosen k t.modes.insert _ _ _ _ record { is = refl } (same k t)
+given-counted : (k : ℕ) (wide : Bool) (t : Terminal) → Counted k (given_room wide (scrolled_more k t)) (given_room wide t)
+given-counted k wide t = chosen k (wide && t.x + 1 == t.grid.cols) _ _ _ _ (chosen k t.modes.wrap _ _ _ _ (line_feed-counted k (returned t)) record { is = refl }) (same k t)
+
+opened-counted : (k n : ℕ) (t : Terminal) → Counted k (opened_for n (scrolled_more k t)) (opened_for n t)
+opened-counted k n t = chosen k t.modes.insert _ _ _ _ record { is = refl } (same k t)
+
+placed-counted : (k : ℕ) (wide : Bool) (c : ℕ) (t : Terminal) → Counted k (placed wide c (scrolled_more k t)) (placed wide c t)
+placed-counted k true c t = record { is = refl }
+placed-counted k false c t = record { is = refl }
+
+printed_as-counted : (k : ℕ) (wide : Bool) (c : ℕ) (t : Terminal) → Counted k (printed_as wide c (scrolled_more k t)) (printed_as wide c t)
+printed_as-counted k wide c t =
+    let n = if wide then 2 else 1 in
+    let w = wrapped t in
+    let more = wrapped (scrolled_more k t) in
+    let given : Counted k (given_room wide more) (given_room wide w) = after k (given_room wide) more w (wrapped-counted k t) (given-counted k wide w) in
+    let opened : Counted k (opened_for n (given_room wide more)) (opened_for n (given_room wide w)) = after k (opened_for n) (given_room wide more) (given_room wide w) given (opened-counted k n (given_room wide w)) in
+    after k (placed wide c) (opened_for n (given_room wide more)) (opened_for n (given_room wide w)) opened (placed-counted k wide c (opened_for n (given_room wide w)))
 
 printed-counted : (k c : ℕ) (t : Terminal) → Counted k (printed c (scrolled_more k t)) (printed c t)
-printed-counted k c t =
-    let open_for : Counted k (opened_for (wrapped (scrolled_more k t))) (opened_for (wrapped t)) = after k opened_for (wrapped (scrolled_more k t)) (wrapped t) (wrapped-counted k t) (opened-counted k (wrapped t)) in
-    after k (placed c) (opened_for (wrapped (scrolled_more k t))) (opened_for (wrapped t)) open_for record { is = refl }
+printed-counted k c t = let shown = fitting t.grid.cols c in chosen k (width_of c == 0) _ _ _ _ (same k t) (printed_as-counted k (is_wide shown) shown t)
 
 often-counted : (k n c : ℕ) (t : Terminal) → Counted k (printed_often n c (scrolled_more k t)) (printed_often n c t)
 unfolding printed_often
@@ -159,8 +174,8 @@ clears-counted k (Csi private params last) t = refl
 
 effect-counted : (k : ℕ) (c : Control) (t : Terminal) → effect c (scrolled_more k t) ≡ scrolled_more k (effect c t)
 effect-counted k c t =
-    ap (λ (n : Terminal). record n { pending = if clears_wrap c (scrolled_more k t) then false else n.pending }) (act-counted k c t).is
-    ∙ ap (λ (b : Bool). record (scrolled_more k (act c t)) { pending = if b then false else (act c t).pending }) (clears-counted k c t)
+    ap (λ (n : Terminal). record n { grid = mended n.grid; pending = if clears_wrap c (scrolled_more k t) then false else n.pending }) (act-counted k c t).is
+    ∙ ap (λ (b : Bool). record (scrolled_more k (act c t)) { grid = mended (act c t).grid; pending = if b then false else (act c t).pending }) (clears-counted k c t)
 
 report-counted : (k : ℕ) (c : Control) (t : Terminal) → report c (scrolled_more k t) ≡ report c t
 report-counted k (Print c) t = refl

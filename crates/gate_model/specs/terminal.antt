@@ -19,5 +19,6 @@ pub mod Reports
 pub mod Screens
 pub mod Replies
 pub mod CellLaws
+pub mod MendLaws
 pub mod ControlLaws
 pub mod ScreenLaws

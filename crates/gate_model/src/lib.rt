@@ -54,7 +54,7 @@ pub use answer::Answer;
 pub use answers::Answers;
 pub use bytes::Bytes;
 pub use cause::Cause;
-pub use cell::Cell;
+pub use cell::{Cell, Half};
 pub use closed::Closed;
 pub use colour::Colour;
 pub use control::{Control, Params};

@@ -103,3 +103,10 @@ font =
 
 abbrev pub box : List ℕ
 box = 0x7F ∷ 0x41 ∷ 0x41 ∷ 0x41 ∷ 0x7F ∷ []
+
+-- the left and the right half of a character that takes two places
+abbrev pub left_box : List ℕ
+left_box = 0x7F ∷ 0x41 ∷ 0x41 ∷ 0x41 ∷ 0x41 ∷ []
+
+abbrev pub right_box : List ℕ
+right_box = 0x41 ∷ 0x41 ∷ 0x41 ∷ 0x41 ∷ 0x7F ∷ []

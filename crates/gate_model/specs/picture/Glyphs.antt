@@ -2,12 +2,22 @@
 use Rattle.std.specs.Prelude.{ℕ, ◌-◌, ◌/◌, ◌%◌, ◌^◌, List, Bool, ◌&&◌, ◌||◌, ◌==◌, nat_le, slice_index_or, slice_index, if◌then◌else◌}
 use Rattle.gate_model.specs.declared.colour.Colour.{Colour}
 use Rattle.gate_model.specs.declared.key.Key.{Key}
-use Rattle.gate_model.specs.picture.Font.{font, box}
+use Rattle.gate_model.specs.picture.Font.{font, box, left_box, right_box}
 use Rattle.gate_model.specs.picture.Palette.{colour_of}
+
+-- the faces of the halves of a character that takes two places
+abbrev pub left_face : ℕ
+left_face = 0xE000
+
+abbrev pub right_face : ℕ
+right_face = 0xE001
 
 -- the five columns of a face, from left to right; every face that isn't in the font is a box
 abbrev pub columns_of : ℕ → List ℕ
-columns_of face = if nat_le 32 face && nat_le face 126 then slice_index_or font (face - 32) box else box
+columns_of face =
+    if nat_le 32 face && nat_le face 126 then slice_index_or font (face - 32) box else (
+    if face == left_face then left_box else (
+    if face == right_face then right_box else box))
 
 -- bit r of a column, the least first
 abbrev pub bit_of : ℕ → ℕ → Bool

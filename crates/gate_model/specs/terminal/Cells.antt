@@ -1,11 +1,13 @@
 -- The cells of a grid, and what each edit makes of them (this project's own; the edits are those of ECMA-48).
-use Rattle.std.specs.Prelude.{ℕ, ◌+◌, ◌-◌, ◌*◌, ◌/◌, ◌%◌, min, List, length, take, drop, ◌++◌, map, replicate, slice_set, slice_range, get_or, false, ◌&&◌, nat_lt, if◌then◌else◌}
+use Rattle.std.specs.Prelude.{ℕ, ◌+◌, ◌-◌, ◌*◌, ◌/◌, ◌%◌, min, List, length, take, drop, ◌++◌, map, replicate, slice_set, slice_range, get_or, Bool, true, false, ◌&&◌, ◌==◌, nat_le, nat_lt, if◌then◌else◌}
 use Rattle.std.specs.List.{range_with_len}
 use Rattle.gate_model.specs.declared.cell.Cell.{Cell}
+use Rattle.gate_model.specs.declared.cell.Half.{Half}
+use Rattle.gate_model.specs.declared.cell.Half.TheVariants.{Whole, Left, Right}
 
 -- a space with ink 7, paper 0 and no underline
 abbrev pub blank : Cell
-blank = record { ch = 32; ink = 7; paper = 0; under = false }
+blank = record { ch = 32; ink = 7; paper = 0; under = false; half = Whole }
 
 -- columns, rows, and the cell of each place, row by row
 pub record CellGrid : Type 0 where
@@ -76,3 +78,46 @@ kept_at x y g = if nat_lt x g.cols && nat_lt y g.rows then cell_at x y g else bl
 -- a grid of another size: the cells that both sizes have stay, and all others are blank
 abbrev pub resized : ℕ → ℕ → CellGrid → CellGrid
 resized cols rows g = record { cols = cols; rows = rows; cells = map (λ at. kept_at (at % cols) (at / cols) g) (range_with_len 0 (rows * cols)) }
+
+-- ---- characters of two places
+
+-- the cells at column x and at the next one of row y become the halves of a character
+abbrev pub paired : ℕ → ℕ → Cell → CellGrid → CellGrid
+paired x y cell g = put (x + 1) y (record cell { half = Right }) (put x y (record cell { half = Left }) g)
+
+abbrev pub left_half : Half → Bool
+left_half Whole = false
+left_half Left = true
+left_half Right = false
+
+abbrev pub right_half : Half → Bool
+right_half Whole = false
+right_half Left = false
+right_half Right = true
+
+-- a left half of this character stands before a right half of it, and a right half behind a left one; a whole
+-- character stands anywhere
+abbrev pub stands : ℕ → ℕ → Cell → ℕ → Cell → Half → Bool
+stands cols x before ch behind Whole = true
+stands cols x before ch behind Left = nat_lt (x + 1) cols && (right_half behind.half && ch == behind.ch)
+stands cols x before ch behind Right = nat_le 1 x && (left_half before.half && before.ch == ch)
+
+-- the cell at column x of row y is whole, or stands beside its other half
+abbrev pub is_mended : ℕ → ℕ → CellGrid → Bool
+is_mended x y g = let cell = cell_at x y g in stands g.cols x (cell_at (x - 1) y g) cell.ch (cell_at (x + 1) y g) cell.half
+
+-- a space in the same colours
+abbrev pub spaced : Cell → Cell
+spaced cell = record cell { ch = 32; half = Whole }
+
+-- a half without its other half becomes a space
+abbrev pub mended_cell : ℕ → ℕ → CellGrid → Cell
+mended_cell x y g = if is_mended x y g then cell_at x y g else spaced (cell_at x y g)
+
+-- all of them do, at once
+abbrev pub mended : CellGrid → CellGrid
+mended g = record g { cells = map (λ at. mended_cell (at % g.cols) (at / g.cols) g) (range_with_len 0 (g.rows * g.cols)) }
+
+-- .. and one of them alone
+abbrev pub mended_at : ℕ → ℕ → CellGrid → CellGrid
+mended_at x y g = put x y (mended_cell x y g) g

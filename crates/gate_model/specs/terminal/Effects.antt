@@ -6,6 +6,7 @@ use Rattle.gate_model.specs.declared.control.Control.{Control}
 use Rattle.gate_model.specs.declared.control.Control.TheVariants.{Print, Code, Esc, Csi}
 use Rattle.gate_model.specs.declared.control.Params.{Params}
 use Rattle.gate_model.specs.terminal.Arguments.{first_amount, first_choice, listed}
+use Rattle.gate_model.specs.terminal.Cells.{mended}
 use Rattle.gate_model.specs.terminal.Terminal.{Terminal, opening_screen}
 use Rattle.gate_model.specs.terminal.TabStops.{with_stop, stops_cleared}
 use Rattle.gate_model.specs.terminal.Cursor.{returned, moved_back, moved_on, moved_up, moved_down, to_column, to_row, to_place, tabbed_on, tabbed_back, saved_cursor, restored_cursor}
@@ -111,6 +112,10 @@ clears_wrap (Esc last) t = last == 0x37 || last == 0x38 || last == 0x45 || last 
 clears_wrap (Csi private params last) t =
     if private then (last == 0x68 || last == 0x6C) && names_mode true (listed params) else sequence_clears params last t
 
--- the effect of a control function
+-- what the function does, with the wrap that it clears
+abbrev pub acted : Control → Terminal → Terminal
+acted control t = let after = act control t in record after { pending = if clears_wrap control t then false else after.pending }
+
+-- the effect of a control function: what it does, and then each half without its other half becomes a space
 abbrev pub effect : Control → Terminal → Terminal
-effect control t = let after = act control t in record after { pending = if clears_wrap control t then false else after.pending }
+effect control t = let after = acted control t in record after { grid = mended after.grid }

@@ -11,8 +11,8 @@ saved_within cols rows s = record s { x = min s.x (cols - 1); y = min s.y (rows 
 
 -- the cells that both sizes have stay, and new ones are blank. The cursor and the saved place come to the last
 -- column and row where they were beyond. No wrap is pending, and the margins are the whole screen. All else stays
-abbrev pub resized : ℕ → ℕ → Terminal → Terminal
-resized cols rows t = record t {
+abbrev pub refitted : ℕ → ℕ → Terminal → Terminal
+refitted cols rows t = record t {
   grid = cells.resized cols rows t.grid;
   x = min t.x (cols - 1);
   y = min t.y (rows - 1);
@@ -22,3 +22,7 @@ resized cols rows t = record t {
   stops = stops_resized cols t.stops;
   saved = option_map (saved_within cols rows) t.saved;
 }
+
+-- another size; a half whose other half was cut off becomes a space
+abbrev pub resized : ℕ → ℕ → Terminal → Terminal
+resized cols rows t = let after = refitted cols rows t in record after { grid = cells.mended after.grid }

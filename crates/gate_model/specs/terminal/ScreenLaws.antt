@@ -1,6 +1,7 @@
 -- Laws of screens, which public functions of `laws::screens` prove.
 use Rattle.std.specs.Prelude.{◌≡◌, ℕ, ◌+◌, List, [], ◌∷◌, ◌++◌, length}
 use Rattle.gate_model.specs.declared.control.Control.{Control}
+use Rattle.gate_model.specs.terminal.Printing.{IsPrintable, width_of}
 use Rattle.gate_model.specs.terminal.Replies.{reports_from}
 use Rattle.gate_model.specs.terminal.Resizing.{resized}
 use Rattle.gate_model.specs.terminal.Screens.{after_controls, completed, screen}
@@ -26,3 +27,10 @@ ScreensGoOn = (size : ScreenSize) (bytes more : List ℕ) (cuts : List Cut) → 
 -- a change after all bytes gives that screen its size
 abbrev pub ScreensTurn : Type 0
 ScreensTurn = (size : ScreenSize) (bytes : List ℕ) (cuts : List Cut) (to : ScreenSize) → screen size bytes (cuts ++ record { after = length bytes; size = to } ∷ []) ≡ resized to.columns to.rows (screen size bytes cuts)
+
+-- printable ASCII takes one column, and so does U+FFFD
+abbrev pub AsciiIsNarrow : Type 0
+AsciiIsNarrow = (c : ℕ) → IsPrintable c → width_of c ≡ 1
+
+abbrev pub BoxIsNarrow : Type 0
+BoxIsNarrow = width_of 0xFFFD ≡ 1

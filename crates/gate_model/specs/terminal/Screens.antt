@@ -1,7 +1,10 @@
 -- The screen that a session's bytes and its changes of size leave, and what it shows.
 use Rattle.std.specs.Prelude.{ℕ, List, [], ◌∷◌, ◌++◌, length, take, drop, map, flat_map, ◌&&◌, nat_le, if◌then◌else◌, slice_set, ◌<◌, All}
 use Rattle.gate_model.specs.declared.cell.Cell.{Cell}
+use Rattle.gate_model.specs.declared.cell.Half.{Half}
+use Rattle.gate_model.specs.declared.cell.Half.TheVariants.{Whole, Left, Right}
 use Rattle.gate_model.specs.declared.key.Key.{Key}
+use Rattle.gate_model.specs.picture.Glyphs.{left_face, right_face}
 use Rattle.gate_model.specs.declared.control.Control.{Control}
 use Rattle.gate_model.specs.declared.token.Token.{Token}
 use Rattle.gate_model.specs.declared.token.Token.TheVariants.{Byte, Do, Dont, Will, Wont, Sub, Single}
@@ -72,16 +75,22 @@ screen size bytes cuts = after_all (opening_screen size.columns size.rows) (happ
 
 -- ---- what it shows
 
--- the face of a character: itself from U+0020 to U+007E, U+FFFD otherwise
-abbrev pub face_of : ℕ → ℕ
-face_of c = if nat_le 32 c && nat_le c 126 then c else 65533
+-- the face of a whole character: itself from U+0020 to U+007E, U+FFFD otherwise
+abbrev pub whole_face : ℕ → ℕ
+whole_face c = if nat_le 32 c && nat_le c 126 then c else 65533
+
+-- the face of a cell: the halves have their own
+abbrev pub face_of : Half → ℕ → ℕ
+face_of Whole c = whole_face c
+face_of Left c = left_face
+face_of Right c = right_face
 
 abbrev pub key_of : Cell → Key
-key_of c = record { face = face_of c.ch; under = c.under; ink = c.ink; paper = c.paper }
+key_of c = record { face = face_of c.half c.ch; under = c.under; ink = c.ink; paper = c.paper }
 
 -- ink and paper are indexes of the palette
 abbrev pub IsColoured : Key → Type 0
-IsColoured k = (k.ink < 16) × (k.paper < 16)
+IsColoured k = (k.ink < 256) × (k.paper < 256)
 
 abbrev pub AreColoured : List Key → Type 0
 AreColoured keys = All IsColoured keys

@@ -3,7 +3,7 @@ use Rattle.std.specs.Prelude.{ℕ, ◌-◌, ◌%◌, ◌<◌, List, map, ◌&&�
 use Rattle.std.specs.List.{range_with_len}
 use Rattle.gate_model.specs.terminal.Cells.{CellGrid, blank_grid}
 
--- how characters are printed: an ink and a paper of the first eight colours, or none
+-- how characters are printed: an ink and a paper of the palette, or none
 pub record Pen : Type 0 where
   pub bold : Bool
   pub underline : Bool

@@ -1,6 +1,6 @@
 //! Laws of screens.
 
-ghost use Rattle.gate_model.specs.terminal.ScreenLaws.{ScreensGoOn, ScreensTurn, ScrollsAreCounted, ScrollsAreNotReported};
+ghost use Rattle.gate_model.specs.terminal.ScreenLaws.{AsciiIsNarrow, BoxIsNarrow, ScreensGoOn, ScreensTurn, ScrollsAreCounted, ScrollsAreNotReported};
 
 /// How many lines of the whole screen were scrolled before is only counted: no control function looks at
 /// the number, and no report tells it (this project's own).
@@ -14,4 +14,10 @@ pub fn scrolls_are_counted()
 pub fn screens_go_on()
     ensures bytes { ScreensGoOn }
     ensures size { ScreensTurn }
+{}
+
+/// Printable ASCII takes one column of a screen, and so does U+FFFD (Unicode Standard Annex 11).
+pub fn narrow_characters()
+    ensures ascii { AsciiIsNarrow }
+    ensures replacement { BoxIsNarrow }
 {}
