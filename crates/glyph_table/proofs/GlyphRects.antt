@@ -9,10 +9,10 @@ use Rattle.std.proofs.lemmas.List.Kept.{AllPairs-cons}
 use Rattle.std.proofs.lemmas.Grind.{common_steps}
 use Rattle.std.proofs.lemmas.Nat.{one_shl}
 use Rattle.glyph_table.specs.declared.patch.Patch.{Patch}
-use Rattle.gate_model.specs.picture.Font.{font, box}
-use Rattle.gate_model.specs.picture.Glyphs.{columns_of, lit}
+use Rattle.gate_model.specs.picture.Font.{font, box, left_box, right_box}
+use Rattle.gate_model.specs.picture.Glyphs.{columns_of, left_face, right_face, lit}
 use Rattle.glyph_table.specs.GlyphRects.{IsApart, IsInside, covers, first_bit, end_bit, without_run, run_rect, underline, rects, all_rects, columns_rects, column_rects, runs_within}
-use Rattle.glyph_table.proofs.GlyphTests.{all_below, both_or_neither, in_columns, covers_pixel, covers_all, is_before, all_before, is_inside, rects_pass, glyph_passes, font_passes, box_passes, left_after, column_passes, columns_pass}
+use Rattle.glyph_table.proofs.GlyphTests.{all_below, both_or_neither, in_columns, covers_pixel, covers_all, is_before, all_before, is_inside, rects_pass, glyph_passes, font_passes, box_passes, left_passes, right_passes, left_after, column_passes, columns_pass}
 
 both : (a b : Bool) → (a && b) ≡ true → (a ≡ true) × (b ≡ true)
 both true b e = (refl, e)
@@ -55,7 +55,8 @@ chosen p false x y h k = k
 
 -- every face
 face_passes : (face : ℕ) → glyph_passes (columns_of face) ≡ true
-face_passes face = chosen glyph_passes (nat_le 32 face && nat_le face 126) _ box (at_place glyph_passes font (face - 32) box font_passes box_passes) box_passes
+face_passes face = chosen glyph_passes (nat_le 32 face && nat_le face 126) _ _ (at_place glyph_passes font (face - 32) box font_passes box_passes)
+    (chosen glyph_passes (face == left_face) left_box _ left_passes (chosen glyph_passes (face == right_face) right_box box right_passes box_passes))
 
 rects_of_face : (face : ℕ) (under : Bool) → rects_pass under (columns_of face) ≡ true
 unfolding glyph_passes
@@ -69,9 +70,9 @@ column_below face i lt =
     let e : nat_lt (slice_index (columns_of face) i) 128 ≡ true = at_below (λ i. nat_lt (slice_index (columns_of face) i) 128) 5 i (both _ _ (both _ _ (face_passes face)).1).1 lt in
     from_lt (slice_index (columns_of face) i) 128 e
 
-pub columns_row : (font : List (List ℕ)) (box : List ℕ) (face : ℕ) → length font ≡ 95 → 32 ≤ face → face ≤ 126
-    → get_or font (face - 32) [] ≡ (if nat_le 32 face && nat_le face 126 then get_or font (face - 32) box else box)
-columns_row font box face len low high = let within : face - 32 < length font = omega arith in rw (get_or_default font (face - 32) [] box within) (grind (arith, nat_tests))
+pub columns_row : (font : List (List ℕ)) (box other : List ℕ) (face : ℕ) → length font ≡ 95 → 32 ≤ face → face ≤ 126
+    → get_or font (face - 32) [] ≡ (if nat_le 32 face && nat_le face 126 then get_or font (face - 32) box else other)
+columns_row font box other face len low high = let within : face - 32 < length font = omega arith in rw (get_or_default font (face - 32) [] box within) (grind (arith, nat_tests))
 
 -- ---- one run of a column after the other
 pub record IsStep (b : ℕ) : Type 0 where

@@ -3,7 +3,7 @@ use Rattle.std.proofs.Common.{◌≡◌, ℕ, zero, suc, ◌+◌, ◌-◌, ◌/�
 use lib.Count.{count_trailing_zeros}
 use Rattle.std.specs.List.{list_any, list_all}
 use Rattle.glyph_table.specs.declared.patch.Patch.{Patch}
-use Rattle.gate_model.specs.picture.Font.{font, box}
+use Rattle.gate_model.specs.picture.Font.{font, box, left_box, right_box}
 use Rattle.gate_model.specs.picture.Glyphs.{bit_of}
 use Rattle.glyph_table.specs.GlyphRects.{covers, first_bit, end_bit, without_run, all_rects, columns_rects, column_rects, runs_within}
 
@@ -50,6 +50,14 @@ font_passes = refl
 pub box_passes : glyph_passes box ≡ true
 unfolding glyph_passes rects_pass is_inside all_before is_before covers_all covers_pixel in_columns both_or_neither all_below columns_rects column_rects runs_within count_trailing_zeros
 box_passes = refl
+
+pub left_passes : glyph_passes left_box ≡ true
+unfolding glyph_passes rects_pass is_inside all_before is_before covers_all covers_pixel in_columns both_or_neither all_below columns_rects column_rects runs_within count_trailing_zeros
+left_passes = refl
+
+pub right_passes : glyph_passes right_box ≡ true
+unfolding glyph_passes rects_pass is_inside all_before is_before covers_all covers_pixel in_columns both_or_neither all_below columns_rects column_rects runs_within count_trailing_zeros
+right_passes = refl
 
 -- what is left of a column without its n lowest runs
 unfoldable pub left_after : ℕ → ℕ → ℕ

@@ -1,5 +1,5 @@
 ghost use Rattle.std.specs.Prelude.{◌≡◌, ◌<◌};
-ghost use Rattle.gate_model.specs.picture.Palette.{colour_of};
+ghost use Rattle.gate_model.specs.picture.Palette.{colour_of, mixed_colour};
 ghost use Rattle.gate_model.specs.picture.Glyphs.{bit_of, columns_of, in_font, lit};
 
 use gate_model::Colour;
@@ -127,14 +127,45 @@ static FONT: [[u8; 5]; 95] = [
 /// The glyph of every face that isn't in the font: a box.
 const BOX: [u8; 5] = [0x7f, 0x41, 0x41, 0x41, 0x7f];
 
-/// The colour of an index of the palette.
+/// The glyphs of the two halves of a character that takes two places.
+const LEFT_BOX: [u8; 5] = [0x7f, 0x41, 0x41, 0x41, 0x41];
+
+const RIGHT_BOX: [u8; 5] = [0x41, 0x41, 0x41, 0x41, 0x7f];
+
+/// The levels of red, green and blue of the mixed colours.
+static LEVELS: [u8; 6] = [0, 95, 135, 175, 215, 255];
+
+/// The colour of an index of the palette: sixteen of its table, then 216 of six levels each of red, green and blue, then
+/// 24 greys.
 #[tactic(auto, unfolding(gate_model::specs::picture::Palette::colour_of))]
 pub fn colour_of(index: u8) -> Colour
-    requires { index < 16 }
     ensures { result ≡ colour_of index }
 {
-    let [red, green, blue] = PALETTE[index as usize];
-    Colour { red, green, blue }
+    if index < 16 {
+        let [red, green, blue] = PALETTE[index as usize];
+        return Colour { red, green, blue };
+    }
+    if index < 232 {
+        return mixed(index - 16);
+    }
+    let shade = 8 + 10 * (index - 232);
+    Colour {
+        red: shade,
+        green: shade,
+        blue: shade,
+    }
+}
+
+// A colour of six levels each of red, green and blue.
+fn mixed(n: u8) -> Colour
+    requires { n < 216 }
+    ensures { result ≡ mixed_colour n }
+{
+    Colour {
+        red: LEVELS[n as usize / 36],
+        green: LEVELS[n as usize / 6 % 6],
+        blue: LEVELS[n as usize % 6],
+    }
 }
 
 // The five columns of a face, from left to right.
@@ -143,6 +174,8 @@ pub(crate) fn columns_of(face: char) -> [u8; 5]
 {
     match face {
         ' '..='~' => FONT[face as usize - 32],
+        '\u{e000}' => LEFT_BOX,
+        '\u{e001}' => RIGHT_BOX,
         _ => BOX,
     }
 }
@@ -182,17 +215,42 @@ mod tests {
     use super::*;
 
     #[test]
-    fn the_palette_has_its_sixteen_colours(rt: HostRuntime) {
+    fn the_palette_has_its_colours(rt: HostRuntime) {
         let wanted = [
-            0x000000, 0xaa0000, 0x00aa00, 0xaa5500, 0x0000aa, 0xaa00aa, 0x00aaaa, 0xaaaaaa,
-            0x555555, 0xff5555, 0x55ff55, 0xffff55, 0x5555ff, 0xff55ff, 0x55ffff, 0xffffff,
+            (0, 0x000000),
+            (1, 0xaa0000),
+            (2, 0x00aa00),
+            (3, 0xaa5500),
+            (4, 0x0000aa),
+            (5, 0xaa00aa),
+            (6, 0x00aaaa),
+            (7, 0xaaaaaa),
+            (8, 0x555555),
+            (9, 0xff5555),
+            (10, 0x55ff55),
+            (11, 0xffff55),
+            (12, 0x5555ff),
+            (13, 0xff55ff),
+            (14, 0x55ffff),
+            (15, 0xffffff),
+            (16, 0x000000),
+            (17, 0x00005f),
+            (22, 0x005f00),
+            (52, 0x5f0000),
+            (67, 0x5f87af),
+            (196, 0xff0000),
+            (214, 0xffaf00),
+            (231, 0xffffff),
+            (232, 0x080808),
+            (244, 0x808080),
+            (255, 0xeeeeee),
         ];
-        for (index, want) in wanted.iter().enumerate() {
-            let colour = colour_of(index as u8);
+        for (index, want) in wanted {
+            let colour = colour_of(index);
             let got = colour.red as u32 * 0x10000
                 + colour.green as u32 * 0x100
                 + colour.blue as u32;
-            assert_eq!(rt; got, *want, "at {index}");
+            assert_eq!(rt; got, want, "at {index}");
         }
     }
 

@@ -4,4 +4,4 @@ use Rattle.glyph_table.proofs.GlyphRects.{columns_row}
 use Rattle.glyph_table.proofs.tables.columns_of.Goals as goal
 
 pub returns-in-32-to-126 : goal.returns-in-32-to-126
-returns-in-32-to-126 c = columns_row font box c.args.face refl (omega arith) (omega arith)
+returns-in-32-to-126 c = columns_row font box _ c.args.face refl (omega arith) (omega arith)
