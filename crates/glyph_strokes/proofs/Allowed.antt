@@ -1,13 +1,16 @@
 -- What paints a cell is of a frame's shape, in range and short.
-use Rattle.std.proofs.Common.{◌≡◌, ℕ, zero, suc, ◌+◌, ◌^◌, ◌<◌, ◌≤◌, ℤ, List, [], ◌∷◌, ◌++◌, length, map, Bool, true, false, ◌&&◌, nat_lt, get_or, slice_index, slice_index_or, refl, sym, subst, arith}
+use Rattle.std.proofs.Common.{◌≡◌, ℕ, zero, suc, ◌+◌, ◌-◌, ◌*◌, ◌^◌, ◌<◌, ◌≤◌, ℤ, List, [], ◌∷◌, ◌++◌, length, map, Bool, true, false, ◌&&◌, nat_lt, if◌then◌else◌, get_or, slice_index, refl, sym, subst, arith}
 use Rattle.std.specs.List.{list_all, All}
+use Rattle.std.specs.Prelude.{◌/◌, ◌%◌}
+use Rattle.std.proofs.lemmas.Bool.{lt-ltb}
 use Rattle.std.proofs.lemmas.Bool.Decides.{nat_tests}
 use Rattle.std.proofs.lemmas.List.{length-append, length-map}
 use Rattle.std.proofs.lemmas.List.Elements.{All-head, All-tail}
 use Rattle.gate_model.specs.declared.instr.Instr.{Instr}
 use Rattle.gate_model.specs.declared.instr.Instr.TheVariants.{Size, Rect, Cfill, Copy, Sync, Disconnect, Error}
 use Rattle.gate_model.specs.declared.key.Key.{Key}
-use Rattle.gate_model.specs.picture.Palette.{colour_of, palette}
+use Rattle.gate_model.specs.declared.colour.Colour.{Colour}
+use Rattle.gate_model.specs.picture.Palette.{black, colour_of, first_colour, grey, level, mixed_colour, palette}
 use Rattle.gate_model.specs.picture.Shape.{AreReadable, Draws, IsInRange, IsLayer, without_layer}
 use Rattle.gate_model.proofs.Readable.{readable_both}
 use Rattle.glyph_table.specs.declared.patch.Patch.{Patch}
@@ -59,14 +62,14 @@ module _ (cols rows : ℕ) where
   area_draws k left top width height paper = (rw (equal_self k) refl, none_left 1 k)
 
 -- ---- colours
-is_colour : List ℕ → Bool
-is_colour rgb = nat_lt (slice_index rgb 0) 256 && (nat_lt (slice_index rgb 1) 256 && nat_lt (slice_index rgb 2) 256)
+is_colour : Colour → Bool
+is_colour c = nat_lt c.red 256 && (nat_lt c.green 256 && nat_lt c.blue 256)
 
 both : (a b : Bool) → (a && b) ≡ true → (a ≡ true) × (b ≡ true)
 both true b e = (refl, e)
 both false b e = absurd (cc)
 
-at_place : (p : List ℕ → Bool) (rows : List (List ℕ)) (i : ℕ) (d : List ℕ) → list_all p rows ≡ true → p d ≡ true → p (get_or rows i d) ≡ true
+at_place : {A : Type 0} (p : A → Bool) (rows : List A) (i : ℕ) (d : A) → list_all p rows ≡ true → p d ≡ true → p (get_or rows i d) ≡ true
 at_place p [] i d e h = h
 at_place p (x ∷ xs) zero d e h = (both (p x) (list_all p xs) e).0
 at_place p (x ∷ xs) (suc i) d e h = at_place p xs i d (both (p x) (list_all p xs) e).1 h
@@ -74,17 +77,38 @@ at_place p (x ∷ xs) (suc i) d e h = at_place p xs i d (both (p x) (list_all p 
 from_lt : (a b : ℕ) → nat_lt a b ≡ true → a < b
 from_lt a b e = grind (arith, nat_tests)
 
-palette_is : (index : ℕ) → is_colour (slice_index_or palette index (0 ∷ 0 ∷ 0 ∷ [])) ≡ true
+first_is : (index : ℕ) → is_colour (first_colour index) ≡ true
 unfolding is_colour
-palette_is index = at_place is_colour palette index (0 ∷ 0 ∷ 0 ∷ []) refl refl
+first_is index = at_place (λ (rgb : List ℕ). is_colour record { red = slice_index rgb 0; green = slice_index rgb 1; blue = slice_index rgb 2 }) palette index (0 ∷ 0 ∷ 0 ∷ []) refl refl
+
+level_is : (n : ℕ) → nat_lt (level n) 256 ≡ true
+level_is n = at_place (λ v. nat_lt v 256) (0 ∷ 95 ∷ 135 ∷ 175 ∷ 215 ∷ 255 ∷ []) n 0 refl refl
+
+mixed_is : (n : ℕ) → is_colour (mixed_colour n) ≡ true
+unfolding is_colour
+mixed_is n = rw (level_is (n / 36), level_is (n / 6 % 6), level_is (n % 6)) refl
+
+grey_is : (n : ℕ) → n < 24 → is_colour (grey n) ≡ true
+unfolding is_colour
+grey_is n lt = rw (lt-ltb (8 + 10 * n) 256 (omega (arith, lt))) refl
+
+colour_is : (index : ℕ) → is_colour (colour_of index) ≡ true
+unfolding colour_of is_colour
+colour_is index = pick (nat_lt index 16) (nat_lt index 232) (nat_lt index 256) refl refl
+  where
+    pick : (a b c : Bool) → nat_lt index 232 ≡ b → nat_lt index 256 ≡ c → is_colour (if a then first_colour index else (if b then mixed_colour (index - 16) else (if c then grey (index - 232) else black))) ≡ true
+    pick true b c e f = first_is index
+    pick false true c e f = mixed_is (index - 16)
+    pick false false true e f = grey_is (index - 232) (let high = from_lt index 256 f in let low : 232 ≤ index = grind (arith, nat_tests) in omega (arith, high, low))
+    pick false false false e f = refl
 
 pub fill_readable : (k : ℤ) (index : ℕ) → IsLayer k → IsInRange (fill k index)
-unfolding fill colour_of is_colour
+unfolding fill is_colour
 fill_readable k index layer =
-    let rgb = slice_index_or palette index (0 ∷ 0 ∷ 0 ∷ []) in
-    let p = both (nat_lt (slice_index rgb 0) 256) (nat_lt (slice_index rgb 1) 256 && nat_lt (slice_index rgb 2) 256) (palette_is index) in
-    let q = both (nat_lt (slice_index rgb 1) 256) (nat_lt (slice_index rgb 2) 256) p.1 in
-    (layer, from_lt (slice_index rgb 0) 256 p.0, from_lt (slice_index rgb 1) 256 q.0, from_lt (slice_index rgb 2) 256 q.1)
+    let c = colour_of index in
+    let p = both (nat_lt c.red 256) (nat_lt c.green 256 && nat_lt c.blue 256) (colour_is index) in
+    let q = both (nat_lt c.green 256) (nat_lt c.blue 256) p.1 in
+    (layer, from_lt c.red 256 p.0, from_lt c.green 256 q.0, from_lt c.blue 256 q.1)
 
 -- ---- places
 small : (n : ℕ) → n ≤ 65536 → n < 2 ^ 32

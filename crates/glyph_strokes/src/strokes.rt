@@ -1,6 +1,5 @@
-ghost use Rattle.std.specs.Prelude.{◌≡◌, ◌<◌, ◌≤◌, ◌++◌, OnOk};
+ghost use Rattle.std.specs.Prelude.{◌≡◌, ◌≤◌, ◌++◌, OnOk};
 ghost use Rattle.glyph_table.specs.GlyphRects.{rects};
-ghost use Rattle.gate_model.specs.terminal.Screens.{IsColoured};
 ghost use Rattle.glyph_strokes.specs.Strokes.{covering, fill, inked};
 
 use gate_model::{Instr, Key, NoMemory};
@@ -10,7 +9,6 @@ use glyph_table::{colour_of, rects_of};
 /// most 4,096, and then its glyph in its ink.
 #[tactic(auto, using(std::proofs::lemmas::Grind::common_steps), unfolding(crate::specs::Strokes::covering))]
 pub fn cover(list: &mut Vec<Instr>, layer: i32, x: u32, y: u32, key: Key) -> Result<(), NoMemory>
-    requires coloured { IsColoured key }
     requires left { x ≤ 4096 }
     requires upper { y ≤ 4096 }
     ensures { OnOk result (list.new.items ≡ list.old.items ++ covering layer x y key) }
@@ -30,7 +28,6 @@ pub fn cover(list: &mut Vec<Instr>, layer: i32, x: u32, y: u32, key: Key) -> Res
 // The glyph's rectangles and their fill; a glyph without lit pixels takes neither.
 #[tactic(auto, using(std::proofs::lemmas::Grind::common_steps, crate::proofs::Inks::inked_none, crate::proofs::Inks::inked_some))]
 fn draw_glyph(list: &mut Vec<Instr>, layer: i32, x: u32, y: u32, key: Key) -> Result<(), NoMemory>
-    requires ink { key.ink < 16 }
     requires left { x ≤ 4096 }
     requires upper { y ≤ 4096 }
     ensures { OnOk result (list.new.items ≡ list.old.items ++ inked layer x y (rects key.face key.under) key.ink) }
@@ -56,7 +53,6 @@ fn draw_glyph(list: &mut Vec<Instr>, layer: i32, x: u32, y: u32, key: Key) -> Re
 /// The fill of the layer's path with a colour of the palette.
 #[tactic(auto, unfolding(crate::specs::Strokes::fill))]
 pub fn fill_with(layer: i32, index: u8) -> Instr
-    requires { index < 16 }
     ensures { result ≡ fill layer index }
 {
     let colour = colour_of(index);
