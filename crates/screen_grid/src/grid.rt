@@ -2,7 +2,7 @@ ghost use Rattle.std.specs.Prelude.{◌≡◌, ◌+◌, ◌*◌, ◌<◌, ◌≤
 ghost use Rattle.gate_model.specs.terminal.Cells.{blank_grid, cell_at, kept_at, place, put, erased, inserted, deleted, resized, scrolled_up, scrolled_down};
 ghost use Rattle.screen_grid.specs.Runs.{put_run};
 
-use crate::runs::BLANK;
+use crate::runs::{BLANK, noted};
 use crate::window::Window;
 use gate_model::{Cell, NoMemory};
 use std::alloc::Global;
@@ -12,20 +12,22 @@ use std::marker::Model;
 /// by row. Columns and rows are counted from 0.
 #[derive(Drop)]
 pub struct Grid {
-    columns: u16,
-    lines: u16,
-    held: Window,
+    pub(crate) columns: u16,
+    pub(crate) lines: u16,
+    pub(crate) held: Window,
+    // False only where every cell is of a character of one place, so that nothing is to be mended.
+    pub(crate) halves: bool,
 }
 
 impl Model for Grid {
-    ghost use Rattle.std.specs.Prelude.{◌≡◌, ◌*◌, length};
     ghost use Rattle.gate_model.specs.terminal.Cells.{CellGrid};
+    ghost use Rattle.screen_grid.specs.Held.{cells_of, IsHeld};
 
     ghost Value = { CellGrid };
 
-    ghost view = { λ g. record { cols = g.columns; rows = g.lines; cells = g.held } };
+    ghost view = { cells_of };
 
-    ghost invariant = { λ g. length g.held ≡ g.lines * g.columns };
+    ghost invariant = { IsHeld };
 }
 
 impl Grid {
@@ -40,6 +42,7 @@ impl Grid {
             columns: cols,
             lines: rows,
             held,
+            halves: false,
         })
     }
 
@@ -53,6 +56,7 @@ impl Grid {
             columns: self.columns,
             lines: self.lines,
             held,
+            halves: self.halves,
         })
     }
 
@@ -80,6 +84,7 @@ impl Grid {
         ensures cells { self.new ≡ put x y cell self.old }
     {
         let place = self.place(x, y);
+        self.halves = noted(self.halves, cell);
         self.held.put(place, cell);
     }
 
@@ -91,6 +96,7 @@ impl Grid {
         ensures cells { self.new ≡ put_run x y text.now pen self.old }
     {
         let start = self.place(x, y);
+        self.halves = noted(self.halves, pen);
         self.held.put_run(start, text, pen);
     }
 
@@ -143,6 +149,7 @@ impl Grid {
     {
         let count = n as usize * self.columns as usize;
         if top == 0 && bottom + 1 == self.lines {
+            self.halves = self.halves && n < self.lines;
             self.held.slide(count);
             return;
         }

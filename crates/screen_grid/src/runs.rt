@@ -1,8 +1,9 @@
-ghost use Rattle.std.specs.Prelude.{◌≡◌, ◌≤◌, length, map, replicate};
+ghost use Rattle.std.specs.Prelude.{◌≡◌, ◌≤◌, false, length, map, replicate};
 ghost use Rattle.gate_model.specs.terminal.Cells.{blank, moved_left, moved_right};
 ghost use Rattle.screen_grid.specs.Runs.{like};
+ghost use Rattle.gate_model.specs.declared.cell.Half.TheVariants.{Whole};
 
-use gate_model::Cell;
+use gate_model::{Cell, Half};
 
 /// A space with ink 7, paper 0 and no underline: what a new or an erased cell holds.
 pub(crate) const BLANK: Cell = Cell {
@@ -10,6 +11,7 @@ pub(crate) const BLANK: Cell = Cell {
     ink: 7,
     paper: 0,
     under: false,
+    half: Half::Whole,
 };
 
 // The cells move towards the start by `n`, at most all of them, and blanks come in at the end.
@@ -49,5 +51,15 @@ pub(crate) fn draw(run: &mut [Cell], text: &[u8], pen: Cell)
             ch: char::from(*byte),
             ..pen
         };
+    }
+}
+
+// Whether a half of a character that takes two places is among cells, after this one more.
+pub(crate) fn noted(halves: bool, cell: Cell) -> bool
+    ensures { result ≡ false → (halves ≡ false) × (cell.half ≡ Whole) }
+{
+    match cell.half {
+        Half::Whole => halves,
+        Half::Left | Half::Right => true,
     }
 }
