@@ -6,13 +6,12 @@ use Rattle.std.proofs.lemmas.Bool.Decides.{nat_tests}
 use Rattle.std.proofs.lemmas.List.{get_or_default}
 use Rattle.std.proofs.lemmas.List.Elements.{All-cons}
 use Rattle.std.proofs.lemmas.List.Kept.{AllPairs-cons}
-use Rattle.std.proofs.lemmas.Grind.{common_steps}
 use Rattle.std.proofs.lemmas.Nat.{one_shl}
 use Rattle.glyph_table.specs.declared.patch.Patch.{Patch}
 use Rattle.gate_model.specs.picture.Font.{font, box, left_box, right_box}
 use Rattle.gate_model.specs.picture.Glyphs.{columns_of, left_face, right_face, lit}
-use Rattle.glyph_table.specs.GlyphRects.{IsApart, IsInside, covers, first_bit, end_bit, without_run, run_rect, underline, rects, all_rects, columns_rects, column_rects, runs_within}
-use Rattle.glyph_table.proofs.GlyphTests.{all_below, both_or_neither, in_columns, covers_pixel, covers_all, is_before, all_before, is_inside, rects_pass, glyph_passes, font_passes, box_passes, left_passes, right_passes, left_after, column_passes, columns_pass}
+use Rattle.glyph_table.specs.GlyphRects.{IsApart, IsInside, covers, first_bit, end_bit, goes_on, has_run, run_rects, run_end, underline, rects, all_rects, columns_rects, column_rects, runs_within, without_run}
+use Rattle.glyph_table.proofs.GlyphTests.{all_below, both_or_neither, in_columns, covers_pixel, covers_all, is_beside, all_beside, is_inside, rects_pass, glyph_passes, font_passes, box_passes, left_passes, right_passes, left_after, column_passes, columns_pass}
 
 both : (a b : Bool) → (a && b) ≡ true → (a ≡ true) × (b ≡ true)
 both true b e = (refl, e)
@@ -113,76 +112,121 @@ step b some below =
     }
 
 -- more turns than there are runs change nothing
-enough : (n x : ℕ) (under : Bool) (b : ℕ) → left_after n b ≡ 0 → runs_within (suc n) x under b ≡ runs_within n x under b
+enough : (n i : ℕ) (under : Bool) (columns : List ℕ) (b : ℕ) → left_after n b ≡ 0 → runs_within (suc n) i under columns b ≡ runs_within n i under columns b
 unfolding runs_within left_after
-enough zero x under b e = rw e refl
-enough (suc n) x under b e = ap (λ (rest : List Patch). if b == 0 then [] else (run_rect x under (first_bit b) (end_bit b) ∷ rest)) (enough n x under (without_run b) e)
+enough zero i under columns b e = rw e refl
+enough (suc n) i under columns b e =
+    ap (λ (rest : List Patch). if b == 0 then [] else (run_rects i under columns (first_bit b) (end_bit b) ++ rest)) (enough n i under columns (without_run b) e)
 
 chosen_else : {X : Type 0} (b : Bool) (x y : X) → b ≡ false → (if b then x else y) ≡ y
 chosen_else true x y e = absurd (cc)
 chosen_else false x y e = refl
 
-pub column_step : (x : ℕ) (under : Bool) (b : ℕ) → 0 < b → b < 128
-    → column_rects x under b ≡ run_rect x under (first_bit b) (end_bit b) ∷ column_rects x under (without_run b)
+column_step : (i : ℕ) (under : Bool) (columns : List ℕ) (b : ℕ) → 0 < b → b < 128
+    → column_rects i under columns b ≡ run_rects i under columns (first_bit b) (end_bit b) ++ column_rects i under columns (without_run b)
 unfolding column_rects runs_within left_after
-column_step x under b some below =
+column_step i under columns b some below =
     chosen_else (b == 0) _ _ (grind (arith, nat_tests))
-    ∙ ap (λ (rest : List Patch). run_rect x under (first_bit b) (end_bit b) ∷ rest) (sym (enough 3 x under (without_run b) (step b some below).none_left))
+    ∙ ap (λ (rest : List Patch). run_rects i under columns (first_bit b) (end_bit b) ++ rest) (sym (enough 3 i under columns (without_run b) (step b some below).none_left))
 
-pub column_end : (x : ℕ) (under : Bool) → column_rects x under 0 ≡ []
+column_end : (i : ℕ) (under : Bool) (columns : List ℕ) → column_rects i under columns 0 ≡ []
 unfolding column_rects runs_within
-column_end x under = refl
+column_end i under columns = refl
 
-few_either : (zero : Bool) (first : Patch) (rest : List Patch) (n : ℕ) → length rest ≤ n → length (if zero then [] else (first ∷ rest)) ≤ suc n
-few_either true first rest n le = omega arith
-few_either false first rest n le = omega arith
+few_chosen : (b : Bool) (p : Patch) → length (if b then [] else (p ∷ [])) ≤ 1
+few_chosen true p = omega arith
+few_chosen false p = omega arith
 
-few_within : (n x : ℕ) (under : Bool) (b : ℕ) → length (runs_within n x under b) ≤ n
+run_few : (i : ℕ) (under : Bool) (columns : List ℕ) (first end : ℕ) → length (run_rects i under columns first end) ≤ 1
+unfolding run_rects
+run_few i under columns first end = few_chosen (goes_on first end columns i) _
+
+few_either : (zero : Bool) (firsts rest : List Patch) (n : ℕ) → length firsts ≤ 1 → length rest ≤ n → length (if zero then [] else (firsts ++ rest)) ≤ suc n
+few_either true firsts rest n one le = omega arith
+few_either false firsts rest n one le = omega (arith, one, le, length-append firsts rest)
+
+few_within : (n i : ℕ) (under : Bool) (columns : List ℕ) (b : ℕ) → length (runs_within n i under columns b) ≤ n
 unfolding runs_within
-few_within zero x under b = omega arith
-few_within (suc n) x under b = few_either (b == 0) _ _ n (few_within n x under (without_run b))
+few_within zero i under columns b = omega arith
+few_within (suc n) i under columns b = few_either (b == 0) _ _ n (run_few i under columns (first_bit b) (end_bit b)) (few_within n i under columns (without_run b))
 
-pub column_few : (x : ℕ) (under : Bool) (b : ℕ) → length (column_rects x under b) ≤ 4
+column_few : (i : ℕ) (under : Bool) (columns : List ℕ) (b : ℕ) → length (column_rects i under columns b) ≤ 4
 unfolding column_rects
-column_few x under b = few_within 4 x under b
+column_few i under columns b = few_within 4 i under columns b
 
--- there is room for the next run
-pub room : (now old : List Patch) (x : ℕ) (under : Bool) (b column : ℕ) → 0 < b → b < 128 → length old + 4 ≤ 21
-    → now ++ column_rects x under b ≡ old ++ column_rects x under column → length now < 21
-room now old x under b column some below le e =
-    let f = ap length e in
-    let g = column_few x under column in
-    let h = ap length (column_step x under b some below) in
-    grind (arith, common_steps)
+-- there is room for what the next run adds
+pub room : (now old : List Patch) (i : ℕ) (under : Bool) (columns : List ℕ) (b column : ℕ) → 0 < b → b < 128 → length old + 4 ≤ 21
+    → now ++ column_rects i under columns b ≡ old ++ column_rects i under columns column → length now + length (run_rects i under columns (first_bit b) (end_bit b)) ≤ 21
+room now old i under columns b column some below le e =
+    let runs = run_rects i under columns (first_bit b) (end_bit b) in
+    let rest = column_rects i under columns (without_run b) in
+    omega (
+      arith,
+      le,
+      ap length e,
+      column_few i under columns column,
+      length-append now (column_rects i under columns b),
+      length-append old (column_rects i under columns column),
+      ap length (column_step i under columns b some below),
+      length-append runs rest,
+    )
 
 -- a run moves from what is left to what is there
-pub goes_on : (now new : List Patch) (patch : Patch) (x : ℕ) (under : Bool) (b : ℕ) (all : List Patch) → 0 < b → b < 128
-    → new ≡ now ++ patch ∷ [] → patch ≡ run_rect x under (first_bit b) (end_bit b)
-    → now ++ column_rects x under b ≡ all → new ++ column_rects x under (without_run b) ≡ all
-goes_on now new patch x under b all some below added is_run e =
-    ap (λ (has : List Patch). has ++ column_rects x under (without_run b)) (added ∙ ap (λ (run : Patch). now ++ run ∷ []) is_run)
-    ∙ (append_assoc now (run_rect x under (first_bit b) (end_bit b) ∷ []) (column_rects x under (without_run b))
-    ∙ (ap (λ (rest : List Patch). now ++ rest) (sym (column_step x under b some below)) ∙ e))
+pub run_added : (now new : List Patch) (i : ℕ) (under : Bool) (columns : List ℕ) (b : ℕ) (all : List Patch) → 0 < b → b < 128
+    → new ≡ now ++ run_rects i under columns (first_bit b) (end_bit b)
+    → now ++ column_rects i under columns b ≡ all → new ++ column_rects i under columns (without_run b) ≡ all
+run_added now new i under columns b all some below added e =
+    ap (λ (has : List Patch). has ++ column_rects i under columns (without_run b)) added
+    ∙ (append_assoc now (run_rects i under columns (first_bit b) (end_bit b)) (column_rects i under columns (without_run b))
+    ∙ (ap (λ (rest : List Patch). now ++ rest) (sym (column_step i under columns b some below)) ∙ e))
 
-pub ends : (now : List Patch) (x : ℕ) (under : Bool) (b : ℕ) (all : List Patch) → b ≡ 0 → now ++ column_rects x under b ≡ all → now ≡ all
-ends now x under b all none e =
-    sym (append-nil now) ∙ (ap (λ (rest : List Patch). now ++ rest) (sym (ap (column_rects x under) none ∙ column_end x under)) ∙ e)
+pub ends : (now : List Patch) (i : ℕ) (under : Bool) (columns : List ℕ) (b : ℕ) (all : List Patch) → b ≡ 0 → now ++ column_rects i under columns b ≡ all → now ≡ all
+ends now i under columns b all none e =
+    sym (append-nil now) ∙ (ap (λ (rest : List Patch). now ++ rest) (sym (ap (column_rects i under columns) none ∙ column_end i under columns)) ∙ e)
+
+-- ---- over how many columns a run goes
+chosen_then : {X : Type 0} (b : Bool) (x y : X) → b ≡ true → (if b then x else y) ≡ x
+chosen_then true x y e = refl
+chosen_then false x y e = absurd (cc)
+
+run_end_next : (n first end : ℕ) (columns : List ℕ) (j : ℕ) → run_end (suc n) first end columns j ≡ (if has_run first end (slice_index columns j) then run_end n first end columns (j + 1) else j)
+unfolding run_end
+run_end_next n first end columns j = refl
+
+left_more : (first end : ℕ) (columns : List ℕ) (j : ℕ) → j < 5
+    → run_end (5 - j) first end columns j ≡ (if has_run first end (slice_index columns j) then run_end (5 - (j + 1)) first end columns (j + 1) else j)
+left_more first end columns j lt =
+    let next : 5 - j ≡ suc (5 - (j + 1)) = omega arith in
+    ap (λ (n : ℕ). run_end n first end columns j) next ∙ run_end_next (5 - (j + 1)) first end columns j
+
+pub run_goes_on : (first end : ℕ) (columns : List ℕ) (j : ℕ) → j < 5 → has_run first end (slice_index columns j) ≡ true
+    → run_end (5 - j) first end columns j ≡ run_end (5 - (j + 1)) first end columns (j + 1)
+run_goes_on first end columns j lt has = left_more first end columns j lt ∙ chosen_then _ _ _ has
+
+pub run_stops : (first end : ℕ) (columns : List ℕ) (j : ℕ) → j < 5 → has_run first end (slice_index columns j) ≡ false → run_end (5 - j) first end columns j ≡ j
+run_stops first end columns j lt none = left_more first end columns j lt ∙ chosen_else _ _ _ none
+
+pub run_out : (first end : ℕ) (columns : List ℕ) (j : ℕ) → j ≡ 5 → run_end (5 - j) first end columns j ≡ 5
+unfolding run_end
+run_out first end columns j e =
+    let none : 5 - j ≡ 0 = omega arith in
+    ap (λ (n : ℕ). run_end n first end columns j) none ∙ e
 
 -- ---- the columns, one after the other
 pub columns_none : (under : Bool) (columns : List ℕ) → columns_rects 0 under columns ≡ []
 unfolding columns_rects
 columns_none under columns = refl
 
-pub columns_more : (n : ℕ) (under : Bool) (columns : List ℕ) → columns_rects (n + 1) under columns ≡ columns_rects n under columns ++ column_rects (n + 1) under (slice_index columns n)
+columns_more : (n : ℕ) (under : Bool) (columns : List ℕ) → columns_rects (n + 1) under columns ≡ columns_rects n under columns ++ column_rects n under columns (slice_index columns n)
 unfolding columns_rects
 columns_more n under columns =
     let next : suc n ≡ n + 1 = omega arith in
-    subst (λ (m : ℕ). columns_rects m under columns ≡ columns_rects n under columns ++ column_rects (n + 1) under (slice_index columns n)) next refl
+    subst (λ (m : ℕ). columns_rects m under columns ≡ columns_rects n under columns ++ column_rects n under columns (slice_index columns n)) next refl
 
 pub columns_few : (n : ℕ) (under : Bool) (columns : List ℕ) → length (columns_rects n under columns) ≤ 4 * n
 unfolding columns_rects
 columns_few zero under columns = omega arith
-columns_few (suc n) under columns = omega (arith, columns_few n under columns, column_few (n + 1) under (slice_index columns n), length-append (columns_rects n under columns) (column_rects (n + 1) under (slice_index columns n)))
+columns_few (suc n) under columns = omega (arith, columns_few n under columns, column_few n under columns (slice_index columns n), length-append (columns_rects n under columns) (column_rects n under columns (slice_index columns n)))
 
 -- ---- the rule
 pub is_rects : (face : ℕ) (under : Bool) → rects face under ≡ all_rects under (columns_of face)
@@ -198,15 +242,15 @@ four a b c d h =
 
 record Passes (face : ℕ) (under : Bool) : Type 0 where
   covers_lit : covers_all under (columns_of face) ≡ true
-  before : all_before (rects face under) ≡ true
+  beside : all_beside (rects face under) ≡ true
   few : nat_le (length (rects face under)) 21 ≡ true
   inside : list_all is_inside (rects face under) ≡ true
 
 passes : (face : ℕ) (under : Bool) → Passes face under
 unfolding rects_pass rects
 passes face under =
-    let p = four (covers_all under (columns_of face)) (all_before (rects face under)) (nat_le (length (rects face under)) 21) (list_all is_inside (rects face under)) (rects_of_face face under) in
-    record { covers_lit = p.0; before = p.1; few = p.2; inside = p.3 }
+    let p = four (covers_all under (columns_of face)) (all_beside (rects face under)) (nat_le (length (rects face under)) 21) (list_all is_inside (rects face under)) (rects_of_face face under) in
+    record { covers_lit = p.0; beside = p.1; few = p.2; inside = p.3 }
 
 pub rects_cover : (face : ℕ) (under : Bool) (x y : ℕ) → x < 8 → y < 16 → list_any (λ p. covers p x y) (rects face under) ≡ lit face under x y
 unfolding rects lit in_columns covers_all covers_pixel
@@ -234,31 +278,31 @@ all_inside (p ∷ ps) e =
 pub rects_inside : (face : ℕ) (under : Bool) → All IsInside (rects face under)
 rects_inside face under = all_inside (rects face under) (passes face under).inside
 
-before_apart : (p q : Patch) → is_before p q ≡ true → IsApart p q
-unfolding is_before
-before_apart p q e x y in_p in_q = grind (arith, nat_tests)
+beside_apart : (p q : Patch) → is_beside p q ≡ true → IsApart p q
+unfolding is_beside
+beside_apart p q e x y in_p in_q = grind (arith, nat_tests)
 
-each_apart : (p : Patch) (ps : List Patch) → list_all (is_before p) ps ≡ true → All (IsApart p) ps
+each_apart : (p : Patch) (ps : List Patch) → list_all (is_beside p) ps ≡ true → All (IsApart p) ps
 each_apart p [] e = λ k d lt. absurd (omega arith)
 each_apart p (q ∷ qs) e =
-    let r = both (is_before p q) (list_all (is_before p) qs) e in
-    All-cons (IsApart p) q qs (before_apart p q r.0) (each_apart p qs r.1)
+    let r = both (is_beside p q) (list_all (is_beside p) qs) e in
+    All-cons (IsApart p) q qs (beside_apart p q r.0) (each_apart p qs r.1)
 
-all_apart : (ps : List Patch) → all_before ps ≡ true → AllPairs IsApart ps
-unfolding all_before
+all_apart : (ps : List Patch) → all_beside ps ≡ true → AllPairs IsApart ps
+unfolding all_beside
 all_apart [] e = λ i j d lt in_j. absurd (omega arith)
 all_apart (p ∷ ps) e =
-    let q = both (list_all (is_before p) ps) (all_before ps) e in
+    let q = both (list_all (is_beside p) ps) (all_beside ps) e in
     AllPairs-cons IsApart p ps (each_apart p ps q.0) (all_apart ps q.1)
 
 pub rects_apart : (face : ℕ) (under : Bool) → AllPairs IsApart (rects face under)
-rects_apart face under = all_apart (rects face under) (passes face under).before
+rects_apart face under = all_apart (rects face under) (passes face under).beside
 
 -- one more column
 pub columns_added : (now new : List Patch) (n : ℕ) (under : Bool) (columns : List ℕ) → now ≡ columns_rects n under columns
-    → new ≡ now ++ column_rects (n + 1) under (slice_index columns n) → new ≡ columns_rects (n + 1) under columns
+    → new ≡ now ++ column_rects n under columns (slice_index columns n) → new ≡ columns_rects (n + 1) under columns
 columns_added now new n under columns before added =
-    added ∙ (ap (λ (ps : List Patch). ps ++ column_rects (n + 1) under (slice_index columns n)) before ∙ sym (columns_more n under columns))
+    added ∙ (ap (λ (ps : List Patch). ps ++ column_rects n under columns (slice_index columns n)) before ∙ sym (columns_more n under columns))
 
 -- the list of a face, in two steps
 with_underline : (face : ℕ) → rects face true ≡ columns_rects 5 true (columns_of face) ++ underline ∷ []

@@ -5,7 +5,7 @@ use Rattle.std.specs.List.{list_any, list_all}
 use Rattle.glyph_table.specs.declared.patch.Patch.{Patch}
 use Rattle.gate_model.specs.picture.Font.{font, box, left_box, right_box}
 use Rattle.gate_model.specs.picture.Glyphs.{bit_of}
-use Rattle.glyph_table.specs.GlyphRects.{covers, first_bit, end_bit, without_run, all_rects, columns_rects, column_rects, runs_within}
+use Rattle.glyph_table.specs.GlyphRects.{covers, first_bit, end_bit, without_run, all_rects, columns_rects, column_rects, runs_within, run_rects, run_end}
 
 unfoldable pub all_below : (ℕ → Bool) → ℕ → Bool
 all_below p zero = true
@@ -25,38 +25,38 @@ covers_pixel under columns x y = both_or_neither (list_any (λ p. covers p x y) 
 unfoldable pub covers_all : Bool → List ℕ → Bool
 covers_all under columns = all_below (λ x. all_below (λ y. covers_pixel under columns x y) 16) 8
 
--- the first stands left of the second, or above it
-unfoldable pub is_before : Patch → Patch → Bool
-is_before p q = nat_le (p.x + p.width) q.x || nat_le (p.y + p.height) q.y
+-- the first stands left of the second, above it, or below it
+unfoldable pub is_beside : Patch → Patch → Bool
+is_beside p q = nat_le (p.x + p.width) q.x || (nat_le (p.y + p.height) q.y || nat_le (q.y + q.height) p.y)
 
-unfoldable pub all_before : List Patch → Bool
-all_before [] = true
-all_before (p ∷ ps) = list_all (is_before p) ps && all_before ps
+unfoldable pub all_beside : List Patch → Bool
+all_beside [] = true
+all_beside (p ∷ ps) = list_all (is_beside p) ps && all_beside ps
 
 unfoldable pub is_inside : Patch → Bool
 is_inside p = nat_le 1 p.width && (nat_le 1 p.height && (nat_le (p.x + p.width) 8 && nat_le (p.y + p.height) 16))
 
 unfoldable pub rects_pass : Bool → List ℕ → Bool
-rects_pass under columns = covers_all under columns && (all_before (all_rects under columns) && (nat_le (length (all_rects under columns)) 21 && list_all is_inside (all_rects under columns)))
+rects_pass under columns = covers_all under columns && (all_beside (all_rects under columns) && (nat_le (length (all_rects under columns)) 21 && list_all is_inside (all_rects under columns)))
 
 unfoldable pub glyph_passes : List ℕ → Bool
 glyph_passes columns = rects_pass true columns && (rects_pass false columns && all_below (λ i. nat_lt (slice_index columns i) 128) 5)
 
 -- the whole font
 pub font_passes : list_all glyph_passes font ≡ true
-unfolding glyph_passes rects_pass is_inside all_before is_before covers_all covers_pixel in_columns both_or_neither all_below columns_rects column_rects runs_within count_trailing_zeros
+unfolding glyph_passes rects_pass is_inside all_beside is_beside covers_all covers_pixel in_columns both_or_neither all_below columns_rects column_rects runs_within run_rects run_end count_trailing_zeros
 font_passes = refl
 
 pub box_passes : glyph_passes box ≡ true
-unfolding glyph_passes rects_pass is_inside all_before is_before covers_all covers_pixel in_columns both_or_neither all_below columns_rects column_rects runs_within count_trailing_zeros
+unfolding glyph_passes rects_pass is_inside all_beside is_beside covers_all covers_pixel in_columns both_or_neither all_below columns_rects column_rects runs_within run_rects run_end count_trailing_zeros
 box_passes = refl
 
 pub left_passes : glyph_passes left_box ≡ true
-unfolding glyph_passes rects_pass is_inside all_before is_before covers_all covers_pixel in_columns both_or_neither all_below columns_rects column_rects runs_within count_trailing_zeros
+unfolding glyph_passes rects_pass is_inside all_beside is_beside covers_all covers_pixel in_columns both_or_neither all_below columns_rects column_rects runs_within run_rects run_end count_trailing_zeros
 left_passes = refl
 
 pub right_passes : glyph_passes right_box ≡ true
-unfolding glyph_passes rects_pass is_inside all_before is_before covers_all covers_pixel in_columns both_or_neither all_below columns_rects column_rects runs_within count_trailing_zeros
+unfolding glyph_passes rects_pass is_inside all_beside is_beside covers_all covers_pixel in_columns both_or_neither all_below columns_rects column_rects runs_within run_rects run_end count_trailing_zeros
 right_passes = refl
 
 -- what is left of a column without its n lowest runs

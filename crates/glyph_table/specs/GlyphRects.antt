@@ -1,5 +1,6 @@
--- The rectangles of a glyph: the vertical runs of its columns, and its underline (this project's own).
-use Rattle.std.specs.Prelude.{ℕ, zero, suc, ◌+◌, ◌-◌, ◌*◌, ◌^◌, ◌≤◌, List, [], ◌∷◌, ◌++◌, Bool, ◌&&◌, ◌==◌, nat_le, nat_lt, IsTrue, slice_index, if◌then◌else◌, bit_and}
+-- The rectangles of a glyph: the vertical runs of its columns, each over all columns beside each other that have it, and
+-- its underline (this project's own).
+use Rattle.std.specs.Prelude.{ℕ, zero, suc, ◌+◌, ◌-◌, ◌*◌, ◌/◌, ◌%◌, ◌^◌, ◌≤◌, List, [], ◌∷◌, ◌++◌, Bool, ◌&&◌, ◌==◌, nat_le, nat_lt, IsTrue, slice_index, if◌then◌else◌, bit_and}
 use Rattle.std.specs.Int.{w8, trailing_zeros}
 use Rattle.glyph_table.specs.declared.patch.Patch.{Patch}
 use Rattle.gate_model.specs.picture.Glyphs.{columns_of}
@@ -30,28 +31,45 @@ end_bit column = trailing_zeros w8 (column + 2 ^ first_bit column)
 abbrev pub without_run : ℕ → ℕ
 without_run column = bit_and column (column + 2 ^ first_bit column)
 
+-- whether a column has just this run: its bits are set, and neither the one before nor the one behind
+abbrev pub has_run : ℕ → ℕ → ℕ → Bool
+has_run first end column = 2 * column / 2 ^ first % 2 ^ (end - first + 2) == 2 ^ (end - first + 1) - 2
+
+-- the first of the columns from number i on, of which n are left, that hasn't the run
+unfoldable pub run_end : ℕ → ℕ → ℕ → List ℕ → ℕ → ℕ
+run_end zero first end columns i = i
+run_end (suc n) first end columns i = if has_run first end (slice_index columns i) then run_end n first end columns (i + 1) else i
+
+-- whether the column before has the run too
+abbrev pub goes_on : ℕ → ℕ → List ℕ → ℕ → Bool
+goes_on first end columns i = nat_le 1 i && has_run first end (slice_index columns (i - 1))
+
 -- the rectangle of a run. A run that reaches bit 6 leaves pixel line 15 to the underline
-abbrev pub run_rect : ℕ → Bool → ℕ → ℕ → Patch
-run_rect x under first end = record {
-  x = x;
+abbrev pub run_rect : ℕ → ℕ → Bool → ℕ → ℕ → Patch
+run_rect i width under first end = record {
+  x = i + 1;
   y = 2 + 2 * first;
-  width = 1;
+  width = width;
   height = 2 * (end - first) - (if under && end == 7 then 1 else 0);
 }
 
--- the rectangles of at most n runs of a column, from top to bottom
-unfoldable pub runs_within : ℕ → ℕ → Bool → ℕ → List Patch
-runs_within zero x under column = []
-runs_within (suc n) x under column = if column == 0 then [] else run_rect x under (first_bit column) (end_bit column) ∷ runs_within n x under (without_run column)
+-- what a run of column i adds: its rectangle, where it begins there
+unfoldable pub run_rects : ℕ → Bool → List ℕ → ℕ → ℕ → List Patch
+run_rects i under columns first end = if goes_on first end columns i then [] else run_rect i (run_end (5 - i) first end columns i - i) under first end ∷ []
+
+-- the rectangles of at most n runs of column i, from top to bottom
+unfoldable pub runs_within : ℕ → ℕ → Bool → List ℕ → ℕ → List Patch
+runs_within zero i under columns column = []
+runs_within (suc n) i under columns column = if column == 0 then [] else run_rects i under columns (first_bit column) (end_bit column) ++ runs_within n i under columns (without_run column)
 
 -- the rectangles of a column: a byte has at most four runs
-unfoldable pub column_rects : ℕ → Bool → ℕ → List Patch
-column_rects x under column = runs_within 4 x under column
+unfoldable pub column_rects : ℕ → Bool → List ℕ → ℕ → List Patch
+column_rects i under columns column = runs_within 4 i under columns column
 
--- the rectangles of the first n columns
+-- the rectangles that begin in the first n columns
 unfoldable pub columns_rects : ℕ → Bool → List ℕ → List Patch
 columns_rects zero under columns = []
-columns_rects (suc n) under columns = columns_rects n under columns ++ column_rects (n + 1) under (slice_index columns n)
+columns_rects (suc n) under columns = columns_rects n under columns ++ column_rects n under columns (slice_index columns n)
 
 -- pixel line 15 over the whole width
 abbrev pub underline : Patch

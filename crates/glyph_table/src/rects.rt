@@ -1,8 +1,8 @@
-ghost use Rattle.std.specs.Prelude.{◌≡◌, ◌+◌, ◌-◌, ◌*◌, ◌<◌, ◌≤◌, ℕ, List, [], ◌∷◌, ◌++◌, Bool, length, All};
+ghost use Rattle.std.specs.Prelude.{◌≡◌, ◌+◌, ◌-◌, ◌*◌, ◌<◌, ◌≤◌, ℕ, List, [], ◌∷◌, ◌++◌, Bool, length, slice_index, All};
 ghost use Rattle.std.specs.List.{list_any, AllPairs};
 ghost use Rattle.glyph_table.specs.declared.patch.Patch.{Patch};
 ghost use Rattle.gate_model.specs.picture.Glyphs.{lit};
-ghost use Rattle.glyph_table.specs.GlyphRects.{IsApart, IsInside, column_rects, covers, rects, run_rect};
+ghost use Rattle.glyph_table.specs.GlyphRects.{IsApart, IsInside, column_rects, covers, has_run, rects, run_end, run_rects};
 
 use crate::Patch;
 use crate::tables::columns_of;
@@ -54,21 +54,44 @@ impl Rects {
         self.count += 1;
     }
 
-    // The runs of set bits of a column at pixel column `x`, from the lowest bit on. To add a run's
-    // first bit carries through the run, so the sum's lowest bit is the run's end.
-    fn add_column(&mut self, x: u8, column: u8, under: bool)
+    // The runs of set bits that begin in a column, from the lowest bit on. To add a run's first bit carries through the
+    // run, so the sum's lowest bit is the run's end.
+    fn add_column(&mut self, columns: [u8; 5], i: usize, under: bool)
         requires room { length self.old + 4 ≤ 21 }
-        requires seven_bits { column < 128 }
-        ensures { self.new ≡ self.old ++ column_rects x under column }
+        requires inside { i < 5 }
+        requires seven_bits { slice_index columns i < 128 }
+        ensures { self.new ≡ self.old ++ column_rects i under columns (slice_index columns i) }
     {
-        let mut left = column;
+        let mut left = columns[i];
         while left != 0 {
             let first = left.trailing_zeros() as u8;
             let carried = left + (1 << first);
             let end = carried.trailing_zeros() as u8;
-            self.add(run_of(x, first, end, under));
+            self.add_run(columns, i, first, end, under);
             left &= carried;
         }
+    }
+
+    // The run of the bits from `first` up to `end`, not included, where the column before hasn't got it: over all columns
+    // that have it. It leaves pixel line 15 to an underline.
+    #[tactic(auto, unfolding(crate::specs::GlyphRects::run_rects))]
+    fn add_run(&mut self, columns: [u8; 5], i: usize, first: u8, end: u8, under: bool)
+        requires room { length self.old + length (run_rects i under columns first end) ≤ 21 }
+        requires inside { i < 5 }
+        requires some { first < end }
+        requires seven_bits { end ≤ 7 }
+        ensures { self.new ≡ self.old ++ run_rects i under columns first end }
+    {
+        if 1 <= i && has_run(columns[i - 1], first, end) {
+            return;
+        }
+        let cut = u8::from(under && end == 7);
+        self.add(Patch {
+            x: i as u8 + 1,
+            y: 2 + 2 * first,
+            width: (run_end(columns, i, first, end) - i) as u8,
+            height: 2 * (end - first) - cut,
+        });
     }
 
     /// The rectangles, lent.
@@ -79,20 +102,33 @@ impl Rects {
     }
 }
 
-// The rectangle of the bits from `first` up to `end`, not included. It leaves pixel line 15 to an
-// underline.
-fn run_of(x: u8, first: u8, end: u8, under: bool) -> Patch
+// Whether a column has just this run: its bits are set, and neither the one before nor the one behind.
+fn has_run(column: u8, first: u8, end: u8) -> bool
     requires some { first < end }
     requires seven_bits { end ≤ 7 }
-    ensures { result ≡ run_rect x under first end }
+    ensures { result ≡ has_run first end column }
 {
-    let cut = u8::from(under && end == 7);
-    Patch {
-        x,
-        y: 2 + 2 * first,
-        width: 1,
-        height: 2 * (end - first) - cut,
+    let length = end - first;
+    // One bit to the left, so that the bit before the first one is seen.
+    let seen = 2 * u16::from(column) / (1 << first) % (1 << (length + 2));
+    seen == (1 << (length + 1)) - 2
+}
+
+// The first of the columns from `i` on that hasn't the run.
+fn run_end(columns: [u8; 5], i: usize, first: u8, end: u8) -> usize
+    requires inside { i < 5 }
+    requires some { first < end }
+    requires seven_bits { end ≤ 7 }
+    ensures ends { result ≡ run_end (5 - i) first end columns i }
+    ensures behind { i ≤ result }
+    ensures few { result ≤ 5 }
+{
+    for j in i..5 {
+        if !has_run(columns[j], first, end) {
+            return j;
+        }
     }
+    5
 }
 
 /// The rectangles of a face: at most 21, inside the cell, no two of which have a pixel in common,
@@ -107,7 +143,7 @@ pub fn rects_of(face: char, under: bool) -> Rects
     let mut rects = Rects::new();
     let columns = columns_of(face);
     for i in 0..5 {
-        rects.add_column(i as u8 + 1, columns[i], under);
+        rects.add_column(columns, i, under);
     }
     if under {
         rects.add(Patch {
