@@ -18,7 +18,7 @@ use Rattle.ecma_parser.specs.declared.machine.Machine.{Machine}
 use Rattle.ecma_parser.specs.declared.state.State.TheVariants.{Ground}
 use Rattle.ecma_parser.specs.Held.{held_bytes, GivesCharacters}
 use Rattle.ecma_parser.specs.Past.{HaveRead}
-use Rattle.ecma_parser.specs.Printable.{IsPrintable}
+use Rattle.gate_model.specs.terminal.Printing.{IsPrintable}
 use Rattle.ecma_parser.specs.State.{Stands, StandsFor, Gives}
 use Rattle.ecma_parser.proofs.HeldLaws.{read-ascii}
 use Rattle.ecma_parser.proofs.StateLaws.{ground-outside, gives-on}

@@ -5,4 +5,3 @@ pub mod Sequence
 pub mod State
 pub mod Past
 pub mod Parser
-pub mod Printable

@@ -3,7 +3,7 @@ ghost use Rattle.std.specs.List.{cons_option};
 ghost use Rattle.gate_model.specs.terminal.Characters.{characters};
 ghost use Rattle.gate_model.specs.terminal.Controls.{controls, HasFewParameters};
 ghost use Rattle.ecma_parser.specs.Past.{HaveRead};
-ghost use Rattle.ecma_parser.specs.Printable.{IsPrintable};
+ghost use Rattle.gate_model.specs.terminal.Printing.{IsPrintable};
 
 use crate::held::Held;
 use crate::machine::Machine;
@@ -87,6 +87,7 @@ impl Parser {
     pub fn text<'a>(&self, piece: &'a [u8]) -> &'a [u8]
         requires alone { held_bytes self.now.held ≡ [] }
         ensures front { (n : ℕ) × (n ≤ length piece.now) × (result.now ≡ take n piece.now) }
+        ensures printable { All IsPrintable result.now }
         ensures controls { (bytes : List ℕ) → HasRead self.now bytes → controls (characters (bytes ++ result.now)) ≡ controls (characters bytes) ++ map Print result.now }
         ensures state { (bytes : List ℕ) → HasRead self.now bytes → HasRead self.now (bytes ++ result.now) }
     {

@@ -1,6 +1,6 @@
 use Rattle.std.proofs.Common.{arith}
 use Rattle.std.proofs.lemmas.List.Elements.{All-more}
-use Rattle.ecma_parser.specs.Printable.{IsPrintable}
+use Rattle.gate_model.specs.terminal.Printing.{IsPrintable}
 use Rattle.ecma_parser.proofs.parser.text_length.Goals as goal
 
 pub loop-i-preserved : goal.loop-i-preserved

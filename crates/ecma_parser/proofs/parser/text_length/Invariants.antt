@@ -1,5 +1,5 @@
 use Rattle.std.proofs.Common.{All, take}
-use Rattle.ecma_parser.specs.Printable.{IsPrintable}
+use Rattle.gate_model.specs.terminal.Printing.{IsPrintable}
 use Rattle.ecma_parser.proofs.parser.text_length.Given as goal
 
 abbrev pub invariant-loop-i : goal.invariant-loop-i
