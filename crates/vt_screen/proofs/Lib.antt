@@ -4,5 +4,8 @@ pub mod Ranges
 pub mod Blanking
 pub mod KeyRows
 pub mod Sound
+pub mod Holding
 pub mod PrintedAgain
+pub mod PrintLaws
 pub mod RunLaws
+pub mod MendedActs

@@ -1,19 +1,28 @@
 -- A run of characters in the cursor's row is printed as one character after another is.
-use Rattle.std.proofs.Common.{◌≡◌, ℕ, suc, ◌+◌, ◌-◌, ◌*◌, get_or, ◌<◌, ◌≤◌, List, [], ◌∷◌, ◌++◌, length, map, take, drop, set, Bool, true, false, if◌then◌else◌, Some, refl, ap, sym, subst, ◌∙◌, arith, append_assoc, append-nil, add-one}
-use Rattle.std.proofs.lemmas.Bool.{cond-false, ne_eqb}
-use Rattle.std.proofs.lemmas.List.{take_more_set, drop-set-lt, take-append-drop, take_all, take_more, take_rest, length-set, length-take-le, map-append}
+use Rattle.std.proofs.Common.{◌⊎◌, inl, inr, ⊎_elim, ◌≡◌, ℕ, suc, ◌+◌, ◌-◌, get_or, ◌<◌, ◌≤◌, List, [], ◌∷◌, ◌++◌, length, map, take, drop, set, Bool, false, if◌then◌else◌, Some, refl, ap, sym, subst, ◌∙◌, arith, append_assoc, append-nil}
+use Rattle.std.specs.Prelude.{All}
+use Rattle.std.proofs.lemmas.Bool.{cases_lt, cond-false, ne_eqb}
+use Rattle.std.proofs.lemmas.List.Elements.{All-head, All-tail, All-take}
+use Rattle.std.proofs.lemmas.List.{take_more_set, drop-set-lt, take-append-drop, take_all, take_more, take_rest, length-take-le, map-append}
 use Rattle.std.proofs.Math.Seq.{take-add}
 use Rattle.gate_model.specs.declared.cell.Cell.{Cell}
 use Rattle.gate_model.specs.declared.control.Control.{Control}
 use Rattle.gate_model.specs.declared.control.Control.TheVariants.{Print}
-use Rattle.gate_model.specs.terminal.Cells.{CellGrid, place, put, with_part}
+use Rattle.gate_model.specs.declared.cell.Half.TheVariants.{Whole}
+use Rattle.gate_model.specs.terminal.Cells.{CellGrid, cell_at, mended, place, put, stands, with_part}
 use Rattle.gate_model.specs.terminal.CellLaws.{IsFull}
 use Rattle.gate_model.specs.terminal.Effects.{effect}
 use Rattle.gate_model.specs.terminal.Pens.{drawn_with}
-use Rattle.gate_model.specs.terminal.Printing.{opened_for, placed, wrapped}
+use Rattle.gate_model.specs.terminal.MendLaws.{AreMended, AreMendedBeside}
+use Rattle.gate_model.specs.terminal.Printing.{IsPrintable, opened_for, placed, wrapped}
 use Rattle.gate_model.specs.terminal.Screens.{after_controls}
 use Rattle.gate_model.specs.terminal.Terminal.{Terminal}
+use Rattle.gate_model.proofs.Mending.{all-are-mended, mended_full, mended-stay, put_beside, put_full, put_here}
+use Rattle.gate_model.proofs.MendedEdits.{windows-mend}
+use Rattle.gate_model.proofs.MendedPuts.{puts-mend}
+use Rattle.gate_model.proofs.Widths.{ascii-narrow}
 use Rattle.screen_grid.specs.Runs.{like, put_run}
+use Rattle.vt_screen.proofs.PrintLaws.{narrow_printed}
 use Rattle.vt_screen.proofs.Ranges.{row_room}
 
 -- ---- the cells
@@ -43,20 +52,81 @@ one_put g x y ch text pen below =
     ∙ ap (λ (cells : List Cell). record g { cells = cells }) (cells_put g.cells run (like pen ch) p n below
     ∙ ap (λ k. with_part p k (like pen ch ∷ run) g.cells) end)
 
+-- a run keeps a cell for each place
+run_full : (g : CellGrid) (x y : ℕ) (text : List ℕ) (pen : Cell) → IsFull g → y < g.rows → x + length text ≤ g.cols → IsFull (put_run x y text pen g)
+run_full g x y [] pen full row room = subst IsFull (sym (none_put g x y pen)) full
+run_full g x y (c ∷ cs) pen full row room =
+    let below : place x y g < length g.cells = omega (arith, row_room y g row, full, room) in
+    subst IsFull (one_put g x y c cs pen below) (run_full (put x y (like pen c) g) (x + 1) y cs pen (put_full g x y (like pen c) full) row (omega (arith, room)))
+
+-- the cells beside a run stay
+run_outside : (g : CellGrid) (x y : ℕ) (text : List ℕ) (pen : Cell) (column row : ℕ) → IsFull g → y < g.rows → x + length text ≤ g.cols → column < g.cols → row < g.rows
+    → (row ≡ y → x ≤ column → column < x + length text → ⊥) → cell_at column row (put_run x y text pen g) ≡ cell_at column row g
+run_outside g x y [] pen column row full ylt room clt rlt apart = ap (cell_at column row) (none_put g x y pen)
+run_outside g x y (c ∷ cs) pen column row full ylt room clt rlt apart =
+    let below : place x y g < length g.cells = omega (arith, row_room y g ylt, full, room) in
+    let h : CellGrid = put x y (like pen c) g in
+    ap (cell_at column row) (sym (one_put g x y c cs pen below))
+    ∙ (run_outside h (x + 1) y cs pen column row (put_full g x y (like pen c) full) ylt (omega (arith, room)) clt rlt (λ e low high. apart e (omega (arith, low)) (omega (arith, high)))
+    ∙ put_beside g x y (like pen c) column row full (omega (arith, room)) ylt clt rlt (λ e f. apart f (omega (arith, e)) (omega (arith, e))))
+
+-- and those of a run are as whole as its pen
+run_inside : (g : CellGrid) (x y : ℕ) (text : List ℕ) (pen : Cell) (column : ℕ) → IsFull g → y < g.rows → x + length text ≤ g.cols → x ≤ column → column < x + length text
+    → (cell_at column y (put_run x y text pen g)).half ≡ pen.half
+run_inside g x y [] pen column full ylt room low high = absurd (omega (arith, low, high))
+run_inside g x y (c ∷ cs) pen column full ylt room low high =
+    let below : place x y g < length g.cells = omega (arith, row_room y g ylt, full, room) in
+    let h : CellGrid = put x y (like pen c) g in
+    let full-h : IsFull h = put_full g x y (like pen c) full in
+    ap (λ (k : CellGrid). (cell_at column y k).half) (sym (one_put g x y c cs pen below))
+    ∙ ⊎_elim
+    (λ (more : x < column). run_inside h (x + 1) y cs pen column full-h ylt (omega (arith, room)) (omega (arith, more)) (omega (arith, high)))
+    (λ (le : column ≤ x).
+    let same : column ≡ x = omega (arith, le, low) in
+    ap (λ (k : Cell). k.half)
+    (run_outside h (x + 1) y cs pen column y full-h ylt (omega (arith, room)) (omega (arith, high, room)) ylt (λ e far near. omega (arith, same, far))
+    ∙ (ap (λ k. cell_at k y h) same ∙ put_here g x y (like pen c) full (omega (arith, room)) ylt)))
+    (cases_lt x column)
+
+-- a run may be put before or after all are mended
+run_mends : (g : CellGrid) (x y : ℕ) (text : List ℕ) (pen : Cell) → IsFull g → y < g.rows → x + length text ≤ g.cols → pen.half ≡ Whole
+    → mended (put_run x y text pen (mended g)) ≡ mended (put_run x y text pen g)
+run_mends g x y text pen full ylt room whole = alike (mended g) g x text refl refl (mended_full g) full ylt room (mended-stay (mended g) (mended_full g) (all-are-mended g full).1)
+  where
+    alike : (h k : CellGrid) (x : ℕ) (text : List ℕ) → h.cols ≡ k.cols → h.rows ≡ k.rows → IsFull h → IsFull k → y < k.rows → x + length text ≤ k.cols → mended h ≡ mended k
+        → mended (put_run x y text pen h) ≡ mended (put_run x y text pen k)
+    alike h k x [] cols rows fh fk row room same = ap mended (none_put h x y pen) ∙ (same ∙ sym (ap mended (none_put k x y pen)))
+    alike h k x (c ∷ cs) cols rows fh fk row room same =
+        let row-h : y < h.rows = omega (arith, row, rows) in
+        let in-k : x < k.cols = omega (arith, room) in
+        let in-h : x < h.cols = omega (arith, in-k, cols) in
+        let cell : Cell = like pen c in
+        let below-h : place x y h < length h.cells = omega (arith, row_room y h row-h, fh, in-h) in
+        let below-k : place x y k < length k.cells = omega (arith, row_room y k row, fk, in-k) in
+        let puts : mended (put x y cell h) ≡ mended (put x y cell k) =
+        sym (puts-mend h x y cell fh in-h row-h whole) ∙ (ap (λ (g : CellGrid). mended (put x y cell g)) same ∙ puts-mend k x y cell fk in-k row whole) in
+        ap mended (sym (one_put h x y c cs pen below-h))
+        ∙ (alike (put x y cell h) (put x y cell k) (x + 1) cs cols rows (put_full h x y cell fh) (put_full k x y cell fk) row (omega (arith, room)) puts
+        ∙ ap mended (one_put k x y c cs pen below-k))
+
 -- ---- the screen
 
--- where no wrap is pending and nothing is inserted, a character takes the cursor's cell
-printed_plain : (t : Terminal) (c : ℕ) → t.pending ≡ false → t.modes.insert ≡ false → after_controls t (Print c ∷ []) ≡ placed c t
-printed_plain t c pending insert =
+-- where no wrap is pending and nothing is inserted, a character of one column takes the cursor's cell, and then all are
+-- mended
+abbrev pub all_mended : Terminal → Terminal
+all_mended t = record t { grid = mended t.grid }
+
+effect_plain : (t : Terminal) (c : ℕ) → IsPrintable c → t.pending ≡ false → t.modes.insert ≡ false → effect (Print c) t ≡ all_mended (placed false c t)
+effect_plain t c printable pending insert =
     let no_wrap : wrapped t ≡ t = cond-false _ _ _ pending in
-    let no_insert : opened_for t ≡ t = cond-false _ _ _ insert in
-    ap (λ (s : Terminal). placed c (opened_for s)) no_wrap ∙ ap (placed c) no_insert
+    let no_insert : opened_for 1 t ≡ t = cond-false _ _ _ insert in
+    ap all_mended ((narrow_printed c t (ascii-narrow c printable)).state ∙ (ap (λ (s : Terminal). placed false c (opened_for 1 s)) no_wrap ∙ ap (placed false c) no_insert))
 
 -- and the cursor moves on, if it isn't at the end of its row
 abbrev pub stepped : ℕ → Terminal → Terminal
 stepped c t = record t { grid = put t.x t.y (drawn_with t.pen c) t.grid; last = Some c; x = t.x + 1; pending = false }
 
-placed_within : (t : Terminal) (c : ℕ) → t.x + 1 < t.grid.cols → placed c t ≡ stepped c t
+placed_within : (t : Terminal) (c : ℕ) → t.x + 1 < t.grid.cols → placed false c t ≡ stepped c t
 placed_within t c below =
     ap (λ (b : Bool). record t { grid = put t.x t.y (drawn_with t.pen c) t.grid; last = Some c; x = if b then t.x else t.x + 1; pending = if b then t.modes.wrap else false })
     (ne_eqb (t.x + 1) t.grid.cols (λ e. absurd (omega (arith, below, e))))
@@ -65,23 +135,76 @@ placed_within t c below =
 abbrev pub fronted : List ℕ → Terminal → Terminal
 fronted front t = record t { grid = put_run t.x t.y front (drawn_with t.pen 32) t.grid; x = t.x + length front }
 
-pub run_printed : (t : Terminal) (front : List ℕ) (c : ℕ) → t.pending ≡ false → t.modes.insert ≡ false → IsFull t.grid → t.y < t.grid.rows → t.x + length front < t.grid.cols
-    → after_controls t (map Print (front ++ c ∷ [])) ≡ placed c (fronted front t)
-run_printed t [] c pending insert full row room =
+-- a run that is put over mended cells, and its last character
+last_mends : (g : CellGrid) (x y : ℕ) (front : List ℕ) (pen last : Cell) → IsFull g → y < g.rows → x + length front < g.cols → pen.half ≡ Whole → last.half ≡ Whole
+    → mended (put (x + length front) y last (put_run x y front pen (mended g))) ≡ mended (put (x + length front) y last (put_run x y front pen g))
+last_mends g x y front pen last full ylt room whole is =
+    let at = x + length front in
+    let before : CellGrid = put_run x y front pen (mended g) in
+    let after : CellGrid = put_run x y front pen g in
+    let full-before = run_full (mended g) x y front pen (mended_full g) ylt (omega (arith, room)) in
+    let full-after = run_full g x y front pen full ylt (omega (arith, room)) in
+    sym (puts-mend before at y last full-before room ylt is)
+    ∙ (ap (λ (k : CellGrid). mended (put at y last k)) (run_mends g x y front pen full ylt (omega (arith, room)) whole)
+    ∙ puts-mend after at y last full-after room ylt is)
+
+pub run_printed : (t : Terminal) (front : List ℕ) (c : ℕ) → All IsPrintable front → IsPrintable c → t.pending ≡ false → t.modes.insert ≡ false → IsFull t.grid → t.y < t.grid.rows → t.x + length front < t.grid.cols
+    → after_controls t (map Print (front ++ c ∷ [])) ≡ all_mended (placed false c (fronted front t))
+run_printed t [] c all printable pending insert full row room =
     let same : t.x ≡ t.x + 0 = omega arith in
-    printed_plain t c pending insert
-    ∙ ap (λ (g : CellGrid). placed c (record t { grid = g })) (sym (none_put t.grid t.x t.y (drawn_with t.pen 32)))
-    ∙ ap (λ x. placed c (record t { grid = put_run t.x t.y [] (drawn_with t.pen 32) t.grid; x = x })) same
-run_printed t (d ∷ front) c pending insert full row room =
-    let next = stepped d t in
+    effect_plain t c printable pending insert
+    ∙ ap (λ (g : CellGrid). all_mended (placed false c (record t { grid = g }))) (sym (none_put t.grid t.x t.y (drawn_with t.pen 32)))
+    ∙ ap (λ x. all_mended (placed false c (record t { grid = put_run t.x t.y [] (drawn_with t.pen 32) t.grid; x = x }))) same
+run_printed t (d ∷ front) c all printable pending insert full row room =
+    let first : IsPrintable d = All-head IsPrintable d front all in
+    let h : CellGrid = put t.x t.y (drawn_with t.pen d) t.grid in
+    let next = all_mended (stepped d t) in
     let pen : Cell = drawn_with t.pen 32 in
     let moved : t.x + 1 + length front ≡ t.x + suc (length front) = omega arith in
-    let full-next : IsFull next.grid = length-set t.grid.cells (place t.x t.y t.grid) (drawn_with t.pen d) ∙ full in
+    let full-h : IsFull h = put_full t.grid t.x t.y (drawn_with t.pen d) full in
     let below : place t.x t.y t.grid < length t.grid.cells = omega (arith, row_room t.y t.grid row, full, room) in
-    ap (λ (s : Terminal). after_controls s (map Print (front ++ c ∷ []))) (printed_plain t d pending insert ∙ placed_within t d (omega (arith, room)))
-    ∙ run_printed next front c refl insert full-next row (omega (arith, room))
-    ∙ ap (λ (g : CellGrid). placed c (record t { grid = g; x = t.x + 1 + length front })) (one_put t.grid t.x t.y d front pen below)
-    ∙ ap (λ x. placed c (record t { grid = put_run t.x t.y (d ∷ front) pen t.grid; x = x })) moved
+    let at = t.x + 1 + length front in
+    ap (λ (s : Terminal). after_controls s (map Print (front ++ c ∷ []))) (effect_plain t d first pending insert ∙ ap all_mended (placed_within t d (omega (arith, room))))
+    ∙ run_printed next front c (All-tail IsPrintable d front all) printable refl insert (mended_full h) row (omega (arith, room))
+    ∙ ap (λ (g : CellGrid). record (placed false c (record t { x = at })) { grid = g }) (last_mends h (t.x + 1) t.y front pen (drawn_with t.pen c) full-h row (omega (arith, room)) refl refl)
+    ∙ ap (λ (g : CellGrid). all_mended (placed false c (record t { grid = g; x = at }))) (one_put t.grid t.x t.y d front pen below)
+    ∙ ap (λ x. all_mended (placed false c (record t { grid = put_run t.x t.y (d ∷ front) pen t.grid; x = x }))) moved
+
+-- what it leaves to mend is beside it
+pub run_beside : (t : Terminal) (front : List ℕ) (c : ℕ) → IsFull t.grid → AreMended t.grid → t.y < t.grid.rows → t.x + length front < t.grid.cols
+    → AreMendedBeside t.y t.x (t.x + length front + 1) (placed false c (fronted front t)).grid
+run_beside t front c full are row room =
+    windows-mend t.grid after t.y t.x (at + 1) are record {
+      cols = refl;
+      rows = refl;
+      inside = λ column low high. ap (stands t.grid.cols column (cell_at (column - 1) t.y after) (cell_at column t.y after).ch (cell_at (column + 1) t.y after)) (whole column low high (cases_lt column at));
+      outside = λ column line clt rlt apart.
+          put_beside run at t.y (drawn_with t.pen c) column line full-run room row clt rlt (λ e f. apart f (omega (arith, e)) (omega (arith, e)))
+          ∙ run_outside t.grid t.x t.y front pen column line full row (omega (arith, room)) clt rlt (λ e low high. apart e low (omega (arith, high)));
+    }
+  where
+    at : ℕ
+    at = t.x + length front
+
+    pen : Cell
+    pen = drawn_with t.pen 32
+
+    run : CellGrid
+    run = put_run t.x t.y front pen t.grid
+
+    after : CellGrid
+    after = put at t.y (drawn_with t.pen c) run
+
+    full-run : IsFull run
+    full-run = run_full t.grid t.x t.y front pen full row (omega (arith, room))
+
+    whole : (column : ℕ) → t.x ≤ column → column < at + 1 → (column < at) ⊎ (at ≤ column) → (cell_at column t.y after).half ≡ Whole
+    whole column low high (inl before) =
+        ap (λ (k : Cell). k.half) (put_beside run at t.y (drawn_with t.pen c) column t.y full-run room row (omega (arith, before, room)) row (λ e f. omega (arith, e, before)))
+        ∙ run_inside t.grid t.x t.y front pen column full row (omega (arith, room)) low before
+    whole column low high (inr behind) =
+        let same : column ≡ at = omega (arith, high, behind) in
+        ap (λ k. (cell_at k t.y after).half) same ∙ ap (λ (k : Cell). k.half) (put_here run at t.y (drawn_with t.pen c) full-run room row)
 
 -- ---- one run after another
 
@@ -105,14 +228,38 @@ run_split text some =
     let all : length text - 1 + 1 ≡ length text = omega (arith, some) in
     sym (take_more text (length text - 1) 0 last) ∙ ap (λ k. take k text) all ∙ take_all (length text) text (omega arith)
 
-pub run_placed : (t between new : Terminal) (text : List ℕ) (c : ℕ) → 1 ≤ length text → t.x + length text ≤ t.grid.cols → t.pending ≡ false → t.modes.insert ≡ false
-    → IsFull t.grid → t.y < t.grid.rows → c ≡ get_or text (length text - 1) 0 → between ≡ fronted (take (length text - 1) text) t → new ≡ placed c between
-    → new ≡ after_controls t (map Print text)
-run_placed t between new text c some room pending insert full row is front last =
-    let text-front = take (length text - 1) text in
-    let size : length text-front ≡ length text - 1 = length-take-le (length text - 1) text (omega arith) in
-    last
-    ∙ ap (placed c) front
-    ∙ sym (run_printed t text-front c pending insert full row (omega (arith, some, room, size)))
-    ∙ ap (λ k. after_controls t (map Print (text-front ++ k ∷ []))) is
+-- a run's front, its last character, and what is mended after them
+pub record IsRun (t fronts places : Terminal) (text : List ℕ) : Type 0 where
+  pub front : fronts ≡ fronted (take (length text - 1) text) t
+  pub last : places ≡ placed false (get_or text (length text - 1) 0) fronts
+
+front_size : (text : List ℕ) → 1 ≤ length text → length (take (length text - 1) text) ≡ length text - 1
+front_size text some = length-take-le (length text - 1) text (omega arith)
+
+pub run_placed : (t fronts places new : Terminal) (text : List ℕ) → 1 ≤ length text → All IsPrintable text → t.x + length text ≤ t.grid.cols → t.pending ≡ false → t.modes.insert ≡ false
+    → IsFull t.grid → t.y < t.grid.rows → IsRun t fronts places text → new ≡ all_mended places → new ≡ after_controls t (map Print text)
+run_placed t fronts places new text some all room pending insert full row r mends =
+    let front = take (length text - 1) text in
+    let c = get_or text (length text - 1) 0 in
+    let size = front_size text some in
+    mends
+    ∙ ap all_mended (r.last ∙ ap (placed false c) r.front)
+    ∙ sym (run_printed t front c (All-take IsPrintable (length text - 1) text all) (all (length text - 1) 0 (omega (arith, some))) pending insert full row (omega (arith, some, room, size)))
     ∙ ap (λ xs. after_controls t (map Print xs)) (run_split text some)
+
+pub run_left : (t fronts places : Terminal) (text : List ℕ) → 1 ≤ length text → t.x + length text ≤ t.grid.cols → IsFull t.grid → AreMended t.grid → t.y < t.grid.rows → IsRun t fronts places text
+    → AreMendedBeside places.y t.x (t.x + length text) places.grid
+run_left t fronts places text some room full are row r =
+    let front = take (length text - 1) text in
+    let c = get_or text (length text - 1) 0 in
+    let size = front_size text some in
+    let is : places ≡ placed false c (fronted front t) = r.last ∙ ap (placed false c) r.front in
+    let end : t.x + length front + 1 ≡ t.x + length text = omega (arith, some, size) in
+    subst (λ (p : Terminal). AreMendedBeside p.y t.x (t.x + length text) p.grid) (sym is)
+    (subst (λ k. AreMendedBeside t.y t.x k (placed false c (fronted front t)).grid) end (run_beside t front c full are row (omega (arith, some, room, size))))
+
+pub run_column : (t fronts places : Terminal) (text : List ℕ) → t.x < t.grid.cols → IsRun t fronts places text → t.x ≤ places.grid.cols
+run_column t fronts places text lt r =
+    let is : places ≡ placed false (get_or text (length text - 1) 0) (fronted (take (length text - 1) text) t) = r.last ∙ ap (placed false (get_or text (length text - 1) 0)) r.front in
+    let cols : places.grid.cols ≡ t.grid.cols = ap (λ (p : Terminal). p.grid.cols) is in
+    omega (arith, lt, cols)

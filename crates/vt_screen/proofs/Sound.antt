@@ -1,5 +1,5 @@
 -- What holds of a screen at its start, and of one that got another size.
-use Rattle.std.proofs.Common.{◌≡◌, ℕ, ◌-◌, ◌*◌, ◌≤◌, List, Bool, take, drop, ap, sym, ◌∙◌, length, Option, None, Some, arith, length-append, length-take, length-drop}
+use Rattle.std.proofs.Common.{◌≡◌, ℕ, ◌-◌, ◌*◌, List, Bool, take, drop, ap, sym, ◌∙◌, length, Option, None, Some, arith, length-append, length-take, length-drop}
 use Rattle.std.specs.Prelude.{IfSome, min, ◌/◌, ◌%◌}
 use Rattle.std.specs.Option.{option_map}
 use Rattle.std.proofs.lemmas.List.{length-replicate}
@@ -10,7 +10,7 @@ use Rattle.gate_model.specs.terminal.Resizing.{saved_within}
 use Rattle.gate_model.specs.terminal.TabStops.{stops_resized}
 use Rattle.gate_model.specs.terminal.Terminal.{IsPlaceOf, Saved, first_stops, is_first_stop}
 use Rattle.vt_screen.specs.Soundness.{IsSound}
-use Rattle.vt_screen.specs.declared.screen.Screen.TheInside.{Inside}
+use Rattle.vt_screen.specs.declared.state.State.TheInside.{Inside}
 
 pub opened : (s : Inside) (c r : ℕ) → IsScreenSize c r → s.columns ≡ c → s.rows ≡ r → s.grid ≡ blank_grid c r → s.stops ≡ first_stops c → s.x ≡ 0 → s.y ≡ 0 → s.top ≡ 0 → s.bottom ≡ r - 1 → s.saved ≡ None → IsSound s
 opened s c r size columns rows grid stops x y top bottom saved =

@@ -3,11 +3,11 @@ use Rattle.std.specs.Prelude.{◌≡◌, ◌<◌, ◌≤◌, length, IfSome}
 use Rattle.gate_model.specs.terminal.CellLaws.{IsFull}
 use Rattle.gate_model.specs.session.Steps.{IsScreenSize}
 use Rattle.gate_model.specs.terminal.Terminal.{IsPlaceOf, Terminal}
-use Rattle.vt_screen.specs.declared.screen.Screen.TheInside.{Inside}
+use Rattle.vt_screen.specs.declared.state.State.TheInside.{Inside}
 
 -- the state
-abbrev pub state : Inside → Terminal
-state s = record {
+abbrev pub state_of : Inside → Terminal
+state_of s = record {
   grid = s.grid;
   x = s.x;
   y = s.y;
@@ -34,3 +34,11 @@ pub record IsSound (s : Inside) : Type 0 where
   pub margins : s.bottom < s.grid.rows
   pub stops : length s.stops ≡ s.grid.cols
   pub saved : IfSome s.saved (λ p. IsPlaceOf s.grid p.x p.y)
+
+-- what of it is known of a state that is held
+pub record IsFit (t : Terminal) : Type 0 where
+  pub size : IsScreenSize t.grid.cols t.grid.rows
+  pub full : IsFull t.grid
+  pub cursor : IsPlaceOf t.grid t.x t.y
+  pub order : t.top ≤ t.bottom
+  pub margins : t.bottom < t.grid.rows

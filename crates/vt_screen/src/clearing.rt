@@ -4,12 +4,12 @@
 ghost use Rattle.std.specs.Prelude.{◌≡◌, ◌≤◌};
 ghost use Rattle.gate_model.specs.terminal.Effects.{always_clears, clears_wrap, sequence_clears};
 
-use crate::Screen;
 use crate::arguments::{first_choice, listed};
 use crate::modes::names_mode;
+use crate::state::State;
 use gate_model::Params;
 
-impl Screen {
+impl State {
     ghost use Rattle.gate_model.specs.declared.control.Control.TheVariants.{Csi};
 
     // Whether the control sequence clears a pending wrap, by the state before it.

@@ -3,12 +3,12 @@
 ghost use Rattle.std.specs.Prelude.{◌≡◌};
 ghost use Rattle.gate_model.specs.terminal.Cursor.{moved_back, moved_down, moved_on, moved_up, restored_cursor, returned, saved_cursor, tabbed_back, tabbed_on, to_column, to_place, to_row};
 
-use crate::Screen;
 use crate::arguments::{amount, parameter};
 use crate::saved::Saved;
+use crate::state::State;
 use gate_model::Params;
 
-impl Screen {
+impl State {
     // CR, and what CNL and CPL do last.
     pub(crate) fn return_cursor(&mut self)
         ensures { self.new ≡ returned self.old }

@@ -3,9 +3,9 @@
 ghost use Rattle.std.specs.Prelude.{◌≡◌, ◌+◌};
 ghost use Rattle.gate_model.specs.terminal.Editing.{blanked, characters_deleted, characters_erased, characters_inserted, cursor_place, display_erased, line_erased, place_count};
 
-use crate::Screen;
+use crate::state::State;
 
-impl Screen {
+impl State {
     // ED: from the cursor's cell to the end, from the start through it, or all.
     pub(crate) fn erase_display(&mut self, which: u16)
         ensures { self.new ≡ display_erased which self.old }

@@ -1,82 +1,77 @@
-//! Characters that are printed.
+//! Characters that are printed, and what they leave to mend.
 
-ghost use Rattle.std.specs.Prelude.{◌≡◌, ◌<◌, ◌≤◌, ◌+◌, false, length, map, take};
+ghost use Rattle.std.specs.Prelude.{◌≡◌, ◌<◌, ◌≤◌, ◌+◌, false, true, length};
 ghost use Rattle.gate_model.specs.terminal.CellLaws.{IsFull};
 ghost use Rattle.gate_model.specs.terminal.Pens.{drawn_with};
-ghost use Rattle.gate_model.specs.terminal.Printing.{opened_for, placed, printed, repeated, wrapped};
-ghost use Rattle.gate_model.specs.terminal.Screens.{after_controls};
+ghost use Rattle.gate_model.specs.terminal.Printing.{given_room, opened_for, placed, printed, printed_as, repeated, width_of, wrapped};
 ghost use Rattle.screen_grid.specs.Runs.{put_run};
+ghost use Rattle.vt_screen.specs.Printed.{printed_at, span};
 
-use crate::Screen;
+use crate::state::State;
+use gate_model::{Cell, Half};
+use unicode_width::UnicodeWidthChar;
 
-impl Screen {
-    ghost use Rattle.gate_model.specs.declared.control.Control.TheVariants.{Print};
-
-    /// Prints the bytes one after another, each as the character of its number (U+0000 to U+00FF): the same
-    /// as `apply` with a `Print` for each (this project's own rule).
-    pub fn print_run(&mut self, text: &[u8])
-        ensures { self.new ≡ after_controls self.old (map Print text.now) }
-    {
-        let mut at = 0;
-        while at < text.len() {
-            at += self.print_some(&text[at..]);
-        }
-    }
-
-    // Prints some first bytes, and answers how many: one where a wrap is pending or cells move for it, and
-    // else what the cursor's row has room for.
-    fn print_some(&mut self, text: &[u8]) -> usize
-        requires some { 1 ≤ length text.now }
-        ensures progress { 1 ≤ result }
-        ensures within { result ≤ length text.now }
-        ensures state { self.new ≡ after_controls self.old (map Print (take result text.now)) }
-    {
-        if self.pending || self.modes.insert {
-            self.print(char::from(text[0]));
-            return 1;
-        }
-        let room = (self.columns - self.x) as usize;
-        let count = room.min(text.len());
-        self.place_run(&text[..count]);
-        count
-    }
-
-    // The characters take the cells from the cursor's on. There is room for them in its row.
-    fn place_run(&mut self, text: &[u8])
-        requires some { 1 ≤ length text.now }
-        requires room { self.old.x + length text.now ≤ self.old.grid.cols }
-        requires pending { self.old.pending ≡ false }
-        requires insert { self.old.modes.insert ≡ false }
-        ensures { self.new ≡ after_controls self.old (map Print text.now) }
-    {
-        let last = text.len() - 1;
-        self.place_front(&text[..last]);
-        self.place(char::from(text[last]));
-    }
-
+impl State {
     // The characters take the cells from the cursor's on, and the cursor moves behind them.
-    fn place_front(&mut self, text: &[u8])
+    pub(crate) fn place_front(&mut self, text: &[u8])
         requires room { self.old.x + length text.now < self.old.grid.cols }
-        ensures full { IsFull self.old.grid }
-        ensures row { self.old.y < self.old.grid.rows }
         ensures state { self.new ≡ record self.old { grid = put_run self.old.x self.old.y text.now (drawn_with self.old.pen 32) self.old.grid; x = self.old.x + length text.now } }
     {
         self.grid.put_run(self.x, self.y, text, self.pen.draw(' '));
         self.x += text.len() as u16;
     }
 
-    /// Prints a character: the same as `apply` with a `Print`.
-    pub fn print(&mut self, ch: char)
-        ensures { self.new ≡ printed ch self.old }
+    // The cursor's column.
+    pub(crate) fn column(&self) -> u16
+        ensures { result ≡ self.now.x }
+    {
+        self.x
+    }
+
+    // Prints a character, and answers the columns of its cells: the first, and the one behind the last. One that takes no
+    // column has no effect.
+    pub(crate) fn print(&mut self, ch: char) -> Option<(u16, u16)>
+        ensures state { self.new ≡ printed ch self.old }
+        ensures columns { result ≡ printed_at ch self.old }
+    {
+        match width(ch) {
+            0 => None,
+            1 => Some(self.print_narrow(ch)),
+            _ if self.columns == 1 => Some(self.print_narrow(char::REPLACEMENT_CHARACTER)),
+            _ => Some(self.print_wide(ch)),
+        }
+    }
+
+    // Prints a character of one column.
+    fn print_narrow(&mut self, ch: char) -> (u16, u16)
+        ensures state { self.new ≡ printed_as false ch self.old }
+        ensures columns { result ≡ span false self.old }
     {
         self.wrap();
-        self.open();
+        self.open(1);
+        let x = self.x;
         self.place(ch);
+        (x, x + 1)
+    }
+
+    // Prints a character of two columns.
+    fn print_wide(&mut self, ch: char) -> (u16, u16)
+        requires { 2 ≤ self.old.grid.cols }
+        ensures state { self.new ≡ printed_as true ch self.old }
+        ensures columns { result ≡ span true self.old }
+    {
+        self.wrap();
+        self.give_room();
+        self.open(2);
+        let x = self.x;
+        self.place_wide(ch);
+        (x, x + 2)
     }
 
     // A wrap that is pending is made.
     fn wrap(&mut self)
-        ensures { self.new ≡ wrapped self.old }
+        ensures state { self.new ≡ wrapped self.old }
+        ensures columns { self.new.grid.cols ≡ self.old.grid.cols }
     {
         if self.pending {
             self.return_cursor();
@@ -84,20 +79,71 @@ impl Screen {
         }
     }
 
-    // In insert mode a cell comes free at the cursor.
-    fn open(&mut self)
-        ensures { self.new ≡ opened_for self.old }
+    // Where a wide character has no room in its line, the cursor goes to the next one, or a column back.
+    fn give_room(&mut self)
+        requires { 2 ≤ self.old.grid.cols }
+        ensures state { self.new ≡ given_room true self.old }
+        ensures room { self.new.x + 1 < self.new.grid.cols }
     {
-        if self.modes.insert {
-            self.insert_characters(1);
+        if self.x + 1 < self.columns {
+            return;
+        }
+        if self.modes.wrap {
+            self.return_cursor();
+            self.feed_line();
+        } else {
+            self.x -= 1;
         }
     }
 
+    // In insert mode so many cells come free at the cursor.
+    fn open(&mut self, n: u16)
+        ensures state { self.new ≡ opened_for n self.old }
+        ensures column { self.new.x ≡ self.old.x }
+        ensures columns { self.new.grid.cols ≡ self.old.grid.cols }
+    {
+        if self.inserts() {
+            self.insert_characters(n);
+        }
+    }
+
+    // Whether cells come free for each character.
+    pub(crate) fn inserts(&self) -> bool
+        ensures { result ≡ self.now.modes.insert }
+    {
+        self.modes.insert
+    }
+
     // The character takes the cursor's cell, and the cursor moves on or a wrap is pending.
-    fn place(&mut self, ch: char)
-        ensures { self.new ≡ placed ch self.old }
+    pub(crate) fn place(&mut self, ch: char)
+        ensures { self.new ≡ placed false ch self.old }
     {
         self.grid.put(self.x, self.y, self.pen.draw(ch));
+        self.last = Some(ch);
+        let at_end = self.x + 1 == self.columns;
+        self.pending = at_end && self.modes.wrap;
+        if !at_end {
+            self.x += 1;
+        }
+    }
+
+    // The halves of the character take the cursor's cell and the next, and the cursor moves on or a wrap is pending.
+    fn place_wide(&mut self, ch: char)
+        requires { self.old.x + 1 < self.old.grid.cols }
+        ensures { self.new ≡ placed true ch self.old }
+    {
+        let cell = self.pen.draw(ch);
+        let left = Cell {
+            half: Half::Left,
+            ..cell
+        };
+        let right = Cell {
+            half: Half::Right,
+            ..cell
+        };
+        self.grid.put(self.x, self.y, left);
+        self.x += 1;
+        self.grid.put(self.x, self.y, right);
         self.last = Some(ch);
         let at_end = self.x + 1 == self.columns;
         self.pending = at_end && self.modes.wrap;
@@ -116,4 +162,12 @@ impl Screen {
             self.print(ch);
         }
     }
+}
+
+// The columns that a character takes; none counts as 0.
+#[tactic(auto, unfolding(gate_model::specs::terminal::Printing::width_of))]
+fn width(ch: char) -> usize
+    ensures { result ≡ width_of ch }
+{
+    ch.width().unwrap_or(0)
 }

@@ -3,14 +3,15 @@
 ghost use Rattle.std.specs.Prelude.{◌≡◌};
 ghost use Rattle.gate_model.specs.terminal.Reports.{device_report, position_report, report, sequence_report};
 
+use crate::Reply;
 use crate::arguments::first_choice;
-use crate::{Reply, Screen};
+use crate::state::State;
 use gate_model::Params;
 
 // DA: a VT102.
 const DEVICE: &[u8] = b"\x1b[?6c";
 
-impl Screen {
+impl State {
     ghost use Rattle.gate_model.specs.declared.control.Control.TheVariants.{Csi};
 
     // The report of a control sequence, or none.

@@ -1,50 +1,30 @@
 ghost use Rattle.std.specs.Prelude.{◌≡◌, ◌-◌, ◌^◌, min, IfOk, OnErr, OnOk};
-ghost use Rattle.gate_model.specs.terminal.Effects.{reset};
 ghost use Rattle.gate_model.specs.session.Steps.{IsScreenSize};
-ghost use Rattle.std.specs.Option.{option_map};
-ghost use Rattle.gate_model.specs.terminal.Resizing.{resized, saved_within};
+ghost use Rattle.gate_model.specs.terminal.Resizing.{resized};
+ghost use Rattle.gate_model.specs.terminal.Screens.{shown};
 ghost use Rattle.gate_model.specs.terminal.Terminal.{opening_screen};
 
-use crate::modes::Modes;
-use crate::pen::Pen;
-use crate::saved::Saved;
-use crate::scrolled::Scrolled;
-use gate_model::NoMemory;
-use screen_grid::Grid;
+use crate::state::State;
+use gate_model::{NoMemory, Shown};
 use std::alloc::Global;
 use std::marker::Model;
-use tab_stops::TabStops;
 
-/// The screen of a terminal, which contracts see as the state `Terminal`: its cells, its cursor, its
-/// margins, its tab stops, its pen and its modes.
+/// The screen of a terminal, which contracts see as the state `Terminal`: its cells, its cursor, its margins, its tab
+/// stops, its pen and its modes. No half of a character that takes two places stands without its other half.
 #[derive(Drop)]
 pub struct Screen {
-    pub(crate) columns: u16,
-    pub(crate) rows: u16,
-    pub(crate) grid: Grid,
-    pub(crate) x: u16,
-    pub(crate) y: u16,
-    pub(crate) pending: bool,
-    pub(crate) top: u16,
-    pub(crate) bottom: u16,
-    pub(crate) stops: TabStops,
-    pub(crate) pen: Pen,
-    pub(crate) saved: Option<Saved>,
-    pub(crate) last: Option<char>,
-    pub(crate) modes: Modes,
-    pub(crate) shift: Scrolled,
+    pub(crate) state: State,
 }
 
 impl Model for Screen {
+    ghost use Rattle.gate_model.specs.terminal.MendLaws.{AreMended};
     ghost use Rattle.gate_model.specs.terminal.Terminal.{Terminal};
 
     ghost Value = { Terminal };
 
-    ghost use Rattle.vt_screen.specs.Soundness.{state, IsSound};
+    ghost view = { λ s. s.state };
 
-    ghost view = { state };
-
-    ghost invariant = { IsSound };
+    ghost invariant = { λ s. AreMended s.state.grid };
 }
 
 impl Screen {
@@ -54,82 +34,38 @@ impl Screen {
         requires { IsScreenSize cols rows }
         ensures { IfOk result (λ s. s ≡ opening_screen cols rows) }
     {
-        let grid = Grid::new(alloc, cols, rows)?;
-        let stops = TabStops::new(alloc, cols)?;
-        Ok(Screen {
-            columns: cols,
-            rows,
-            grid,
-            x: 0,
-            y: 0,
-            pending: false,
-            top: 0,
-            bottom: rows - 1,
-            stops,
-            pen: Pen::plain(),
-            saved: None,
-            last: None,
-            modes: Modes::first(),
-            shift: Scrolled::none(),
-        })
+        let state = State::new(alloc, cols, rows)?;
+        Ok(Screen { state })
     }
 
     /// A screen in the same state. Refused for want of memory alone.
     pub fn copy(&self, alloc: Global) -> Result<Screen, NoMemory>
         ensures { IfOk result (λ s. s ≡ self.now) }
     {
-        let grid = self.grid.copy(alloc)?;
-        let stops = self.stops.copy(alloc)?;
-        Ok(Screen {
-            columns: self.columns,
-            rows: self.rows,
-            grid,
-            x: self.x,
-            y: self.y,
-            pending: self.pending,
-            top: self.top,
-            bottom: self.bottom,
-            stops,
-            pen: self.pen,
-            saved: self.saved,
-            last: self.last,
-            modes: self.modes,
-            shift: self.shift.copy(),
-        })
+        let state = self.state.copy(alloc)?;
+        Ok(Screen { state })
     }
 
     /// Gives the screen another size, of 1 to 512 columns and 1 to 256 rows: the cells that both sizes have stay, and the
-    /// cursor comes to the last column and row where it was beyond. Refused for want of memory alone, and then nothing
-    /// changed (this project's own rule).
+    /// cursor comes to the last column and row where it was beyond. A half of a character whose other half was cut off
+    /// becomes a space. Refused for want of memory alone, and then nothing changed (this project's own rule).
     pub fn resize(&mut self, alloc: Global, cols: u16, rows: u16) -> Result<(), NoMemory>
         requires { IsScreenSize cols rows }
         ensures state { OnOk result (self.new ≡ resized cols rows self.old) }
         ensures unchanged { OnErr result (self.new ≡ self.old) }
     {
-        let saved = self.saved_within(cols, rows);
-        let stops = self.stops.resized(alloc, cols)?;
-        self.grid.resize(alloc, cols, rows)?;
-        self.columns = cols;
-        self.rows = rows;
-        self.x = self.x.min(cols - 1);
-        self.y = self.y.min(rows - 1);
-        self.pending = false;
-        self.top = 0;
-        self.bottom = rows - 1;
-        self.stops = stops;
-        self.saved = saved;
+        self.state.refit(alloc, cols, rows)?;
+        self.state.fits();
+        self.state.mend();
         Ok(())
     }
 
-    // What was saved, on a screen of another size.
-    fn saved_within(&self, cols: u16, rows: u16) -> Option<Saved>
-        requires { IsScreenSize cols rows }
-        ensures { result ≡ option_map (saved_within cols rows) self.now.saved }
+    /// What the screen shows: the key of each place, with ink and paper exchanged at a visible cursor.
+    /// Refused for want of memory alone.
+    pub fn shown(&self, alloc: Global) -> Result<Shown, NoMemory>
+        ensures { IfOk result (λ s. s ≡ shown self.now) }
     {
-        match self.saved {
-            Some(saved) => Some(saved.within(cols, rows)),
-            None => None,
-        }
+        self.state.shown(alloc)
     }
 
     /// The lesser of 2^32 - 1 and the number of lines that the whole screen has scrolled up since
@@ -137,20 +73,20 @@ impl Screen {
     pub fn shift(&self) -> u32
         ensures { result ≡ min self.now.shift (2 ^ 32 - 1) }
     {
-        self.shift.counted()
+        self.state.shift()
     }
 
     /// Counts the lines from none again.
     pub fn clear_shift(&mut self)
         ensures { self.new ≡ record self.old { shift = 0 } }
     {
-        self.shift = Scrolled::none();
+        self.state.clear_shift();
     }
 
     /// Whether the arrow keys send what they do in cursor mode (DECCKM).
     pub fn cursor_mode(&self) -> bool
         ensures { result ≡ self.now.modes.cursor_keys }
     {
-        self.modes.cursor_keys
+        self.state.modes.cursor_keys
     }
 }

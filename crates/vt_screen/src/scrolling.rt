@@ -3,11 +3,11 @@
 ghost use Rattle.std.specs.Prelude.{◌≡◌};
 ghost use Rattle.gate_model.specs.terminal.Scrolling.{are_margins, is_whole, is_within, line_feed, lines_deleted, lines_inserted, named_bottom, reverse_line_feed, scrolled_down, scrolled_up, with_margins};
 
-use crate::Screen;
 use crate::arguments::{DEFAULT, first_amount, parameter};
+use crate::state::State;
 use gate_model::Params;
 
-impl Screen {
+impl State {
     // The margins are the first and the last row.
     fn is_whole(&self) -> bool
         ensures { result ≡ is_whole self.now }

@@ -2,16 +2,20 @@
 
 ghost use Rattle.std.specs.Prelude.{◌≡◌, ◌+◌, ◌*◌, ◌<◌, ◌++◌, IfOk, map, length};
 ghost use Rattle.gate_model.specs.terminal.Cells.{rest_of_row};
-ghost use Rattle.gate_model.specs.terminal.Screens.{exchanged, face_of, key_of, shown};
+ghost use Rattle.gate_model.specs.terminal.Screens.{exchanged, face_of, key_of, shown, whole_face};
 
-use crate::Screen;
-use gate_model::{Cell, Key, NoMemory, Shown};
+use crate::state::State;
+use gate_model::{Cell, Half, Key, NoMemory, Shown};
 use std::alloc::Global;
 
-impl Screen {
-    /// What the screen shows: the key of each place, with ink and paper exchanged at a visible cursor.
-    /// Refused for want of memory alone.
-    pub fn shown(&self, alloc: Global) -> Result<Shown, NoMemory>
+// The faces of the halves of a character that takes two places.
+const LEFT_FACE: char = '\u{e000}';
+
+const RIGHT_FACE: char = '\u{e001}';
+
+impl State {
+    // The key of each place, with ink and paper exchanged at a visible cursor. Refused for want of memory alone.
+    pub(crate) fn shown(&self, alloc: Global) -> Result<Shown, NoMemory>
         ensures { IfOk result (λ s. s ≡ shown self.now) }
     {
         let mut keys = self.keys(alloc)?;
@@ -50,15 +54,32 @@ impl Screen {
 fn key_of(cell: Cell) -> Key
     ensures { result ≡ key_of cell }
 {
-    let face = match cell.ch {
-        ' '..='~' => cell.ch,
-        _ => char::REPLACEMENT_CHARACTER,
-    };
     Key {
-        face,
+        face: face_of(cell.half, cell.ch),
         under: cell.under,
         ink: cell.ink,
         paper: cell.paper,
+    }
+}
+
+// The face of a cell: the halves of a character have their own.
+fn face_of(half: Half, ch: char) -> char
+    ensures { result ≡ face_of half ch }
+{
+    match half {
+        Half::Whole => whole_face(ch),
+        Half::Left => LEFT_FACE,
+        Half::Right => RIGHT_FACE,
+    }
+}
+
+// The face of a character of one place: itself where the font has it.
+fn whole_face(ch: char) -> char
+    ensures { result ≡ whole_face ch }
+{
+    match ch {
+        ' '..='~' => ch,
+        _ => char::REPLACEMENT_CHARACTER,
     }
 }
 

@@ -2,42 +2,20 @@
 //! effect.
 
 ghost use Rattle.std.specs.Prelude.{◌≡◌, ◌≤◌};
-ghost use Rattle.gate_model.specs.terminal.Controls.{HasFewParameters};
-ghost use Rattle.gate_model.specs.terminal.Effects.{code_effect, cursor_effect, editing_effect, effect, escape_effect, private_effect, reset, sequence_effect};
-ghost use Rattle.gate_model.specs.terminal.Reports.{report};
+ghost use Rattle.gate_model.specs.terminal.Effects.{acted, code_effect, cursor_effect, editing_effect, escape_effect, private_effect, reset, sequence_effect};
 
 use crate::arguments::{first_amount, first_choice, listed};
 use crate::modes::Modes;
 use crate::pen::Pen;
-use crate::{Reply, Screen};
-use gate_model::{Control, Params};
+use crate::state::State;
+use gate_model::Params;
 
-impl Screen {
+impl State {
     ghost use Rattle.gate_model.specs.declared.control.Control.TheVariants.{Code, Esc, Csi};
 
-    /// Does what the control function says, and answers its report, if it has one. The `count` of a
-    /// `Csi` is at most 16 (ECMA-48; the effects are this project's own).
-    pub fn apply(&mut self, control: &Control) -> Reply
-        requires few { HasFewParameters control.now }
-        ensures state { self.new ≡ effect control.now self.old }
-        ensures reply { result ≡ report control.now self.old }
-    {
-        match control {
-            Control::Print(ch) => self.print(*ch),
-            Control::Code(code) => self.apply_character(*code),
-            Control::Esc(last) => self.apply_final(*last),
-            Control::Csi {
-                private,
-                params,
-                last,
-            } => return self.apply_control(*private, params, *last),
-        }
-        Reply::none()
-    }
-
-    /// Does what the control character says: the same as `apply` with a `Code`.
-    pub fn apply_character(&mut self, code: u8)
-        ensures { self.new ≡ effect (Code code) self.old }
+    // What the control character says.
+    pub(crate) fn act_character(&mut self, code: u8)
+        ensures { self.new ≡ acted (Code code) self.old }
     {
         self.apply_code(code);
         if matches!(code, 0x08..=0x0d) {
@@ -45,9 +23,9 @@ impl Screen {
         }
     }
 
-    /// Does what the escape sequence with this final byte says: the same as `apply` with an `Esc`.
-    pub fn apply_final(&mut self, last: u8)
-        ensures { self.new ≡ effect (Esc last) self.old }
+    // What the escape sequence with this final byte says.
+    pub(crate) fn act_final(&mut self, last: u8)
+        ensures { self.new ≡ acted (Esc last) self.old }
     {
         self.apply_escape(last);
         if matches!(last, b'7' | b'8' | b'E' | b'M' | b'c') {
@@ -55,15 +33,12 @@ impl Screen {
         }
     }
 
-    /// Does what the control sequence with these parameters, of which there are at most 16, and this final
-    /// byte says, and answers its report, if it has one: the same as `apply` with a `Csi`.
-    pub fn apply_control(&mut self, private: bool, params: &Params, last: u8) -> Reply
-        requires few { params.now.count ≤ 16 }
-        ensures state { self.new ≡ effect (Csi private params.now last) self.old }
-        ensures reply { result ≡ report (Csi private params.now last) self.old }
+    // What the control sequence with these parameters, of which there are at most 16, and this final byte says.
+    pub(crate) fn act_control(&mut self, private: bool, params: &Params, last: u8)
+        requires { params.now.count ≤ 16 }
+        ensures { self.new ≡ acted (Csi private params.now last) self.old }
     {
         let clears = self.control_clears(private, params, last);
-        let reply = self.control_report(private, params, last);
         if private {
             self.apply_private(params, last);
         } else {
@@ -72,7 +47,6 @@ impl Screen {
         if clears {
             self.pending = false;
         }
-        reply
     }
 
     // BS, HT, LF, VT, FF and CR.

@@ -1,6 +1,5 @@
-use Rattle.std.proofs.Common.{refl}
-use Rattle.vt_screen.proofs.Sound.{opened}
+use Rattle.vt_screen.proofs.MendedActs.{opened_left}
 use Rattle.vt_screen.proofs.screen.Screen.new.Goals as goal
 
 pub invariant_of-result : goal.invariant_of-result
-invariant_of-result c = opened _ c.args.cols c.args.rows c.requires refl refl c.in_ok-grid.ensures.blank c.in_ok-stops.ensures refl refl refl refl refl
+invariant_of-result c = opened_left _ c.args.cols c.args.rows c.in_ok-state.ensures

@@ -1,6 +1,6 @@
 use Rattle.std.proofs.Common.{◌≡◌, ◌*◌, take, map}
 use Rattle.gate_model.specs.terminal.Screens.{key_of}
-use Rattle.vt_screen.proofs.screen.Screen.keys.Given as goal
+use Rattle.vt_screen.proofs.state.State.keys.Given as goal
 
 -- the keys of the rows so far
 abbrev pub invariant-loop-y : goal.invariant-loop-y

@@ -1,7 +1,7 @@
 use Rattle.std.proofs.Common.{ap, arith}
 use Rattle.gate_model.specs.terminal.Terminal.{Terminal}
 use Rattle.vt_screen.proofs.KeyRows.{row_pushed}
-use Rattle.vt_screen.proofs.screen.Screen.push_row.Goals as goal
+use Rattle.vt_screen.proofs.state.State.push_row.Goals as goal
 
 pub loop-x-preserved : goal.loop-x-preserved
 loop-x-preserved c =

@@ -2,7 +2,7 @@ use Rattle.std.proofs.Common.{◌∙◌, ◌-◌, ℕ, refl, ap, arith}
 use Rattle.gate_model.specs.terminal.Terminal.{first_stops}
 use Rattle.vt_screen.proofs.Blanking.{erased_whole}
 use Rattle.vt_screen.proofs.Sound.{opened}
-use Rattle.vt_screen.proofs.screen.Screen.reset.Goals as goal
+use Rattle.vt_screen.proofs.state.State.reset.Goals as goal
 
 pub invariant_of-self : goal.invariant_of-self
 invariant_of-self c =

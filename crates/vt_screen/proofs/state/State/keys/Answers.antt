@@ -3,7 +3,7 @@ use Rattle.gate_model.specs.declared.key.Key.{Key}
 use Rattle.gate_model.specs.terminal.Cells.{rest_of_row}
 use Rattle.gate_model.specs.terminal.Screens.{key_of}
 use Rattle.vt_screen.proofs.KeyRows.{rows_more}
-use Rattle.vt_screen.proofs.screen.Screen.keys.Goals as goal
+use Rattle.vt_screen.proofs.state.State.keys.Goals as goal
 
 pub loop-y-preserved : goal.loop-y-preserved
 loop-y-preserved c =

@@ -1,6 +1,6 @@
 use Rattle.std.proofs.Common.{◌≡◌, ◌-◌}
 use Rattle.gate_model.specs.terminal.Printing.{printed_often}
-use Rattle.vt_screen.proofs.screen.Screen.repeat.Given as goal
+use Rattle.vt_screen.proofs.state.State.repeat.Given as goal
 
 -- the turns that are left lead where all of them lead from the state before
 abbrev pub invariant-loop : goal.invariant-loop

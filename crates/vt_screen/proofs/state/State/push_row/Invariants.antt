@@ -1,7 +1,7 @@
 use Rattle.std.proofs.Common.{◌≡◌, ◌++◌, take, map}
 use Rattle.gate_model.specs.terminal.Cells.{rest_of_row}
 use Rattle.gate_model.specs.terminal.Screens.{key_of}
-use Rattle.vt_screen.proofs.screen.Screen.push_row.Given as goal
+use Rattle.vt_screen.proofs.state.State.push_row.Given as goal
 
 -- the keys of the row so far
 abbrev pub invariant-loop-x : goal.invariant-loop-x

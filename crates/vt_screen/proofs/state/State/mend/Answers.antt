@@ -1,0 +1,5 @@
+use Rattle.vt_screen.proofs.Holding.{mended_sound}
+use Rattle.vt_screen.proofs.state.State.mend.Goals as goal
+
+pub invariant_of-self : goal.invariant_of-self
+invariant_of-self c = mended_sound c.self.inside _ c.mend.ensures.cells c.self.invariant
