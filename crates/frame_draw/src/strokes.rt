@@ -106,7 +106,6 @@ pub(crate) fn fill_cells(
     requires few_rows { place < 256 * cols }
     requires width { width ≤ 512 }
     requires height { height ≤ 131072 }
-    requires paper { paper < 16 }
     ensures { OnOk result (list.new.items ≡ list.old.items ++ filling cols place width height paper) }
 {
     list.push(Instr::Rect {
