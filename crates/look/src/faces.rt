@@ -14,6 +14,11 @@ use std::alloc::Global;
 /// The face of every glyph that isn't in the font: its glyph is a box.
 const BOX: char = '\u{fffd}';
 
+/// The faces of the left and the right half of a character that takes two cells.
+const LEFT: char = '\u{e000}';
+
+const RIGHT: char = '\u{e001}';
+
 /// What stands for a cell that shows no glyph: a block of dots.
 const UNKNOWN: char = '\u{2592}';
 
@@ -39,8 +44,19 @@ pub fn face_at(canvas: &Canvas, column: u32, row: u32) -> Option<char>
             return Some(face);
         }
     }
-    if is_face(canvas, column, row, BOX, pair) {
-        return Some(BOX);
+    box_at(canvas, column, row, pair)
+}
+
+// The face outside the font that the cell shows, if it shows one.
+fn box_at(canvas: &Canvas, column: u32, row: u32, pair: Pair) -> Option<char>
+    requires column { column < 65536 }
+    requires row { row < 65536 }
+    ensures { (m : Layers) → Stands canvas.now m → IfSome result (ShowsFace (m visible) column row) }
+{
+    for face in [BOX, LEFT, RIGHT] {
+        if is_face(canvas, column, row, face, pair) {
+            return Some(face);
+        }
     }
     None
 }
@@ -123,7 +139,8 @@ fn has_line(
 }
 
 /// The picture as lines of text, one a row, each ended by a line feed and without the blanks at its end.
-/// A cell that shows no glyph is told as U+2592. The only error is want of memory.
+/// A cell that shows no glyph is told as U+2592, and a character that takes two cells as U+FFFD and a blank. The only
+/// error is want of memory.
 pub fn text_of(alloc: Global, canvas: &Canvas) -> Result<Vec<u8>, NoMemory> {
     let (width, height) = canvas.layer_size(0);
     let mut text = String::new(alloc);
@@ -141,11 +158,11 @@ fn put_row(text: &mut String, canvas: &Canvas, row: u32, columns: u32) -> Result
     let mut blanks: u32 = 0;
     for column in 0..columns {
         match face_at(canvas, column, row).unwrap_or(UNKNOWN) {
-            ' ' => blanks += 1,
+            ' ' | RIGHT => blanks += 1,
             face => {
                 put_blanks(text, blanks)?;
                 blanks = 0;
-                text.push(face)?;
+                text.push(if face == LEFT { BOX } else { face })?;
             }
         }
     }
