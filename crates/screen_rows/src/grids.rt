@@ -1,7 +1,7 @@
 //! Edits of a grid of 4 columns and 3 rows, which has the letters A to L.
 
 use anyhow::{Context, Result, bail};
-use gate_model::Cell;
+use gate_model::{Cell, Half};
 use row_words::{first_word, numbers};
 use screen_grid::Grid;
 use std::alloc::Global;
@@ -11,6 +11,7 @@ const BLANK: Cell = Cell {
     ink: 7,
     paper: 0,
     under: false,
+    half: Half::Whole,
 };
 
 // The most columns and rows of a grid whose letters are told.
@@ -53,6 +54,7 @@ fn cell_of(letter: u8) -> Cell {
         ink: letter % 16,
         paper: letter / 16,
         under: letter % 2 == 1,
+        half: Half::Whole,
     }
 }
 

@@ -60,7 +60,7 @@ fn shown(screen: &Screen, alloc: Global) -> Result<Shown> {
     screen.shown(alloc).ok().context("no memory")
 }
 
-/// The rows with `.` for a blank, the row and the column of the cursor, `p` where the wrap is pending, the
+/// The rows with `.` for a blank and `<` and `>` for the halves of a wide character, the row and the column of the cursor, `p` where the wrap is pending, the
 /// lines that were scrolled, if any, and the reports, if any.
 pub fn seen(alloc: Global, input: &str) -> Result<String> {
     let (cols, rows, bytes) = size(input)?;
@@ -108,11 +108,20 @@ fn push_shown(text: &mut String, shown: &Shown) -> Result<()> {
             text.push('/')?;
         }
         for x in 0..shown.cols() {
-            let face = shown.key(x, y).face;
-            text.push(if face == ' ' { '.' } else { face })?;
+            text.push(sign_of(shown.key(x, y).face))?;
         }
     }
     Ok(())
+}
+
+// What stands for a face: `.` for a blank, `<` and `>` for the halves of a wide character.
+fn sign_of(face: char) -> char {
+    match face {
+        ' ' => '.',
+        '\u{e000}' => '<',
+        '\u{e001}' => '>',
+        _ => face,
+    }
 }
 
 // Adds where the cursor is, as the screen reports it, and `p` where the wrap is pending.
