@@ -13,9 +13,10 @@ const MOST: usize = 40;
 /// The final bytes of sequences with one parameter: they move, erase, insert, delete, scroll and repeat.
 static FINALS: [u8; 22] = *b"ABCDEFGd`aeJKLMPSTX@bZ";
 
-/// What isn't made of a number: line ends and moves, RIS, the cursor saved and restored, shown and hidden,
-/// insertion, wrapping, origin and reversed characters.
-static WHOLE: [&[u8]; 24] = [
+/// What isn't made of a random number: line ends and moves, RIS, the cursor saved and restored, shown and hidden,
+/// insertion, wrapping, origin and reversed characters, characters outside ASCII, two of them wide, and colours of the
+/// palette's upper 240.
+static WHOLE: [&[u8]; 28] = [
     b"\r\n",
     b"\r",
     b"\n",
@@ -40,6 +41,10 @@ static WHOLE: [&[u8]; 24] = [
     b"\x1b[?5h",
     b"\x1b[r",
     b"\xc3\xa9",
+    b"\xe4\xbd\xa0",
+    b"\xf0\x9f\x98\x80",
+    b"\x1b[38;5;196m",
+    b"\x1b[48;5;238m",
 ];
 
 /// Of how many characters and colours the feeds of a screen choose.
@@ -118,7 +123,7 @@ fn push_colour(bytes: &mut Vec<u8>, random: &mut Random, look: Look) -> Result<(
 }
 
 fn push_whole(bytes: &mut Vec<u8>, random: &mut Random) -> Result<()> {
-    bytes.extend_from_slice(WHOLE[random.below(24) as usize])?;
+    bytes.extend_from_slice(WHOLE[random.below(28) as usize])?;
     Ok(())
 }
 

@@ -88,9 +88,9 @@ fn draw_glyph(list: &mut Vec<Instr>, x: u16, y: u16, key: Key) -> Result<()> {
     Ok(())
 }
 
-// The fill of the visible layer's path with a colour of the palette, which has 16.
+// The fill of the visible layer's path with a colour of the palette.
 fn fill_with(index: u8) -> Instr {
-    let colour = colour_of(index % 16);
+    let colour = colour_of(index);
     Instr::Cfill {
         layer: 0,
         red: colour.red,

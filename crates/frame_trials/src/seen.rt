@@ -6,8 +6,8 @@ use anyhow::Result;
 use gate_model::{Key, Shown};
 use std::alloc::Global;
 
-/// How many keys there may be: 96 faces, underlined or not, in 16 inks on 16 papers.
-const KEYS: usize = 96 * 2 * 16 * 16;
+/// How many keys there may be: 98 faces, underlined or not, in 256 inks on 256 papers.
+const KEYS: usize = 98 * 2 * 256 * 256;
 
 /// Which keys were seen.
 #[derive(Drop)]
@@ -58,10 +58,12 @@ impl Seen {
 fn place_of(key: Key) -> usize {
     let face = match key.face {
         ' '..='~' => key.face as usize - ' ' as usize,
+        '\u{e000}' => 96,
+        '\u{e001}' => 97,
         _ => 95,
     };
-    let look = usize::from(key.under) * 256 + key.ink as usize * 16 + key.paper as usize;
-    face * 512 + look
+    let look = usize::from(key.under) * 65_536 + key.ink as usize * 256 + key.paper as usize;
+    face * 131_072 + look
 }
 
 /// How many places of the new screen differ from the old one scrolled up by `shift` lines, where a line so

@@ -124,5 +124,5 @@ fn is_sized(shown: &Shown) -> bool
 fn are_coloured(keys: &[Key]) -> bool
     ensures { IsTrue result → AreColoured keys.now }
 {
-    keys.iter().all(|key| key.ink < 16 && key.paper < 16)
+    keys.iter().all(|key| u32::from(key.ink) < 256 && u32::from(key.paper) < 256)
 }
