@@ -2,7 +2,7 @@
 // once after it was painted, and a copy of it is then known; a copy of the visible layer over itself moves rows. What
 // is drawn in another way is read from its pixels. A cell is a number; those whose pixels are alike are equal.
 
-import { BOX, CELL_HEIGHT, CELL_WIDTH, seenAt } from './font.js';
+import { BOX, CELL_HEIGHT, CELL_WIDTH, LEFT, RIGHT, seenAt } from './font.js';
 import { indexOf } from './palette.js';
 
 /** A cell that shows no picture of the font, or has a colour past the 256th. */
@@ -14,7 +14,7 @@ export function cellOf(face, ink, paper, isUnderlined) {
   return (face << 17) | (isUnderlined ? 1 << 16 : 0) | (ink << 8) | paper;
 }
 
-/** The face of a cell, a code point or BOX. */
+/** The face of a cell, a code point, BOX, LEFT or RIGHT. */
 export const faceOf = (cell) => cell >> 17;
 /** The indices of its colours, and whether it is underlined. */
 export const inkOf = (cell) => (cell >> 8) & 0xff;
@@ -26,11 +26,13 @@ export const BLANK = cellOf(0x20, 0, 0, false);
 
 function characterOf(cell) {
   if (cell === PICTURE) return '\u2592';
-  return faceOf(cell) === BOX ? '\ufffd' : String.fromCharCode(faceOf(cell));
+  const face = faceOf(cell);
+  if (face === BOX || face === LEFT) return '\ufffd';
+  return face === RIGHT ? ' ' : String.fromCharCode(face);
 }
 
-/** The characters of cells as `look` writes them, without the blanks at their end: the box is U+FFFD, and a picture
- *  U+2592. @param {Int32Array} cells */
+/** The characters of cells as `look` writes them, without the blanks at their end: the box is U+FFFD, a character that
+ *  takes two cells U+FFFD and a blank, and a picture U+2592. @param {Int32Array} cells */
 export function textOf(cells) {
   let text = '';
   for (const cell of cells) text += characterOf(cell);

@@ -1,5 +1,6 @@
 // The gateway's font (docs/PROTOCOL.md, "Glyphs"), read backwards: from the pixels of a cell to its character. The 95
-// pictures and the box are all different, so the reading is exact; a cell that shows none of them is a picture.
+// pictures, the box and its two halves are all different, so the reading is exact; a cell that shows none of them is a
+// picture.
 
 /** How many pixels a cell has. */
 export const CELL_WIDTH = 8;
@@ -8,7 +9,10 @@ export const CELL_HEIGHT = 16;
 /** The face of a cell that shows the box, which stands for each character that the font hasn't. */
 export const BOX = 0x7f;
 
-// From U+0020 on and the box last, five columns each, bit r of a column for row r.
+/** The faces of the two halves of a character that takes two cells: together a box as wide as both. */
+export const [LEFT, RIGHT] = [0x80, 0x81];
+
+// From U+0020 on, then the box and its halves, five columns each, bit r of a column for row r.
 const GLYPHS = `0000000000 00005F0000 0007000700 147F147F14 242A7F2A12 2313086462 3649552250 0005030000
 001C224100 0041221C00 082A1C2A08 08083E0808 0050300000 0808080808 0060600000 2010080402
 3E5149453E 00427F4000 4261514946 2141454B31 1814127F10 2745454539 3C4A494930 0171090503
@@ -20,7 +24,8 @@ const GLYPHS = `0000000000 00005F0000 0007000700 147F147F14 242A7F2A12 231308646
 0001020400 2054545478 7F48444438 3844444420 384444487F 3854545418 087E090102 081454543C
 7F08040478 00447D4000 2040443D00 7F10284400 00417F4000 7C04180478 7C08040478 3844444438
 7C14141408 081414187C 7C08040408 4854545420 043F444020 3C4040207C 1C2040201C 3C4030403C
-4428102844 0C5050503C 4464544C44 0008364100 00007F0000 0041360800 0804081008 7F4141417F`.split(/\s+/);
+4428102844 0C5050503C 4464544C44 0008364100 00007F0000 0041360800 0804081008 7F4141417F
+7F41414141 414141417F`.split(/\s+/);
 
 /** The seven rows of five bits that a face has lit, the leftmost pixel in bit 0. @returns {number[]} */
 export function rowsOf(face) {

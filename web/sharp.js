@@ -1,7 +1,7 @@
 // Sharp text: the cells of the screen, drawn with a font of the browser at the device's own pixels. Each picture of a
 // cell is made once, and then copied to where it stands; only cells that have changed are drawn.
 
-import { CELL_HEIGHT, CELL_WIDTH, BOX } from './font.js';
+import { BOX, CELL_HEIGHT, CELL_WIDTH, LEFT, RIGHT } from './font.js';
 import { PICTURE, faceOf, inkOf, isUnderlined, paperOf } from './cells.js';
 import { inkColour, paperColour, pixelOf } from './palette.js';
 
@@ -179,16 +179,21 @@ export class Sharp {
     if (strength !== undefined) return strength;
     const { width, height, font } = this.#cell;
     this.#pen.clearRect(0, 0, width, height);
-    if (face === BOX) {
-      const thick = this.#pen.lineWidth = Math.max(1, Math.round(font / 14));
-      const [left, top] = [Math.ceil(width / 8) + thick / 2, this.#baseline - Math.round(font * 0.7) + thick / 2];
-      this.#pen.strokeRect(left, top, width - 2 * left, this.#baseline - top - thick / 2);
-    } else {
-      this.#pen.fillText(String.fromCharCode(face), 0, this.#baseline);
-    }
+    if (face === BOX || face === LEFT || face === RIGHT) this.#strokeBox(face);
+    else this.#pen.fillText(String.fromCharCode(face), 0, this.#baseline);
     strength = this.#pen.getImageData(0, 0, width, height).data.filter((_, k) => k % 4 === 3);
     this.#faces.set(face, strength);
     return strength;
+  }
+
+  // The box, or its half, which goes on in the next cell.
+  #strokeBox(face) {
+    const { width, font } = this.#cell;
+    const thick = this.#pen.lineWidth = Math.max(1, Math.round(font / 14));
+    const [side, top] = [Math.ceil(width / 8) + thick / 2, this.#baseline - Math.round(font * 0.7) + thick / 2];
+    const left = face === RIGHT ? -width : side;
+    const right = face === LEFT ? 2 * width : width - side;
+    this.#pen.strokeRect(left, top, right - left, this.#baseline - top - thick / 2);
   }
 
   // A picture of a cell, pixel by pixel, as large as the cells here.

@@ -7,7 +7,7 @@ import { framesOf, isBuilt, module, recordings, seen } from './page.mjs';
 
 const { instructionsFrom } = await module('instructions');
 const { Layers } = await module('layers');
-const { CELL_HEIGHT, CELL_WIDTH, rowsOf } = await module('font');
+const { CELL_HEIGHT, CELL_WIDTH, LEFT, RIGHT, rowsOf } = await module('font');
 const { Cells, PICTURE, cellOf, cellsOf, textOf } = await module('cells');
 const { indexOf } = await module('palette');
 
@@ -19,7 +19,7 @@ function isLit(face, isUnderlined, x, y) {
 
 // Every picture as a text of 128 signs.
 const PICTURES = new Map();
-for (let face = 0x20; face <= 0x7f; face++) {
+for (const face of [...Array.from({ length: 96 }, (_, k) => 0x20 + k), LEFT, RIGHT]) {
   for (const isUnderlined of [false, true]) {
     let text = '';
     for (let k = 0; k < CELL_WIDTH * CELL_HEIGHT; k++) text += isLit(face, isUnderlined, k % CELL_WIDTH, Math.floor(k / CELL_WIDTH)) ? '#' : '.';
@@ -58,7 +58,7 @@ function play(cells, text, atSync = () => {}) {
 
 const linesOf = (cells) => Array.from({ length: cells.rows }, (_, y) => textOf(cells.row(y)));
 
-test('all pictures are different', () => assert.equal(PICTURES.size, 192));
+test('all pictures are different', () => assert.equal(PICTURES.size, 196));
 
 for (const name of recordings) {
   test(`the text of ${name} at every sync`, { skip: !isBuilt && 'needs guacgate and look built' }, () => {
@@ -98,6 +98,16 @@ test('cells that are painted without a buffer are read', () => {
   const cells = screen();
   play(cells, opening(3, 1) + glyph(0, 8, 0, 0x67) + sync(1));
   assert.deepEqual(linesOf(cells), [' g']);
+});
+
+test('a character that takes two cells is told as U+FFFD and a blank', () => {
+  const cells = screen();
+  play(cells, opening(4, 1) + glyph(0, 0, 0, 0x61) + glyph(0, 8, 0, LEFT) + glyph(0, 16, 0, RIGHT) + glyph(0, 24, 0, 0x62) + sync(1));
+  assert.deepEqual(linesOf(cells), ['a\ufffd b']);
+  const lit = (face) => Array.from({ length: 14 }, (_, y) => Array.from({ length: 8 }, (_, x) => (isLit(face, false, x, y + 2) ? '#' : '.')).join(''));
+  const [side, gap] = [Array(2), Array(10)];
+  assert.deepEqual(lit(LEFT), [...side.fill('.#####..'), ...gap.fill('.#......'), ...side.fill('.#####..')]);
+  assert.deepEqual(lit(RIGHT), [...side.fill('.#####..'), ...gap.fill('.....#..'), ...side.fill('.#####..')]);
 });
 
 test('a buffer that is painted anew is read anew', () => {
