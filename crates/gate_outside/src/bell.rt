@@ -1,6 +1,7 @@
 use gate_model::NoMemory;
 use std::alloc::Global;
 use std::sync::Wait;
+use std::time::Duration;
 use wake_spot::{Spot, Spots};
 
 /// A bell that is rung where a session changed, and that those who found nothing new wait for (this
@@ -36,5 +37,12 @@ pub trait Bell: Sized + Drop {
         let _ = spot;
         let _ = seen;
         self.wait(rt);
+    }
+
+    /// The same, but for `most` at most. It answers whether the spot was rung; a bell without more doesn't wait.
+    fn wait_at_most<R: Wait>(&self, rt: &R, spot: &Spot, seen: u64, most: Duration) -> bool {
+        let _ = rt;
+        let _ = most;
+        spot.rings() != seen
     }
 }

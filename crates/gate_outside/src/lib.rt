@@ -61,7 +61,7 @@ pub use std_sink::StdSink;
 pub use std_source::StdSource;
 pub use sure_source::SureSource;
 pub use waking::{
-    ring_after_feed, ring_after_leave, ring_after_take, ring_after_write, wait_for_news,
-    wait_for_room,
+    ring_after_feed, ring_after_leave, ring_after_take, ring_after_write, wait_for_drawing,
+    wait_for_news, wait_for_room,
 };
 pub use writing::write_all;

@@ -4,8 +4,7 @@ ghost use Rattle.gate_outside.specs.Starts.{is_refused};
 
 use crate::Counted;
 use std::sync::Wait;
-use std::thread;
-use std::thread::Threads;
+use std::thread::{Builder, Promise, Threads};
 
 /// How the next job starts.
 #[derive(Clone, Copy, Debug, PartialEq, Eq)]
@@ -81,12 +80,27 @@ pub fn start_by<R: Threads, J: FnOnce() + Send + 'static>(rt: &R, way: Way, job:
     }
 }
 
+// How many bytes of stack the thread of a job has. Sixteen times what a job was seen to touch; a thread with the system's
+// 8 MiB costs twice as much to make and to end, since libc keeps few of so many bytes for the next one.
+const STACK: usize = 1_048_576;
+
+// What is promised of the end of a job: nothing.
+#[derive(Clone, Copy)]
+struct Nothing;
+
+impl Promise<()> for Nothing {
+    ghost kept_by = { λ _ _. Unit {0} };
+}
+
 // Starts the job in a thread that runs on when its handle is dropped.
 fn start_thread<R: Threads, J: FnOnce() + Send + 'static>(rt: &R, job: J) -> Result<(), J>
     requires { J.pre job }
     ensures { IfErr result (λ j. j ≡ job) }
 {
-    match thread::spawn(rt, job) {
+    match Builder::new()
+        .stack_size(STACK)
+        .spawn_with(rt, Nothing, job)
+    {
         Ok(_) => Ok(()),
         Err(refused) => Err(refused.value),
     }

@@ -1,12 +1,15 @@
 use crate::{
     Again, Bell, Clock, Dialer, Dice, Failed, MemBell, MemClock, MemDialer, MemDice, MemSink,
-    MemSource, MemSpawner, Sink, Source, Spawner, StdSink, StdSource, SureSource, write_all,
+    MemSource, MemSpawner, Sink, Source, Spawner, StdSink, StdSource, SureSource, wait_for_drawing,
+    write_all,
 };
-use gate_model::Bytes;
+use gate_model::{Bytes, NoMemory};
 use std::alloc::Global;
-use std::sync::Arc;
 use std::sync::atomic::{AtomicU64, Ordering};
+use std::sync::{Arc, Wait};
 use std::test::Fail;
+use std::time::Duration;
+use wake_spot::{Spot, Spots};
 
 // Reads by `bound` of the trait alone, and appends the bytes of each call, and `!` for a fault.
 fn told<S: Source>(seen: &mut Vec<u8>, source: &mut S, calls: usize) -> Result<(), Fail> {
@@ -146,5 +149,55 @@ fn a_bell_in_memory_returns_at_once(rt: HostRuntime) -> Result<(), Fail> {
     bell.wait(&rt);
     other.wait(&rt);
     assert_eq!(rt; MemClock::new([7].to_vec(rt.alloc())?).now(), 7u64);
+    Ok(())
+}
+
+// A bell at whose waits with a limit viewer 3 acknowledges two stamps more.
+#[derive(Drop)]
+struct DrawingBell {
+    spots: Arc<Spots, Global>,
+    waits: AtomicU64,
+}
+
+impl Bell for DrawingBell {
+    fn ring(&self) {}
+
+    fn wait<R: Wait>(&self, _rt: &R) {}
+
+    fn another(&self, _alloc: Global) -> Result<DrawingBell, NoMemory> {
+        Ok(DrawingBell {
+            spots: Arc::try_clone(&self.spots)?,
+            waits: AtomicU64::new(0),
+        })
+    }
+
+    fn wait_at_most<R: Wait>(&self, _rt: &R, spot: &Spot, _seen: u64, _most: Duration) -> bool {
+        self.waits.fetch_add(1, Ordering::SeqCst);
+        self.spots
+            .tell_drawn(3, self.spots.drawn(3).saturating_add(2));
+        spot.ring();
+        true
+    }
+}
+
+// How often viewer 3 is waited for, which has acknowledged this stamp and was given a picture of stamp 9.
+fn waits_for<R: Wait>(rt: &R, alloc: Global, acknowledged: u64) -> Result<u64, Fail> {
+    let spots = Arc::new(alloc, Spots::new(alloc)?)?;
+    spots.tell_drawn(3, acknowledged);
+    let bell = DrawingBell {
+        spots: Arc::try_clone(&spots)?,
+        waits: AtomicU64::new(0),
+    };
+    wait_for_drawing(rt, &bell, &spots, 3, 9);
+    Ok(bell.waits.load(Ordering::SeqCst))
+}
+
+#[test]
+fn a_viewer_is_waited_for_until_it_has_drawn(rt: HostRuntime) -> Result<(), Fail> {
+    let alloc = rt.alloc();
+    let never = waits_for(&rt, alloc, 0)?;
+    let behind = waits_for(&rt, alloc, 4)?;
+    let drawn = waits_for(&rt, alloc, 9)?;
+    assert_eq!(rt; [never, behind, drawn], [0, 3, 0]);
     Ok(())
 }

@@ -6,6 +6,7 @@ use std::alloc::Global;
 use std::sync::atomic::AtomicU64;
 use std::sync::atomic::Ordering::SeqCst;
 use std::sync::{Arc, Wait};
+use std::time::Duration;
 use wake_spot::{Spot, Spots};
 
 /// A bell that threads sleep on. Each remembers the rings that it has answered, so that a ring between a look
@@ -59,5 +60,9 @@ impl Bell for ParkBell {
 
     fn wait_at<R: Wait>(&self, rt: &R, spot: &Spot, seen: u64) {
         spot.wait(rt, seen);
+    }
+
+    fn wait_at_most<R: Wait>(&self, rt: &R, spot: &Spot, seen: u64, most: Duration) -> bool {
+        spot.wait_at_most(rt, seen, most)
     }
 }

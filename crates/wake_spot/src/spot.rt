@@ -3,6 +3,7 @@
 use std::sync::Wait;
 use std::sync::atomic::AtomicU64;
 use std::sync::atomic::Ordering::SeqCst;
+use std::time::Duration;
 
 /// A spot that threads sleep at until it is rung (this project's own). Whoever is to sleep reads the number of rings
 /// first, then looks whether there is news, and then sleeps on that number: a ring in between isn't missed. A ring where
@@ -49,5 +50,14 @@ impl Spot {
         self.sleepers.fetch_add(1, SeqCst);
         self.rings.park(rt, (seen & 0xffff_ffff) as u32);
         self.sleepers.fetch_sub(1, SeqCst);
+    }
+
+    /// The same, but for `most` at most. It answers whether it was rung.
+    pub fn wait_at_most<R: Wait>(&self, rt: &R, seen: u64, most: Duration) -> bool {
+        self.sleepers.fetch_add(1, SeqCst);
+        self.rings
+            .park_timeout(rt, (seen & 0xffff_ffff) as u32, most);
+        self.sleepers.fetch_sub(1, SeqCst);
+        self.rings() != seen
     }
 }

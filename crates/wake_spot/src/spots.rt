@@ -9,15 +9,22 @@ use std::sync::atomic::{AtomicBool, AtomicU64};
 // How many spots the viewers have that are held.
 const HELD: usize = 64;
 
+// Where a viewer sleeps until it has caught up, and the stamp that it acknowledged last, or 0.
+#[derive(Drop)]
+struct Held {
+    spot: Spot,
+    drawn: AtomicU64,
+}
+
 /// The spots of one session (this project's own): one for all who wait for frames, one for the sender, one for the pump
 /// while too much waits for the host, and one for each viewer that is held until it has caught up, where viewers whose
-/// numbers are 64 apart share one. And how many bytes wait for the host.
+/// numbers are 64 apart share one. And how many bytes wait for the host, and what the viewers acknowledged last.
 #[derive(Drop)]
 pub struct Spots {
     frames: Spot,
     sending: Spot,
     room: Spot,
-    held: Vec<Spot>,
+    held: Vec<Held>,
     output: AtomicU64,
     closed: AtomicBool,
 }
@@ -27,7 +34,10 @@ impl Spots {
     pub fn new(alloc: Global) -> Result<Spots, AllocError> {
         let mut held = Vec::with_capacity(alloc, HELD)?;
         for _ in 0..HELD {
-            held.push(Spot::new())?;
+            held.push(Held {
+                spot: Spot::new(),
+                drawn: AtomicU64::new(0),
+            })?;
         }
         Ok(Spots {
             frames: Spot::new(),
@@ -57,7 +67,7 @@ impl Spots {
     /// Where the viewer sleeps while it is held.
     pub fn held(&self, viewer: u32) -> &Spot {
         match self.held.get(viewer as usize % HELD) {
-            Some(spot) => spot,
+            Some(held) => &held.spot,
             None => &self.frames,
         }
     }
@@ -75,8 +85,23 @@ impl Spots {
         self.frames.ring();
         self.sending.ring();
         self.room.ring();
-        for spot in self.held.iter() {
-            spot.ring();
+        for held in self.held.iter() {
+            held.spot.ring();
+        }
+    }
+
+    /// Says that the viewer has acknowledged this stamp. To be called before it is rung where the viewer sleeps.
+    pub fn tell_drawn(&self, viewer: u32, stamp: u64) {
+        if let Some(held) = self.held.get(viewer as usize % HELD) {
+            held.drawn.store(stamp, SeqCst);
+        }
+    }
+
+    /// The stamp that the viewer acknowledged last, as it was said, or 0. Viewers whose numbers are 64 apart share it.
+    pub fn drawn(&self, viewer: u32) -> u64 {
+        match self.held.get(viewer as usize % HELD) {
+            Some(held) => held.drawn.load(SeqCst),
+            None => 0,
         }
     }
 

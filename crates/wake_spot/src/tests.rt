@@ -7,6 +7,7 @@ use std::sync::atomic::AtomicU64;
 use std::sync::atomic::Ordering::SeqCst;
 use std::test::Fail;
 use std::thread::join_mut;
+use std::time::Duration;
 
 // How often each of two threads answers the other.
 const ROUNDS: u64 = 20_000;
@@ -129,5 +130,47 @@ fn closed_is_said_once_for_all(rt: HostRuntime) -> Result<(), Fail> {
     spots.tell_closed();
     spots.tell_output(1);
     assert_eq!(rt; (before, spots.is_closed()), (false, true));
+    Ok(())
+}
+
+// A wait with a limit ends by itself, and at once where it was rung before; it tells which.
+#[test]
+fn a_wait_with_a_limit_ends_by_itself(rt: HostRuntime) -> Result<(), Fail> {
+    let spot = Spot::new();
+    let alone = spot.wait_at_most(&rt, spot.rings(), Duration::from_millis(1));
+    let rings = spot.rings();
+    spot.ring();
+    let rung = spot.wait_at_most(&rt, rings, Duration::from_secs(3600));
+    assert_eq!(rt; (alone, rung, spot.sleepers()), (false, true, 0));
+    Ok(())
+}
+
+#[test]
+fn a_wait_with_a_limit_ends_at_a_ring(rt: HostRuntime) -> Result<(), Fail> {
+    let spot = Spot::new();
+    let (handle, shared, mut rung) = (&rt, &spot, false);
+    join_mut(
+        &rt,
+        &mut || rung = shared.wait_at_most(handle, 0, Duration::from_secs(3600)),
+        &mut || {
+            wait_for_sleepers(handle, shared, 1);
+            shared.ring();
+        },
+    );
+    assert!(rt; rung);
+    Ok(())
+}
+
+#[test]
+fn each_viewer_has_the_stamp_that_was_said_last(rt: HostRuntime) -> Result<(), Fail> {
+    let spots = Spots::new(rt.alloc())?;
+    let before = spots.drawn(3);
+    spots.tell_drawn(3, 9);
+    spots.tell_drawn(4, 7);
+    spots.tell_drawn(4, 8);
+    assert_eq!(rt;
+        [before, spots.drawn(3), spots.drawn(4), spots.drawn(67)],
+        [0, 9, 8, 9]
+    );
     Ok(())
 }
