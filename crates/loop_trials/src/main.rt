@@ -4,6 +4,7 @@
 
 mod closing_bell;
 mod door;
+mod lagging;
 mod links;
 mod nines;
 mod recordings;
@@ -61,6 +62,11 @@ where
         users::unwritten(rt, alloc)?
     )?;
     println!(rt; "a viewer that left: {}", users::left(rt, alloc)?)?;
+    println!(rt; "a viewer that lags: {}", lagging::lagging(rt, alloc, 1)?)?;
+    println!(rt;
+        "one that acknowledges nothing: {}",
+        lagging::lagging(rt, alloc, 0)?
+    )?;
     println!(rt; "a visit: {}", users::visited(rt, alloc)?)?;
     println!(rt; "a visitor turned away: {}", users::turned_away(rt, alloc)?)?;
     println!(rt;

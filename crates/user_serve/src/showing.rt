@@ -9,14 +9,15 @@ ghost use Rattle.user_serve.specs.declared.ends.OutletEnd.TheVariants as ends;
 
 use crate::OutletEnd;
 use gate_model::Bytes;
-use gate_outside::{Bell, Failed, Sink, wait_for_news, write_all};
+use gate_outside::{Bell, Failed, Sink, wait_for_drawing, wait_for_news, write_all};
 use shared_desk::{ReadAnswer, ReadRefusal, ReaderPass};
 use std::alloc::Global;
 use std::sync::Wait;
 
 /// Writes what the viewer is given, as it is given: first `first`, the text of what it was given so far, and then
 /// what its reads give. Where a read gives nothing, or the viewer is to catch up first, it waits for the bell and
-/// reads again. At each end it finishes the sink (this project's own).
+/// reads again; where a read gave a whole picture, it waits until that is acknowledged, or a second. At each end it
+/// finishes the sink (this project's own).
 pub fn outlet<R: Wait, K: Sink, B: Bell>(
     rt: &R,
     alloc: Global,
@@ -61,12 +62,14 @@ fn show_all<R: Wait, K: Sink, B: Bell>(
         }
     }
     let mut text = Vec::new(alloc);
-    let mut held = false;
+    let mut lag = Lag::None;
     for _ in rt.forever() {
         let rings = pass.spots().rings(pass.viewer());
-        match show_next(rt, pass, &mut text, sink, &mut held) {
-            Ok(Step::Gave) => {}
-            Ok(Step::Waits) => { wait_for_news(rt, bell, pass.spots(), pass.viewer(), held, rings) }
+        match show_next(rt, pass, &mut text, sink, &mut lag) {
+            Ok(Step::Gave) => pause(rt, bell, pass, lag),
+            Ok(Step::Waits) => {
+                wait_for_news(rt, bell, pass.spots(), pass.viewer(), is_held(lag), rings)
+            }
             Err(end) => return end,
         }
     }
@@ -80,14 +83,23 @@ pub(crate) enum Step {
     Waits,
 }
 
-// Reads once, and writes what that gave. `text` is where it is put, and `held` tells whether the viewer is to catch up
-// first.
+// How far a viewer is behind what the session shows.
+#[derive(Clone, Copy)]
+enum Lag {
+    None,
+    // It is to catch up before it is given more.
+    Held,
+    // It was so far behind that it was given a whole picture, of this stamp.
+    Anew(u64),
+}
+
+// Reads once, and writes what that gave. `text` is where it is put, and `lag` tells how far the viewer is behind.
 fn show_next<R: Wait, K: Sink>(
     rt: &R,
     pass: &mut ReaderPass,
     text: &mut Vec<u8>,
     sink: &mut K,
-    held: &mut bool,
+    lag: &mut Lag,
 ) -> Result<Step, OutletEnd>
     ensures session { pass.new.session ≡ pass.old.session }
     ensures viewer { pass.new.viewer ≡ pass.old.viewer }
@@ -99,16 +111,31 @@ fn show_next<R: Wait, K: Sink>(
     pass.history_is_sound();
     text.clear();
     let answer = pass.read(rt, text);
-    *held = is_held(&answer);
+    *lag = lag_of(&answer);
     match write_all(sink, text.as_slice()) {
         Ok(()) => step_of(answer),
         Err(Failed) => Err(OutletEnd::WriteFault),
     }
 }
 
+fn lag_of(answer: &Result<ReadAnswer, ReadRefusal>) -> Lag {
+    match answer {
+        Ok(ReadAnswer::Hold { .. }) => Lag::Held,
+        Ok(ReadAnswer::Fresh { stamp, .. }) => Lag::Anew(*stamp),
+        Ok(ReadAnswer::Frames { .. } | ReadAnswer::Empty | ReadAnswer::Ended) | Err(_) => Lag::None,
+    }
+}
+
 // Whether the viewer is to catch up first.
-fn is_held(answer: &Result<ReadAnswer, ReadRefusal>) -> bool {
-    matches!(answer, Ok(ReadAnswer::Hold { .. }))
+fn is_held(lag: Lag) -> bool {
+    matches!(lag, Lag::Held)
+}
+
+// Lets a viewer that was given a whole picture draw it, before it is given the next.
+fn pause<R: Wait, B: Bell>(rt: &R, bell: &B, pass: &ReaderPass, lag: Lag) {
+    if let Lag::Anew(stamp) = lag {
+        wait_for_drawing(rt, bell, pass.spots(), pass.viewer(), stamp);
+    }
 }
 
 // Whether the outlet goes on.
