@@ -132,5 +132,5 @@ module _ {P : Type 0} where
     pub told_busy : (r : Refused) (told : ℕ) (result : Greeted P) → told ≡ status_of r → IsToldError told w v result → result ≡ greeted.Refused 513 → r ≡ refused.Busy
     told_busy r told result is t e = busy_status r (sym is ∙ told_status told 513 result t e)
 
-    pub served_read : (May : Request → Refused → Type 0) (request : Request) (a b : Option (List Request)) (result : Greeted P) → IsServed May request w v a b result → result ≡ greeted.ReadFault → ⊥
-    served_read May request a b result t e = subst (λ (r : Greeted P). IsServed May request w v a b r) e t
+    pub served_read : (May : Request → Refused → Type 0) (Named : Request → List ℕ → Type 0) (Gives : Request → Welcome P → Type 0) (request : Request) (a b : Option (List Request)) (result : Greeted P) → IsServed May Named Gives request w v a b result → result ≡ greeted.ReadFault → ⊥
+    served_read May Named Gives request a b result t e = subst (λ (r : Greeted P). IsServed May Named Gives request w v a b r) e t

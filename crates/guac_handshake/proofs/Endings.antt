@@ -13,8 +13,8 @@ use Rattle.guac_handshake.specs.declared.stop.Stop.{Stop}
 use Rattle.guac_handshake.specs.declared.stop.Stop.TheVariants as stop
 use Rattle.guac_handshake.specs.declared.welcome.Welcome.{Welcome}
 use Rattle.guac_handshake.specs.Asks.{Wish, Refuses, Unfinished, Wants, asks, selected}
-use Rattle.guac_handshake.specs.Doors.{MayRefuse, Sessions, asked_more, logged_for}
-use Rattle.guac_handshake.specs.Greetings.{AskedAsWished, AskedAtMost, AskedOnce, Broken, ByDoor, ByForm, EarlyReply, Ends, HasAsked, IsGreeting, IsReplyTo, IsServed, IsToldError, IsToldReady, NoReply, NotAsked, OutOfForm, ReadyReply, RefusalReply, RefusedEarly, Unasked, Wished}
+use Rattle.guac_handshake.specs.Doors.{MayRefuse, Names, Sessions, asked_more, logged_for}
+use Rattle.guac_handshake.specs.Greetings.{AskedAsWished, AskedAtMost, AskedOnce, Broken, ByDoor, ByForm, EarlyReply, Ends, HasAsked, IsGreeting, IsReplyTo, IsServed, IsToldError, IsToldReady, NoReply, NotAsked, OnReady, OutOfForm, ReadyReply, RefusalReply, RefusedEarly, Unasked, Wished}
 use Rattle.guac_handshake.specs.Statuses.{status_of}
 use Rattle.guac_handshake.specs.Splits.{Splits}
 use Rattle.guac_handshake.specs.Texts.{args_for, error_text, ready_text}
@@ -30,23 +30,25 @@ at_most before now request refused.Forbidden e = AskedOnce e
 at_most before now request refused.TooMany e = AskedOnce e
 at_most before now request refused.Worn e = AskedOnce e
 
--- the door let the viewer in
-pub serve_ok : {P : Type 0} (May : Request → Refused → Type 0) (request : Request) (w v : Option (List ℕ)) (a b : Option (List Request)) (welcome : Welcome P) (result : Greeted P) → b ≡ asked_more a request → IsToldReady welcome w v result → IsServed May request w v a b result
-serve_ok May request w v a b welcome (greeted.Ready other) e t = (t.1, e)
-serve_ok May request w v a b welcome (greeted.Refused status) e t = absurd t
-serve_ok May request w v a b welcome greeted.Ended e t = absurd t
-serve_ok May request w v a b welcome greeted.ReadFault e t = absurd t
-serve_ok May request w v a b welcome greeted.WriteFault e t = (ready_text welcome.id, ReadyReply request welcome.id refl refl, t, AskedOnce e)
-serve_ok May request w v a b welcome greeted.NoMemory e t = (ready_text welcome.id, ReadyReply request welcome.id refl refl, t, AskedOnce e)
+-- the door let the viewer in, and is as it was then where the client was told of it
+pub serve_ok : {P D : Type 0} (May : Request → Refused → Type 0) (Named : Request → List ℕ → Type 0) (Gives : D → Request → Welcome P → Type 0) (d now : D) (request : Request) (w v : Option (List ℕ)) (a b : Option (List Request)) (welcome : Welcome P) (result : Greeted P)
+    → b ≡ asked_more a request → Named request welcome.id → Gives d request welcome → OnReady result (now ≡ d) → IsToldReady welcome w v result → IsServed May Named (Gives now) request w v a b result
+serve_ok {P = P} {D = D} May Named Gives d now request w v a b welcome (greeted.Ready other) e named given same t =
+    (t.1, e, subst (λ (x : D). Gives x request other) (sym same) (subst (λ (x : Welcome P). Gives d request x) (sym t.0) given))
+serve_ok May Named Gives d now request w v a b welcome (greeted.Refused status) e named given same t = absurd t
+serve_ok May Named Gives d now request w v a b welcome greeted.Ended e named given same t = absurd t
+serve_ok May Named Gives d now request w v a b welcome greeted.ReadFault e named given same t = absurd t
+serve_ok May Named Gives d now request w v a b welcome greeted.WriteFault e named given same t = (ready_text welcome.id, ReadyReply request welcome.id refl named refl, t, AskedOnce e)
+serve_ok May Named Gives d now request w v a b welcome greeted.NoMemory e named given same t = (ready_text welcome.id, ReadyReply request welcome.id refl named refl, t, AskedOnce e)
 
 -- the door refused
-pub serve_err : {P : Type 0} (May : Request → Refused → Type 0) (request : Request) (w v : Option (List ℕ)) (a b : Option (List Request)) (r : Refused) (status : ℕ) (result : Greeted P) → May request r → status ≡ status_of r → b ≡ logged_for a request r → IsToldError status w v result → IsServed May request w v a b result
-serve_err May request w v a b r status (greeted.Ready other) may is e t = absurd t
-serve_err May request w v a b r status (greeted.Refused told) may is e t = (r, may, t.0 ∙ is, t.1, e)
-serve_err May request w v a b r status greeted.Ended may is e t = absurd t
-serve_err May request w v a b r status greeted.ReadFault may is e t = absurd t
-serve_err May request w v a b r status greeted.WriteFault may is e t = (error_text status, RefusalReply request r refl may (ap error_text is), t, at_most a b request r e)
-serve_err May request w v a b r status greeted.NoMemory may is e t = (error_text status, RefusalReply request r refl may (ap error_text is), t, at_most a b request r e)
+pub serve_err : {P : Type 0} (May : Request → Refused → Type 0) (Named : Request → List ℕ → Type 0) (Gives : Request → Welcome P → Type 0) (request : Request) (w v : Option (List ℕ)) (a b : Option (List Request)) (r : Refused) (status : ℕ) (result : Greeted P) → May request r → status ≡ status_of r → b ≡ logged_for a request r → IsToldError status w v result → IsServed May Named Gives request w v a b result
+serve_err May Named Gives request w v a b r status (greeted.Ready other) may is e t = absurd t
+serve_err May Named Gives request w v a b r status (greeted.Refused told) may is e t = (r, may, t.0 ∙ is, t.1, e)
+serve_err May Named Gives request w v a b r status greeted.Ended may is e t = absurd t
+serve_err May Named Gives request w v a b r status greeted.ReadFault may is e t = absurd t
+serve_err May Named Gives request w v a b r status greeted.WriteFault may is e t = (error_text status, RefusalReply request r refl may (ap error_text is), t, at_most a b request r e)
+serve_err May Named Gives request w v a b r status greeted.NoMemory may is e t = (error_text status, RefusalReply request r refl may (ap error_text is), t, at_most a b request r e)
 
 -- a text after the parameters
 gained_on : (w m v : Option (List ℕ)) (args text : List ℕ) → m ≡ gained w args → v ≡ gained m text → v ≡ gained w (args ++ text)
@@ -68,33 +70,33 @@ wants_early request rest status (OutOfForm e) = let same : Wants request ≡ Ref
 wants_early request rest status (Broken e is at) = wants_open request e
 
 -- the reply to a request is that to the wish
-reply_to : (May : Request → Refused → Type 0) (wish : Wish) (rest text : List ℕ) (request : Request) → wish ≡ Wants request → IsReplyTo May (Wants request) [] text → IsReplyTo May wish rest text
-reply_to May wish rest text request is (NoReply waits e) = absurd (wants_open request waits)
-reply_to May wish rest text request is (EarlyReply status early e) = absurd (wants_early request [] status early)
-reply_to May wish rest text request is (RefusalReply q r same may e) = RefusalReply q r (is ∙ same) may e
-reply_to May wish rest text request is (ReadyReply q id same e) = ReadyReply q id (is ∙ same) e
+reply_to : (May : Request → Refused → Type 0) (Named : Request → List ℕ → Type 0) (wish : Wish) (rest text : List ℕ) (request : Request) → wish ≡ Wants request → IsReplyTo May Named (Wants request) [] text → IsReplyTo May Named wish rest text
+reply_to May Named wish rest text request is (NoReply waits e) = absurd (wants_open request waits)
+reply_to May Named wish rest text request is (EarlyReply status early e) = absurd (wants_early request [] status early)
+reply_to May Named wish rest text request is (RefusalReply q r same may e) = RefusalReply q r (is ∙ same) may e
+reply_to May Named wish rest text request is (ReadyReply q id same named e) = ReadyReply q id (is ∙ same) named e
 
-ends_served : {P : Type 0} (May : Request → Refused → Type 0) (wish : Wish) (args rest : List ℕ) (left w m v : Option (List ℕ)) (a b : Option (List Request)) (request : Request) (result : Greeted P) → wish ≡ Wants request → m ≡ gained w args → IsServed May request m v a b result → Ends May wish args rest left w v a b result
-ends_served May wish args rest left w m v a b request (greeted.Ready welcome) is e s = (request, is, gained_on w m v args (ready_text welcome.id) e s.0, s.1)
-ends_served May wish args rest left w m v a b request (greeted.Refused status) is e s = (gained_on w m v args (error_text status) e s.3, ByDoor request s.0 is s.1 s.2 s.4)
-ends_served May wish args rest left w m v a b request greeted.Ended is e s = absurd s
-ends_served May wish args rest left w m v a b request greeted.ReadFault is e s = absurd s
-ends_served May wish args rest left w m v a b request greeted.WriteFault is e s = (s.0, reply_to May wish rest s.0 request is s.1, front_on w m v args s.0 e s.2, wished wish a b request is s.3)
-ends_served May wish args rest left w m v a b request greeted.NoMemory is e s = (s.0, reply_to May wish rest s.0 request is s.1, front_on w m v args s.0 e s.2, wished wish a b request is s.3)
+ends_served : {P : Type 0} (May : Request → Refused → Type 0) (Named : Request → List ℕ → Type 0) (Gives : Request → Welcome P → Type 0) (wish : Wish) (args rest : List ℕ) (left w m v : Option (List ℕ)) (a b : Option (List Request)) (request : Request) (result : Greeted P) → wish ≡ Wants request → m ≡ gained w args → IsServed May Named Gives request m v a b result → Ends May Named Gives wish args rest left w v a b result
+ends_served May Named Gives wish args rest left w m v a b request (greeted.Ready welcome) is e s = (request, is, gained_on w m v args (ready_text welcome.id) e s.0, s.1, s.2)
+ends_served May Named Gives wish args rest left w m v a b request (greeted.Refused status) is e s = (gained_on w m v args (error_text status) e s.3, ByDoor request s.0 is s.1 s.2 s.4)
+ends_served May Named Gives wish args rest left w m v a b request greeted.Ended is e s = absurd s
+ends_served May Named Gives wish args rest left w m v a b request greeted.ReadFault is e s = absurd s
+ends_served May Named Gives wish args rest left w m v a b request greeted.WriteFault is e s = (s.0, reply_to May Named wish rest s.0 request is s.1, front_on w m v args s.0 e s.2, wished wish a b request is s.3)
+ends_served May Named Gives wish args rest left w m v a b request greeted.NoMemory is e s = (s.0, reply_to May Named wish rest s.0 request is s.1, front_on w m v args s.0 e s.2, wished wish a b request is s.3)
 
-ends_refused : {P : Type 0} (May : Request → Refused → Type 0) (wish : Wish) (args rest : List ℕ) (left w m v : Option (List ℕ)) (a b : Option (List Request)) (status : ℕ) (result : Greeted P) → RefusedEarly wish rest status → m ≡ gained w args → b ≡ a → IsToldError status m v result → Ends May wish args rest left w v a b result
-ends_refused May wish args rest left w m v a b status (greeted.Ready welcome) early e same t = absurd t
-ends_refused May wish args rest left w m v a b status (greeted.Refused told) early e same t = (gained_on w m v args (error_text told) e t.1, ByForm (subst (λ (s : ℕ). RefusedEarly wish rest s) (sym t.0) early) same)
-ends_refused May wish args rest left w m v a b status greeted.Ended early e same t = absurd t
-ends_refused May wish args rest left w m v a b status greeted.ReadFault early e same t = absurd t
-ends_refused May wish args rest left w m v a b status greeted.WriteFault early e same t = (error_text status, EarlyReply status early refl, front_on w m v args (error_text status) e t, Unasked same)
-ends_refused May wish args rest left w m v a b status greeted.NoMemory early e same t = (error_text status, EarlyReply status early refl, front_on w m v args (error_text status) e t, Unasked same)
+ends_refused : {P : Type 0} (May : Request → Refused → Type 0) (Named : Request → List ℕ → Type 0) (Gives : Request → Welcome P → Type 0) (wish : Wish) (args rest : List ℕ) (left w m v : Option (List ℕ)) (a b : Option (List Request)) (status : ℕ) (result : Greeted P) → RefusedEarly wish rest status → m ≡ gained w args → b ≡ a → IsToldError status m v result → Ends May Named Gives wish args rest left w v a b result
+ends_refused May Named Gives wish args rest left w m v a b status (greeted.Ready welcome) early e same t = absurd t
+ends_refused May Named Gives wish args rest left w m v a b status (greeted.Refused told) early e same t = (gained_on w m v args (error_text told) e t.1, ByForm (subst (λ (s : ℕ). RefusedEarly wish rest s) (sym t.0) early) same)
+ends_refused May Named Gives wish args rest left w m v a b status greeted.Ended early e same t = absurd t
+ends_refused May Named Gives wish args rest left w m v a b status greeted.ReadFault early e same t = absurd t
+ends_refused May Named Gives wish args rest left w m v a b status greeted.WriteFault early e same t = (error_text status, EarlyReply status early refl, front_on w m v args (error_text status) e t, Unasked same)
+ends_refused May Named Gives wish args rest left w m v a b status greeted.NoMemory early e same t = (error_text status, EarlyReply status early refl, front_on w m v args (error_text status) e t, Unasked same)
 
 no_reply : (w m v : Option (List ℕ)) (args : List ℕ) → v ≡ m → GainedFront w m args → GainedFront w v (args ++ [])
 no_reply w m v args written f = subst (λ (l : List ℕ). GainedFront w v l) (sym (append-nil args)) (f.0, f.1, written ∙ f.2)
 
-module _ {P : Type 0} (id_of : List ℕ → Option (List ℕ)) (sessions sessions_new : Option Sessions) (draws : Option (ℕ → List ℕ)) (a b w m v : Option (List ℕ)) (asked_old asked_mid asked_new : Option (List Request)) (unread rest : List ℕ) (empty : unread ≡ []) (same : asked_mid ≡ asked_old) where
-  made : (result : Result Request Stop) (greeted : Greeted P) (h : HasAsked id_of sessions a b w m unread rest result) → Ends (MayRefuse id_of sessions draws sessions_new) (asks h.known h.instructions) (args_for (selected h.known h.instructions)) rest b w v asked_old asked_new greeted → IsGreeting id_of sessions sessions_new draws a b w v asked_old asked_new rest greeted
+module _ {P : Type 0} (id_of : List ℕ → Option (List ℕ)) (sessions sessions_new : Option Sessions) (draws : Option (ℕ → List ℕ)) (gives : Request → Welcome P → Type 0) (a b w m v : Option (List ℕ)) (asked_old asked_mid asked_new : Option (List Request)) (unread rest : List ℕ) (empty : unread ≡ []) (same : asked_mid ≡ asked_old) where
+  made : (result : Result Request Stop) (greeted : Greeted P) (h : HasAsked id_of sessions a b w m unread rest result) → Ends (MayRefuse id_of sessions draws sessions_new) (Names id_of) gives (asks h.known h.instructions) (args_for (selected h.known h.instructions)) rest b w v asked_old asked_new greeted → IsGreeting id_of sessions sessions_new draws gives a b w v asked_old asked_new rest greeted
   made result greeted h ends = record {
     bytes = h.bytes;
     instructions = h.instructions;
@@ -106,34 +108,39 @@ module _ {P : Type 0} (id_of : List ℕ → Option (List ℕ)) (sessions session
     ends = ends;
   }
 
-  pub greeted_ok : (request : Request) (greeted : Greeted P) → HasAsked id_of sessions a b w m unread rest (Ok request) → IsServed (MayRefuse id_of sessions draws sessions_new) request m v asked_mid asked_new greeted → IsGreeting id_of sessions sessions_new draws a b w v asked_old asked_new rest greeted
+  pub greeted_ok : (request : Request) (greeted : Greeted P) → HasAsked id_of sessions a b w m unread rest (Ok request) → IsServed (MayRefuse id_of sessions draws sessions_new) (Names id_of) gives request m v asked_mid asked_new greeted → IsGreeting id_of sessions sessions_new draws gives a b w v asked_old asked_new rest greeted
   greeted_ok request greeted h s = made (Ok request) greeted h
-      (ends_served _ _ _ rest b w m v asked_old asked_new request greeted h.answers h.wrote
-      (subst (λ (x : Option (List Request)). IsServed (MayRefuse id_of sessions draws sessions_new) request m v x asked_new greeted) same s))
+      (ends_served _ _ _ _ _ rest b w m v asked_old asked_new request greeted h.answers h.wrote
+      (subst (λ (x : Option (List Request)). IsServed (MayRefuse id_of sessions draws sessions_new) (Names id_of) gives request m v x asked_new greeted) same s))
 
-  pub greeted_refused : (status : ℕ) (s : Stop) (greeted : Greeted P) → asked_new ≡ asked_mid → HasAsked id_of sessions a b w m unread rest (Err s) → s ≡ stop.Refused status → IsToldError status m v greeted → IsGreeting id_of sessions sessions_new draws a b w v asked_old asked_new rest greeted
+  pub greeted_refused : (status : ℕ) (s : Stop) (greeted : Greeted P) → asked_new ≡ asked_mid → HasAsked id_of sessions a b w m unread rest (Err s) → s ≡ stop.Refused status → IsToldError status m v greeted → IsGreeting id_of sessions sessions_new draws gives a b w v asked_old asked_new rest greeted
   greeted_refused status s greeted kept h0 is t =
       let h = subst (λ (x : Stop). HasAsked id_of sessions a b w m unread rest (Err x)) is h0 in
       made (Err (stop.Refused status)) greeted h
-      (ends_refused _ _ _ rest b w m v asked_old asked_new status greeted h.answers h.wrote (kept ∙ same) t)
+      (ends_refused _ _ _ _ _ rest b w m v asked_old asked_new status greeted h.answers h.wrote (kept ∙ same) t)
 
   module _ (kept : asked_new ≡ asked_mid) (written : v ≡ m) (s : Stop) (h0 : HasAsked id_of sessions a b w m unread rest (Err s)) where
-    pub greeted_ended : s ≡ stop.Ended → IsGreeting {P = P} id_of sessions sessions_new draws a b w v asked_old asked_new rest greeted.Ended
+    pub greeted_ended : s ≡ stop.Ended → IsGreeting {P = P} id_of sessions sessions_new draws gives a b w v asked_old asked_new rest greeted.Ended
     greeted_ended is =
         let h = subst (λ (x : Stop). HasAsked id_of sessions a b w m unread rest (Err x)) is h0 in
         made (Err stop.Ended) greeted.Ended h (h.answers.0, h.answers.1, h.answers.2, written ∙ h.wrote, kept ∙ same)
 
-    pub greeted_unread : s ≡ stop.ReadFault → IsGreeting {P = P} id_of sessions sessions_new draws a b w v asked_old asked_new rest greeted.ReadFault
+    pub greeted_unread : s ≡ stop.ReadFault → IsGreeting {P = P} id_of sessions sessions_new draws gives a b w v asked_old asked_new rest greeted.ReadFault
     greeted_unread is =
         let h = subst (λ (x : Stop). HasAsked id_of sessions a b w m unread rest (Err x)) is h0 in
         made (Err stop.ReadFault) greeted.ReadFault h (h.answers, written ∙ h.wrote, kept ∙ same)
 
-    pub greeted_unwritten : s ≡ stop.WriteFault → IsGreeting {P = P} id_of sessions sessions_new draws a b w v asked_old asked_new rest greeted.WriteFault
+    pub greeted_unwritten : s ≡ stop.WriteFault → IsGreeting {P = P} id_of sessions sessions_new draws gives a b w v asked_old asked_new rest greeted.WriteFault
     greeted_unwritten is =
         let h = subst (λ (x : Stop). HasAsked id_of sessions a b w m unread rest (Err x)) is h0 in
         made (Err stop.WriteFault) greeted.WriteFault h ([], NoReply h.answers refl, no_reply w m v _ written h.wrote, Unasked (kept ∙ same))
 
-    pub greeted_short : s ≡ stop.NoMemory → IsGreeting {P = P} id_of sessions sessions_new draws a b w v asked_old asked_new rest greeted.NoMemory
+    pub greeted_short : s ≡ stop.NoMemory → IsGreeting {P = P} id_of sessions sessions_new draws gives a b w v asked_old asked_new rest greeted.NoMemory
     greeted_short is =
         let h = subst (λ (x : Stop). HasAsked id_of sessions a b w m unread rest (Err x)) is h0 in
         made (Err stop.NoMemory) greeted.NoMemory h ([], NoReply h.answers refl, no_reply w m v _ written h.wrote, Unasked (kept ∙ same))
+
+-- the rest under another name
+pub with_rest : {P : Type 0} (id_of : List ℕ → Option (List ℕ)) (sessions sessions_new : Option Sessions) (draws : Option (ℕ → List ℕ)) (gives : Request → Welcome P → Type 0) (a b w v : Option (List ℕ)) (p q : Option (List Request)) (rest now : List ℕ) (result : Greeted P)
+    → now ≡ rest → IsGreeting id_of sessions sessions_new draws gives a b w v p q rest result → IsGreeting id_of sessions sessions_new draws gives a b w v p q now result
+with_rest id_of sessions sessions_new draws gives a b w v p q rest now result same g = subst (λ (l : List ℕ). IsGreeting id_of sessions sessions_new draws gives a b w v p q l result) (sym same) g

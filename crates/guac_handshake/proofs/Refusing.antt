@@ -9,6 +9,7 @@ use Rattle.guac_handshake.specs.declared.greeted.Greeted.TheVariants as greeted
 use Rattle.guac_handshake.specs.declared.refused.Refused.{Refused}
 use Rattle.guac_handshake.specs.declared.request.Request.{Request}
 use Rattle.guac_handshake.specs.declared.request.Request.TheVariants.{Begin, Join}
+use Rattle.guac_handshake.specs.declared.welcome.Welcome.{Welcome}
 use Rattle.guac_handshake.specs.Asks.{Wants, Wish}
 use Rattle.guac_handshake.specs.Doors.{AreTaken, HasConflict, IsAbsent, MayRefuse, Sessions, at_name}
 use Rattle.guac_handshake.specs.Greetings.{EarlyReply, IsReplyTo, IsServed, NoReply, ReadyReply, RefusalReply}
@@ -40,16 +41,16 @@ may_before id_of o p after d e t same (Begin ask) refusal h =
     (h.0, λ is. let c = h.1 is in (conflict_before o p t c.0, taken_before o p d t (subst (λ (x : Option (ℕ → List ℕ)). AreTaken p x) same c.1)))
 may_before id_of o p after d e t same (Join id role) refusal h = (h.0, absent_before (id_of id) refusal o p t h.1, h.2)
 
-reply_as : (M N : Request → Refused → Type 0) (wish : Wish) (rest text : List ℕ) → ((q : Request) (r : Refused) → M q r → N q r) → IsReplyTo M wish rest text → IsReplyTo N wish rest text
-reply_as M N wish rest text f (NoReply waits e) = NoReply waits e
-reply_as M N wish rest text f (EarlyReply status early e) = EarlyReply status early e
-reply_as M N wish rest text f (RefusalReply q r is may e) = RefusalReply q r is (f q r may) e
-reply_as M N wish rest text f (ReadyReply q id is e) = ReadyReply q id is e
+reply_as : (M N : Request → Refused → Type 0) (Named : Request → List ℕ → Type 0) (wish : Wish) (rest text : List ℕ) → ((q : Request) (r : Refused) → M q r → N q r) → IsReplyTo M Named wish rest text → IsReplyTo N Named wish rest text
+reply_as M N Named wish rest text f (NoReply waits e) = NoReply waits e
+reply_as M N Named wish rest text f (EarlyReply status early e) = EarlyReply status early e
+reply_as M N Named wish rest text f (RefusalReply q r is may e) = RefusalReply q r is (f q r may) e
+reply_as M N Named wish rest text f (ReadyReply q id is named e) = ReadyReply q id is named e
 
-pub served_as : {P : Type 0} (M N : Request → Refused → Type 0) (request : Request) (w v : Option (List ℕ)) (a b : Option (List Request)) (result : Greeted P) → ((q : Request) (r : Refused) → M q r → N q r) → IsServed M request w v a b result → IsServed N request w v a b result
-served_as M N request w v a b (greeted.Ready welcome) f s = s
-served_as M N request w v a b (greeted.Refused status) f s = (s.0, f request s.0 s.1, s.2, s.3, s.4)
-served_as M N request w v a b greeted.Ended f s = s
-served_as M N request w v a b greeted.ReadFault f s = s
-served_as M N request w v a b greeted.WriteFault f s = (s.0, reply_as M N (Wants request) [] s.0 f s.1, s.2, s.3)
-served_as M N request w v a b greeted.NoMemory f s = (s.0, reply_as M N (Wants request) [] s.0 f s.1, s.2, s.3)
+pub served_as : {P : Type 0} (M N : Request → Refused → Type 0) (Named : Request → List ℕ → Type 0) (G : Request → Welcome P → Type 0) (request : Request) (w v : Option (List ℕ)) (a b : Option (List Request)) (result : Greeted P) → ((q : Request) (r : Refused) → M q r → N q r) → IsServed M Named G request w v a b result → IsServed N Named G request w v a b result
+served_as M N Named G request w v a b (greeted.Ready welcome) f s = s
+served_as M N Named G request w v a b (greeted.Refused status) f s = (s.0, f request s.0 s.1, s.2, s.3, s.4)
+served_as M N Named G request w v a b greeted.Ended f s = s
+served_as M N Named G request w v a b greeted.ReadFault f s = s
+served_as M N Named G request w v a b greeted.WriteFault f s = (s.0, reply_as M N Named (Wants request) [] s.0 f s.1, s.2, s.3)
+served_as M N Named G request w v a b greeted.NoMemory f s = (s.0, reply_as M N Named (Wants request) [] s.0 f s.1, s.2, s.3)

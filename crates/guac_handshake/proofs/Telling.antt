@@ -1,5 +1,5 @@
 -- Which refusal of a door a status tells, and what the door tells of it.
-use Rattle.std.proofs.Common.{◌≡◌, ℕ, List, [], ◌∷◌, Option, Some, None, Bool, true, false, refl, sym, subst, inl, inr, ◌⊎◌, drop, length, arith}
+use Rattle.std.proofs.Common.{◌≡◌, ℕ, List, [], ◌∷◌, Option, Some, None, Bool, true, false, refl, ap, sym, subst, inl, inr, ◌⊎◌, drop, length, arith}
 use Rattle.std.specs.Prelude.{IfSome, find, if◌then◌else◌, nat_lt}
 use Rattle.gate_model.specs.session.History.{History}
 use Rattle.gate_model.specs.text.HelloMeaning.{Greeting, Selects, HasSize, Connects, SaysOther, greeting_of}
@@ -15,8 +15,10 @@ use Rattle.guac_handshake.specs.declared.request.Request.{Request}
 use Rattle.guac_handshake.specs.declared.request.Request.TheVariants.{Begin, Join}
 use Rattle.guac_handshake.specs.declared.request.Selected.{Selected}
 use Rattle.guac_handshake.specs.declared.request.Selected.TheVariants.{Telnet, Known}
+use Rattle.guac_handshake.specs.declared.welcome.Welcome.{Welcome}
 use Rattle.guac_handshake.specs.Asks.{Wish, Refuses, asks, asks_behind, asks_first, asks_selected, before_connect, begin_wish, beginning, connect_wish, connects_as, is_connect, join_wish, joining, last_size, most_between, selected_by, selected}
-use Rattle.guac_handshake.specs.Doors.{AreTaken, HasConflict, HasRefused, IsBeginRefusal, IsJoinRefusal, MayRefuse, RefusesAt, Sessions, at_name, refused_of}
+use Rattle.guac_handshake.specs.Causes.{HasCause, IsCaused}
+use Rattle.guac_handshake.specs.Doors.{AreTaken, HasConflict, HasRefused, IsBeginRefusal, IsJoinRefusal, MayRefuse, Names, RefusesAt, Sessions, at_name, refused_of}
 use Rattle.guac_handshake.specs.Greetings.{Broken, ByDoor, ByForm, Ends, IsGreeting, OutOfForm, RefusedEarly, RefusedFor}
 use Rattle.guac_handshake.specs.Statuses.{bad_request, status_of}
 use Rattle.guac_handshake.specs.Texts.{args_for}
@@ -151,20 +153,20 @@ module _ (id_of : List ℕ → Option (List ℕ)) (before after : Option Session
   many_of : (request : Request) (r : Refused) → r ≡ TooMany → MayRefuse id_of before draws after request r → HasRefused after TooMany
   many_of request r is may = refused_as request TooMany (λ x. x) (λ e. cc) (λ e. cc) (subst (MayRefuse id_of before draws after request) is may)
 
-  module _ {P : Type 0} (a b w v : Option (List ℕ)) (p q : Option (List Request)) (rest : List ℕ) (result : Greeted P) (g : IsGreeting id_of before after draws a b w v p q rest result) where
+  module _ {P : Type 0} (gives : Request → Welcome P → Type 0) (a b w v : Option (List ℕ)) (p q : Option (List Request)) (rest : List ℕ) (result : Greeted P) (g : IsGreeting id_of before after draws gives a b w v p q rest result) where
     door_told : (s : ℕ) → (IsFormStatus s → ⊥) → result ≡ greeted.Refused s → (request : Request) × (refusal : Refused) × MayRefuse id_of before draws after request refusal × (s ≡ status_of refusal)
     door_told s other is =
-        let ends = subst (λ (r : Greeted P). Ends (MayRefuse id_of before draws after) (asks g.known g.instructions) (args_for (selected g.known g.instructions)) rest b w v p q r) is g.ends in
+        let ends = subst (λ (r : Greeted P). Ends (MayRefuse id_of before draws after) (Names id_of) gives (asks g.known g.instructions) (args_for (selected g.known g.instructions)) rest b w v p q r) is g.ends in
         by_door (MayRefuse id_of before draws after) (asks g.known g.instructions) rest s p q other (refuses g.known g.instructions s) ends.1
 
     not_form : (s : ℕ) → (s ≡ 516 → ⊥) → (s ≡ 768 → ⊥) → IsFormStatus s → ⊥
     not_form s n f (inl e) = n e
     not_form s n f (inr e) = f e
 
-    pub told_conflict : result ≡ greeted.Refused 517 → HasConflict before × AreTaken before draws
+    told_conflict : result ≡ greeted.Refused 517 → HasConflict before × AreTaken before draws
     told_conflict is = let d = door_told 517 (not_form 517 (λ e. absurd (omega arith)) (λ e. absurd (omega arith))) is in conflict_of d.0 d.1 (conflict_status d.1 (sym d.3)) d.2
 
-    pub told_closed : result ≡ greeted.Refused 523 → HasRefused after Closed ⊎ HasRefused after Worn
+    told_closed : result ≡ greeted.Refused 523 → HasRefused after Closed ⊎ HasRefused after Worn
     told_closed is =
         let d = door_told 523 (not_form 523 (λ e. absurd (omega arith)) (λ e. absurd (omega arith))) is in
         elim (closed_status d.1 (sym d.3)) [
@@ -172,8 +174,25 @@ module _ (id_of : List ℕ → Option (List ℕ)) (before after : Option Session
           | inr e ↦ inr (worn_of d.0 d.1 e d.2)
         ]
 
-    pub told_forbidden : result ≡ greeted.Refused 771 → HasRefused after Forbidden
+    told_forbidden : result ≡ greeted.Refused 771 → HasRefused after Forbidden
     told_forbidden is = let d = door_told 771 (not_form 771 (λ e. absurd (omega arith)) (λ e. absurd (omega arith))) is in forbidden_of d.0 d.1 (forbidden_status d.1 (sym d.3)) d.2
 
-    pub told_many : result ≡ greeted.Refused 797 → HasRefused after TooMany
+    told_many : result ≡ greeted.Refused 797 → HasRefused after TooMany
     told_many is = let d = door_told 797 (not_form 797 (λ e. absurd (omega arith)) (λ e. absurd (omega arith))) is in many_of d.0 d.1 (many_status d.1 (sym d.3)) d.2
+
+  -- the cause of each end, by the greeting and the counts
+  pub caused : {P : Type 0} (gives : Request → Welcome P → Type 0) (a b w v : Option (List ℕ)) (p q : Option (List Request)) (rest : List ℕ) (R W D S : Type 0) (result : Greeted P) → IsGreeting id_of before after draws gives a b w v p q rest result
+      → (result ≡ greeted.ReadFault → R) → (result ≡ greeted.WriteFault → W) → (result ≡ greeted.Refused 519 → D) → (result ≡ greeted.Refused 513 → S) → IsCaused R W (HasCause before after draws D S) result
+  caused gives a b w v p q rest R W D S (greeted.Ready welcome) g r f d s = tt
+  caused gives a b w v p q rest R W D S (greeted.Refused code) g r f d s = record {
+    dial = λ e. d (ap (λ (n : ℕ). greeted.Refused n) e);
+    busy = λ e. s (ap (λ (n : ℕ). greeted.Refused n) e);
+    conflict = λ e. told_conflict gives a b w v p q rest (greeted.Refused code) g (ap (λ (n : ℕ). greeted.Refused n) e);
+    closed = λ e. told_closed gives a b w v p q rest (greeted.Refused code) g (ap (λ (n : ℕ). greeted.Refused n) e);
+    forbidden = λ e. told_forbidden gives a b w v p q rest (greeted.Refused code) g (ap (λ (n : ℕ). greeted.Refused n) e);
+    too_many = λ e. told_many gives a b w v p q rest (greeted.Refused code) g (ap (λ (n : ℕ). greeted.Refused n) e);
+  }
+  caused gives a b w v p q rest R W D S greeted.Ended g r f d s = tt
+  caused gives a b w v p q rest R W D S greeted.ReadFault g r f d s = r refl
+  caused gives a b w v p q rest R W D S greeted.WriteFault g r f d s = f refl
+  caused gives a b w v p q rest R W D S greeted.NoMemory g r f d s = tt

@@ -1,5 +1,5 @@
 -- The sessions that a greeting touches.
-use Rattle.std.proofs.Common.{◌≡◌, ◌≢◌, ℕ, List, Option, Some, None, Ok, Err, Bool, true, false, refl, sym, ◌∙◌, subst, inl, inr}
+use Rattle.std.proofs.Common.{◌≡◌, ◌≢◌, ℕ, List, Option, Some, None, Ok, Err, Bool, true, false, refl, ap, sym, ◌∙◌, subst, inl, inr, arith}
 use Rattle.std.specs.Prelude.{Result, IfErr, IfOk, IfSome, IsSome, OnErr, is_some}
 use Rattle.gate_model.specs.session.History.{History}
 use Rattle.gate_model.specs.declared.sharing.Asked.{Asked}
@@ -9,10 +9,15 @@ use Rattle.guac_handshake.specs.declared.greeted.Greeted.TheVariants as greeted
 use Rattle.guac_handshake.specs.declared.refused.Refused.{Refused}
 use Rattle.guac_handshake.specs.declared.refused.Refused.TheVariants.{Absent, Conflict, Dial, Busy, Closed, Forbidden, TooMany, Worn, NoMemory}
 use Rattle.guac_handshake.specs.declared.request.Request.{Request}
-use Rattle.guac_handshake.specs.declared.request.Request.TheVariants.{Join}
+use Rattle.guac_handshake.specs.declared.request.Request.TheVariants.{Begin, Join}
 use Rattle.guac_handshake.specs.declared.welcome.Welcome.{Welcome}
-use Rattle.guac_handshake.specs.Doors.{AddedOne, IsAbsent, IsJoinRefusal, JoinRefuses, KeepsIds, MayRefuse, MeetsHistory, MeetsTold, RefusesAt, SameId, Sessions, TouchesOne, at_name}
+use Rattle.guac_handshake.specs.Doors.{AddedOne, Grants, IsAbsent, IsJoinRefusal, JoinRefuses, KeepsIds, MayRefuse, MeetsHistory, MeetsTold, Names, RefusesAt, SameId, Sessions, TouchesOne, at_name}
 use Rattle.guac_handshake.specs.Greetings.{HasAnswered, HasTouched, IsToldError, IsToldReady}
+use Rattle.guac_handshake.specs.Opening.{HasMoved}
+use Rattle.guac_handshake.specs.Statuses.{bad_request, status_of}
+use Rattle.guac_handshake.specs.declared.ask.Ask.{Ask}
+use Rattle.guac_handshake.specs.declared.form_refusal.FormRefusal.{FormRefusal}
+use Rattle.guac_handshake.specs.declared.form_refusal.FormRefusal.TheVariants as form
 
 -- what is told of the sessions before and after, and what follows from it
 told_as : (o p : Option Sessions) (P Q : Sessions → Sessions → Type 0) → ((m n : Sessions) → P m n → Q m n) → Told o p P → Told o p Q
@@ -77,6 +82,18 @@ touched_after : (name : Option (List ℕ)) (m n l : Sessions) → Same m n → T
 touched_after name m n l same (inl a) = inl (a.0, a.1, sym (same a.0) ∙ a.2, a.3, λ id ne. a.4 id ne ∙ same id)
 touched_after name m n l same (inr k) = inr (kept_after name m n l same k)
 
+-- no refusal of a door is told as a bad form
+not_bad : (r : Refused) → status_of r ≡ bad_request → ⊥
+not_bad NoMemory e = absurd (omega arith)
+not_bad Busy e = absurd (omega arith)
+not_bad Absent e = absurd (omega arith)
+not_bad Conflict e = absurd (omega arith)
+not_bad Dial e = absurd (omega arith)
+not_bad Closed e = absurd (omega arith)
+not_bad Worn e = absurd (omega arith)
+not_bad Forbidden e = absurd (omega arith)
+not_bad TooMany e = absurd (omega arith)
+
 -- a door that isn't called
 pub told_kept : (name : Option (List ℕ)) (o : Option Sessions) → Told o o (KeepsIds name)
 told_kept name None = tt
@@ -100,19 +117,19 @@ module _ {P : Type 0} (id_of : List ℕ → Option (List ℕ)) (o p : Option Ses
     -- the client was told of a refusal, before the door was asked and after
     pub touched_early : (status : ℕ) (result : Greeted P) → Told o p Same → IsToldError status w v result → Told o p (HasTouched id_of result)
     touched_early status (greeted.Ready welcome) same t = absurd t
-    touched_early status (greeted.Refused told) same t = told_as o p Same (HasTouched {P = P} id_of (greeted.Refused told)) (λ m n h. (None, kept_same None m n h)) same
+    touched_early status (greeted.Refused told) same t = told_as o p Same (HasTouched {P = P} id_of (greeted.Refused told)) (λ m n h. ((None, kept_same None m n h), λ e. h)) same
     touched_early status greeted.Ended same t = absurd t
     touched_early status greeted.ReadFault same t = absurd t
     touched_early status greeted.WriteFault same t = touched_none o p same
     touched_early status greeted.NoMemory same t = touched_none o p same
 
-    pub touched_refused : (status : ℕ) (refusal : Refused) (result : Greeted P) → Told o p (HasAnswered {P = P} id_of (Err refusal)) → IsToldError status w v result → Told o p (HasTouched id_of result)
-    touched_refused status refusal (greeted.Ready welcome) a t = absurd t
-    touched_refused status refusal (greeted.Refused told) a t = told_as o p (HasAnswered {P = P} id_of (Err refusal)) (HasTouched {P = P} id_of (greeted.Refused told)) (λ m n h. h) a
-    touched_refused status refusal greeted.Ended a t = absurd t
-    touched_refused status refusal greeted.ReadFault a t = absurd t
-    touched_refused status refusal greeted.WriteFault a t = told_as o p (HasAnswered {P = P} id_of (Err refusal)) (HasTouched {P = P} id_of greeted.WriteFault) (λ m n h. (h.0, inr h.1)) a
-    touched_refused status refusal greeted.NoMemory a t = told_as o p (HasAnswered {P = P} id_of (Err refusal)) (HasTouched {P = P} id_of greeted.NoMemory) (λ m n h. (h.0, inr h.1)) a
+    pub touched_refused : (status : ℕ) (refusal : Refused) (result : Greeted P) → status ≡ status_of refusal → Told o p (HasAnswered {P = P} id_of (Err refusal)) → IsToldError status w v result → Told o p (HasTouched id_of result)
+    touched_refused status refusal (greeted.Ready welcome) is a t = absurd t
+    touched_refused status refusal (greeted.Refused told) is a t = told_as o p (HasAnswered {P = P} id_of (Err refusal)) (HasTouched {P = P} id_of (greeted.Refused told)) (λ m n h. (h, λ e. absurd (not_bad refusal (sym is ∙ (sym t.0 ∙ e))))) a
+    touched_refused status refusal greeted.Ended is a t = absurd t
+    touched_refused status refusal greeted.ReadFault is a t = absurd t
+    touched_refused status refusal greeted.WriteFault is a t = told_as o p (HasAnswered {P = P} id_of (Err refusal)) (HasTouched {P = P} id_of greeted.WriteFault) (λ m n h. (h.0, inr h.1)) a
+    touched_refused status refusal greeted.NoMemory is a t = told_as o p (HasAnswered {P = P} id_of (Err refusal)) (HasTouched {P = P} id_of greeted.NoMemory) (λ m n h. (h.0, inr h.1)) a
 
   module _ (q : Option Sessions) where
     -- the client was told of its session, or the place went back there
@@ -129,7 +146,7 @@ module _ {P : Type 0} (id_of : List ℕ → Option (List ℕ)) (o p : Option Ses
     -- the door was only looked at before
     pub touched_behind : (result : Greeted P) → Told o p Same → Told p q (HasTouched id_of result) → Told o q (HasTouched id_of result)
     touched_behind (greeted.Ready welcome) s t = told_on o p q Same (HasTouched id_of (greeted.Ready welcome)) (HasTouched id_of (greeted.Ready welcome)) (λ m n l h g. touched_after (id_of welcome.id) m n l h g) s t
-    touched_behind (greeted.Refused status) s t = told_on o p q Same (HasTouched {P = P} id_of (greeted.Refused status)) (HasTouched {P = P} id_of (greeted.Refused status)) (λ m n l h g. (g.0, kept_after g.0 m n l h g.1)) s t
+    touched_behind (greeted.Refused status) s t = told_on o p q Same (HasTouched {P = P} id_of (greeted.Refused status)) (HasTouched {P = P} id_of (greeted.Refused status)) (λ m n l h g. ((g.0.0, kept_after g.0.0 m n l h g.0.1), λ e k. g.1 e k ∙ h k)) s t
     touched_behind greeted.Ended s t = told_on o p q Same (HasTouched {P = P} id_of greeted.Ended) (HasTouched {P = P} id_of greeted.Ended) (λ m n l h g. λ k. g k ∙ h k) s t
     touched_behind greeted.ReadFault s t = told_on o p q Same (HasTouched {P = P} id_of greeted.ReadFault) (HasTouched {P = P} id_of greeted.ReadFault) (λ m n l h g. λ k. g k ∙ h k) s t
     touched_behind greeted.WriteFault s t = told_on o p q Same (HasTouched {P = P} id_of greeted.WriteFault) (HasTouched {P = P} id_of greeted.WriteFault) (λ m n l h g. (g.0, touched_after g.0 m n l h g.1)) s t
@@ -191,3 +208,27 @@ join_refuses {A = A} name (Some m) (Some n) role (Err r) is absent kept meets =
 pub join_may : {A : Type 0} (id_of : List ℕ → Option (List ℕ)) (o p : Option Sessions) (draws : Option (ℕ → List ℕ)) (request : Request) (id name : List ℕ) (role : Asked) (result : Result A Refused) → request ≡ Join id role → name ≡ id → IfErr result (JoinRefuses (id_of name) o p role) → IfErr result (MayRefuse id_of o draws p request)
 join_may id_of o p draws request id name role result is same h =
     subst (λ (q : Request). IfErr result (MayRefuse id_of o draws p q)) (sym is) (subst (λ (n : List ℕ). IfErr result (JoinRefuses (id_of n) o p role)) same h)
+
+-- ---- what a door says of itself once it gave a welcome
+
+pub begin_granted : {P : Type 0} (id_of : List ℕ → Option (List ℕ)) (begun : Ask → Welcome P → Type 0) (joined : Asked → Welcome P → Type 0) (request : Request) (ask : Ask) (result : Result (Welcome P) Refused) → request ≡ Begin ask → IfOk result (λ welcome. begun ask welcome)
+    → IfOk result (λ welcome. Grants id_of begun joined request welcome)
+begin_granted id_of begun joined request ask (Ok welcome) is h = subst (λ (q : Request). Grants id_of begun joined q welcome) (sym is) h
+begin_granted id_of begun joined request ask (Err refused) is h = tt
+
+pub join_granted : {P : Type 0} (id_of : List ℕ → Option (List ℕ)) (begun : Ask → Welcome P → Type 0) (joined : Asked → Welcome P → Type 0) (request : Request) (id name : List ℕ) (role : Asked) (result : Result (Welcome P) Refused) → request ≡ Join id role → name ≡ id → IfOk result (λ welcome. id_of welcome.id ≡ id_of name)
+    → IfOk result (λ welcome. joined role welcome) → IfOk result (λ welcome. Grants id_of begun joined request welcome)
+join_granted id_of begun joined request id name role (Ok welcome) is same named h = subst (λ (q : Request). Grants id_of begun joined q welcome) (sym is) (named ∙ ap id_of same, h)
+join_granted id_of begun joined request id name role (Err refused) is same named h = tt
+
+pub granted_named : {P : Type 0} (id_of : List ℕ → Option (List ℕ)) (begun : Ask → Welcome P → Type 0) (joined : Asked → Welcome P → Type 0) (request : Request) (welcome : Welcome P) → Grants id_of begun joined request welcome → Names id_of request welcome.id
+granted_named id_of begun joined (Begin ask) welcome h = tt
+granted_named id_of begun joined (Join name role) welcome h = h.0
+
+-- ---- a form
+
+-- the door wasn't asked
+pub moved_none : (P : Type 0) (id_of : List ℕ → Option (List ℕ)) (o p : Option Sessions) (r : FormRefusal) → Told o p Same → Told o p (HasMoved {P = P} id_of (Err r))
+moved_none P id_of o p form.Form same = same
+moved_none P id_of o p form.NoMemory same = same
+moved_none P id_of o p (form.Door refused) same = told_as o p Same (HasMoved {P = P} id_of (Err (form.Door refused))) (λ m n h. (None, kept_same None m n h)) same

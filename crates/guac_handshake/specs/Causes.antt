@@ -1,7 +1,11 @@
--- Why a greeting ends: what a reading may end with, and what a welcome tells (this project's own).
-use Rattle.std.specs.Prelude.{◌≡◌, ◌⊎◌}
+-- Why a greeting ends: what a reading may end with, and what stands behind each end of the whole (this project's own).
+use Rattle.std.specs.Prelude.{◌≡◌, ◌⊎◌, ℕ, List, Option}
+use Rattle.guac_handshake.specs.declared.greeted.Greeted.{Greeted}
+use Rattle.guac_handshake.specs.declared.greeted.Greeted.TheVariants as greeted
+use Rattle.guac_handshake.specs.declared.refused.Refused.TheVariants as refused
 use Rattle.guac_handshake.specs.declared.stop.Stop.{Stop}
 use Rattle.guac_handshake.specs.declared.stop.Stop.TheVariants.{Refused, Ended, ReadFault, WriteFault, NoMemory}
+use Rattle.guac_handshake.specs.Doors.{AreTaken, HasConflict, HasRefused, Sessions}
 use Rattle.guac_handshake.specs.Statuses.{bad_request, not_found}
 
 -- before the door is asked, the only statuses are those of an unknown name and of a bad form; and a write failed
@@ -12,3 +16,22 @@ IsEarly Cause Ended = Unit {0}
 IsEarly Cause ReadFault = Unit {0}
 IsEarly Cause WriteFault = Cause
 IsEarly Cause NoMemory = Unit {0}
+
+-- what stands behind the code by which a client is told a door's refusal: the count of dials or that of starts rose, an ID
+-- was there and the next four draws were, or the rules after a session's history refuse a joiner so
+pub record HasCause (sessions sessions_new : Option Sessions) (draws : Option (ℕ → List ℕ)) (dialed started : Type 0) (code : ℕ) : Type 0 where
+  pub dial : code ≡ 519 → dialed
+  pub busy : code ≡ 513 → started
+  pub conflict : code ≡ 517 → HasConflict sessions × AreTaken sessions draws
+  pub closed : code ≡ 523 → HasRefused sessions_new refused.Closed ⊎ HasRefused sessions_new refused.Worn
+  pub forbidden : code ≡ 771 → HasRefused sessions_new refused.Forbidden
+  pub too_many : code ≡ 797 → HasRefused sessions_new refused.TooMany
+
+-- why a greeting ended so: a read or a write failed, or what stands behind the code of a refusal
+abbrev pub IsCaused : {P : Type 0} → Type 0 → Type 0 → (ℕ → Type 0) → Greeted P → Type 0
+IsCaused read_failed write_failed refuses (greeted.Ready welcome) = Unit {0}
+IsCaused read_failed write_failed refuses (greeted.Refused code) = refuses code
+IsCaused read_failed write_failed refuses greeted.Ended = Unit {0}
+IsCaused read_failed write_failed refuses greeted.ReadFault = read_failed
+IsCaused read_failed write_failed refuses greeted.WriteFault = write_failed
+IsCaused read_failed write_failed refuses greeted.NoMemory = Unit {0}

@@ -12,10 +12,12 @@ use Rattle.gate_model.specs.declared.sharing.Asked.{Asked}
 use Rattle.gate_model.specs.declared.sharing.Role.{Role}
 use Rattle.id_table.specs.Draws.{nth_id}
 use Rattle.id_table.specs.Maps.{Map}
+use Rattle.guac_handshake.specs.declared.ask.Ask.{Ask}
 use Rattle.guac_handshake.specs.declared.refused.Refused.{Refused}
 use Rattle.guac_handshake.specs.declared.refused.Refused.TheVariants.{Absent, Conflict, Dial, Busy, Closed, Forbidden, TooMany, Worn, NoMemory}
 use Rattle.guac_handshake.specs.declared.request.Request.{Request}
 use Rattle.guac_handshake.specs.declared.request.Request.TheVariants.{Begin, Join}
+use Rattle.guac_handshake.specs.declared.welcome.Welcome.{Welcome}
 
 -- the sessions by ID, each with its history, where that is told
 abbrev pub Sessions : Type 0
@@ -222,3 +224,14 @@ HasRefused after refusal =
 abbrev pub MayRefuse : (List ℕ → Option (List ℕ)) → Option Sessions → Option (ℕ → List ℕ) → Option Sessions → Request → Refused → Type 0
 MayRefuse id_of before draws after (Begin ask) refusal = BeginRefuses before draws refusal
 MayRefuse id_of before draws after (Join name role) refusal = JoinRefuses (id_of name) before after role refusal
+
+-- the ID by which a client may be told of what it asked for: where it joins, that of the session that it named
+abbrev pub Names : (List ℕ → Option (List ℕ)) → Request → List ℕ → Type 0
+Names id_of (Begin ask) id = Unit {0}
+Names id_of (Join name role) id = id_of id ≡ id_of name
+
+-- what a door says of itself once it gave a welcome to who asked for this: of a session, that it began as it was asked; of
+-- a place, that it is one in the session of the ID that was asked for, of a viewer that joined as it asked
+abbrev pub Grants : {P : Type 0} → (List ℕ → Option (List ℕ)) → (Ask → Welcome P → Type 0) → (Asked → Welcome P → Type 0) → Request → Welcome P → Type 0
+Grants id_of begun joined (Begin ask) welcome = begun ask welcome
+Grants id_of begun joined (Join name role) welcome = (id_of welcome.id ≡ id_of name) × joined role welcome

@@ -15,7 +15,7 @@ use Rattle.guac_handshake.specs.declared.stop.Stop.TheVariants as stop
 use Rattle.guac_handshake.specs.declared.welcome.Welcome.{Welcome}
 use Rattle.guac_handshake.specs.Asks.{ReadsNoFurther, Wish, Unfinished, Wants, Refuses, asks, asks_behind, selected, selected_by}
 use Rattle.id_table.specs.Maps.{Same}
-use Rattle.guac_handshake.specs.Doors.{KeepsIds, MayRefuse, Sessions, TouchesOne, asked_more, at_name, logged_for, option_less}
+use Rattle.guac_handshake.specs.Doors.{KeepsIds, MayRefuse, Names, Sessions, TouchesOne, asked_more, at_name, logged_for, option_less}
 use Rattle.guac_handshake.specs.Splits.{Splits}
 use Rattle.guac_handshake.specs.Statuses.{bad_request, not_found, status_of}
 use Rattle.guac_handshake.specs.Texts.{args_for, error_text, ready_text}
@@ -110,12 +110,12 @@ pub record HasAsked (id_of : List ℕ → Option (List ℕ)) (sessions : Option 
   pub wrote : WroteArgs (args_for (selected known instructions)) written_old written_new result
 
 -- the whole answer that is due to a client: none while what it asks is open, an error where that is refused early, and for
--- a request the error of a refusal that the door may give, or `ready`
-pub data IsReplyTo (May : Request → Refused → Type 0) (wish : Wish) (rest text : List ℕ) : Type 0 where
-  NoReply : wish ≡ Unfinished → text ≡ [] → IsReplyTo May wish rest text
-  EarlyReply : (status : ℕ) → RefusedEarly wish rest status → text ≡ error_text status → IsReplyTo May wish rest text
-  RefusalReply : (request : Request) (refusal : Refused) → wish ≡ Wants request → May request refusal → text ≡ error_text (status_of refusal) → IsReplyTo May wish rest text
-  ReadyReply : (request : Request) (id : List ℕ) → wish ≡ Wants request → text ≡ ready_text id → IsReplyTo May wish rest text
+-- a request the error of a refusal that the door may give, or `ready` with an ID that names what was asked
+pub data IsReplyTo (May : Request → Refused → Type 0) (Named : Request → List ℕ → Type 0) (wish : Wish) (rest text : List ℕ) : Type 0 where
+  NoReply : wish ≡ Unfinished → text ≡ [] → IsReplyTo May Named wish rest text
+  EarlyReply : (status : ℕ) → RefusedEarly wish rest status → text ≡ error_text status → IsReplyTo May Named wish rest text
+  RefusalReply : (request : Request) (refusal : Refused) → wish ≡ Wants request → May request refusal → text ≡ error_text (status_of refusal) → IsReplyTo May Named wish rest text
+  ReadyReply : (request : Request) (id : List ℕ) → wish ≡ Wants request → Named request id → text ≡ ready_text id → IsReplyTo May Named wish rest text
 
 -- a door was asked this once, or not at all
 pub data AskedAtMost (before now : Option (List Request)) (request : Request) : Type 0 where
@@ -123,13 +123,13 @@ pub data AskedAtMost (before now : Option (List Request)) (request : Request) : 
   AskedOnce : now ≡ asked_more before request → AskedAtMost before now request
 
 -- a door's answer to a request, refused only as it may, was told to the client, or a write failed, or memory was wanting
-abbrev pub IsServed : {P : Type 0} → (Request → Refused → Type 0) → Request → Option (List ℕ) → Option (List ℕ) → Option (List Request) → Option (List Request) → Greeted P → Type 0
-IsServed May request before now asked_before asked_now (greeted.Ready welcome) = (now ≡ gained before (ready_text welcome.id)) × (asked_now ≡ asked_more asked_before request)
-IsServed May request before now asked_before asked_now (greeted.Refused status) = (refusal : Refused) × May request refusal × (status ≡ status_of refusal) × (now ≡ gained before (error_text status)) × (asked_now ≡ logged_for asked_before request refusal)
-IsServed May request before now asked_before asked_now greeted.Ended = ⊥
-IsServed May request before now asked_before asked_now greeted.ReadFault = ⊥
-IsServed May request before now asked_before asked_now greeted.WriteFault = (text : List ℕ) × IsReplyTo May (Wants request) [] text × GainedFront before now text × AskedAtMost asked_before asked_now request
-IsServed May request before now asked_before asked_now greeted.NoMemory = (text : List ℕ) × IsReplyTo May (Wants request) [] text × GainedFront before now text × AskedAtMost asked_before asked_now request
+abbrev pub IsServed : {P : Type 0} → (Request → Refused → Type 0) → (Request → List ℕ → Type 0) → (Request → Welcome P → Type 0) → Request → Option (List ℕ) → Option (List ℕ) → Option (List Request) → Option (List Request) → Greeted P → Type 0
+IsServed May Named Gives request before now asked_before asked_now (greeted.Ready welcome) = (now ≡ gained before (ready_text welcome.id)) × (asked_now ≡ asked_more asked_before request) × Gives request welcome
+IsServed May Named Gives request before now asked_before asked_now (greeted.Refused status) = (refusal : Refused) × May request refusal × (status ≡ status_of refusal) × (now ≡ gained before (error_text status)) × (asked_now ≡ logged_for asked_before request refusal)
+IsServed May Named Gives request before now asked_before asked_now greeted.Ended = ⊥
+IsServed May Named Gives request before now asked_before asked_now greeted.ReadFault = ⊥
+IsServed May Named Gives request before now asked_before asked_now greeted.WriteFault = (text : List ℕ) × IsReplyTo May Named (Wants request) [] text × GainedFront before now text × AskedAtMost asked_before asked_now request
+IsServed May Named Gives request before now asked_before asked_now greeted.NoMemory = (text : List ℕ) × IsReplyTo May Named (Wants request) [] text × GainedFront before now text × AskedAtMost asked_before asked_now request
 
 -- the places that are out: one more where the client was told its own
 abbrev pub HasOut : {P : Type 0} → Option ℕ → Option ℕ → Greeted P → Type 0
@@ -147,10 +147,10 @@ HasAnswered id_of (Ok welcome) m n = TouchesOne (id_of welcome.id) m n
 HasAnswered id_of (Err refusal) m n = (name : Option (List ℕ)) × KeepsIds name m n
 
 -- the sessions that a greeting touched: one at most, that of the welcome where the client was told of it; so a place of
--- which it couldn't be told went back to the session that gave it
+-- which it couldn't be told went back to the session that gave it. Where what it asks is out of form the door wasn't asked
 abbrev pub HasTouched : {P : Type 0} → (List ℕ → Option (List ℕ)) → Greeted P → Sessions → Sessions → Type 0
 HasTouched id_of (greeted.Ready welcome) m n = TouchesOne (id_of welcome.id) m n
-HasTouched id_of (greeted.Refused status) m n = (name : Option (List ℕ)) × KeepsIds name m n
+HasTouched id_of (greeted.Refused status) m n = ((name : Option (List ℕ)) × KeepsIds name m n) × (status ≡ bad_request → Same m n)
 HasTouched id_of greeted.Ended m n = Same m n
 HasTouched id_of greeted.ReadFault m n = Same m n
 HasTouched id_of greeted.WriteFault m n = (name : Option (List ℕ)) × TouchesOne name m n
@@ -191,6 +191,15 @@ HasKept before now greeted.ReadFault = now ≡ option_less before
 HasKept before now greeted.WriteFault = now ≡ option_less before
 HasKept before now greeted.NoMemory = now ≡ option_less before
 
+-- a fact of the end at which the client was told of its session
+abbrev pub OnReady : {P : Type 0} → Greeted P → Type 0 → Type 0
+OnReady (greeted.Ready welcome) F = F
+OnReady (greeted.Refused status) F = Unit {0}
+OnReady greeted.Ended F = Unit {0}
+OnReady greeted.ReadFault F = Unit {0}
+OnReady greeted.WriteFault F = Unit {0}
+OnReady greeted.NoMemory F = Unit {0}
+
 -- a fact of the welcome
 abbrev pub IfReady : {P : Type 0} → Greeted P → (P → List ℕ → Type 0) → Type 0
 IfReady (greeted.Ready welcome) F = F welcome.place welcome.first
@@ -210,18 +219,19 @@ pub data AskedAsWished (wish : Wish) (asked_before asked_now : Option (List Requ
   Unasked : asked_now ≡ asked_before → AskedAsWished wish asked_before asked_now
   Wished : (request : Request) → wish ≡ Wants request → asked_now ≡ asked_more asked_before request → AskedAsWished wish asked_before asked_now
 
--- how a greeting ended, by what a door may refuse, and what was wished, left unread, written and asked
-abbrev pub Ends : {P : Type 0} → (Request → Refused → Type 0) → Wish → List ℕ → List ℕ → Option (List ℕ) → Option (List ℕ) → Option (List ℕ) → Option (List Request) → Option (List Request) → Greeted P → Type 0
-Ends May wish args rest left before now asked_before asked_now (greeted.Ready welcome) = (request : Request) × (wish ≡ Wants request) × (now ≡ gained before (args ++ ready_text welcome.id)) × (asked_now ≡ asked_more asked_before request)
-Ends May wish args rest left before now asked_before asked_now (greeted.Refused status) = (now ≡ gained before (args ++ error_text status)) × RefusedFor May wish rest status asked_before asked_now
-Ends May wish args rest left before now asked_before asked_now greeted.Ended = (wish ≡ Unfinished) × IsUnfinished rest × AtEnd left × (now ≡ gained before args) × (asked_now ≡ asked_before)
-Ends May wish args rest left before now asked_before asked_now greeted.ReadFault = (wish ≡ Unfinished) × (now ≡ gained before args) × (asked_now ≡ asked_before)
-Ends May wish args rest left before now asked_before asked_now greeted.WriteFault = (text : List ℕ) × IsReplyTo May wish rest text × GainedFront before now (args ++ text) × AskedAsWished wish asked_before asked_now
-Ends May wish args rest left before now asked_before asked_now greeted.NoMemory = (text : List ℕ) × IsReplyTo May wish rest text × GainedFront before now (args ++ text) × AskedAsWished wish asked_before asked_now
+-- how a greeting ended, by what a door may refuse and what it says where it gives, and what was wished, left unread, written
+-- and asked
+abbrev pub Ends : {P : Type 0} → (Request → Refused → Type 0) → (Request → List ℕ → Type 0) → (Request → Welcome P → Type 0) → Wish → List ℕ → List ℕ → Option (List ℕ) → Option (List ℕ) → Option (List ℕ) → Option (List Request) → Option (List Request) → Greeted P → Type 0
+Ends May Named Gives wish args rest left before now asked_before asked_now (greeted.Ready welcome) = (request : Request) × (wish ≡ Wants request) × (now ≡ gained before (args ++ ready_text welcome.id)) × (asked_now ≡ asked_more asked_before request) × Gives request welcome
+Ends May Named Gives wish args rest left before now asked_before asked_now (greeted.Refused status) = (now ≡ gained before (args ++ error_text status)) × RefusedFor May wish rest status asked_before asked_now
+Ends May Named Gives wish args rest left before now asked_before asked_now greeted.Ended = (wish ≡ Unfinished) × IsUnfinished rest × AtEnd left × (now ≡ gained before args) × (asked_now ≡ asked_before)
+Ends May Named Gives wish args rest left before now asked_before asked_now greeted.ReadFault = (wish ≡ Unfinished) × (now ≡ gained before args) × (asked_now ≡ asked_before)
+Ends May Named Gives wish args rest left before now asked_before asked_now greeted.WriteFault = (text : List ℕ) × IsReplyTo May Named wish rest text × GainedFront before now (args ++ text) × AskedAsWished wish asked_before asked_now
+Ends May Named Gives wish args rest left before now asked_before asked_now greeted.NoMemory = (text : List ℕ) × IsReplyTo May Named wish rest text × GainedFront before now (args ++ text) × AskedAsWished wish asked_before asked_now
 
 -- a greeting: the bytes that it read are these instructions, none behind those that settle what is asked, and then the
 -- rest; and it asked, wrote and ended by them
-pub record IsGreeting {P : Type 0} (id_of : List ℕ → Option (List ℕ)) (sessions sessions_new : Option Sessions) (draws : Option (ℕ → List ℕ)) (left_old left_new written_old written_new : Option (List ℕ)) (asked_old asked_new : Option (List Request)) (rest : List ℕ) (result : Greeted P) : Type 0 where
+pub record IsGreeting {P : Type 0} (id_of : List ℕ → Option (List ℕ)) (sessions sessions_new : Option Sessions) (draws : Option (ℕ → List ℕ)) (gives : Request → Welcome P → Type 0) (left_old left_new written_old written_new : Option (List ℕ)) (asked_old asked_new : Option (List Request)) (rest : List ℕ) (result : Greeted P) : Type 0 where
   pub bytes : List ℕ
   pub instructions : List (List (List ℕ))
   pub known : Bool
@@ -229,4 +239,4 @@ pub record IsGreeting {P : Type 0} (id_of : List ℕ → Option (List ℕ)) (ses
   pub split : Splits bytes instructions rest
   pub no_further : ReadsNoFurther (asks known) instructions
   pub looked : IsLook id_of sessions known instructions
-  pub ends : Ends (MayRefuse id_of sessions draws sessions_new) (asks known instructions) (args_for (selected known instructions)) rest left_new written_old written_new asked_old asked_new result
+  pub ends : Ends (MayRefuse id_of sessions draws sessions_new) (Names id_of) gives (asks known instructions) (args_for (selected known instructions)) rest left_new written_old written_new asked_old asked_new result

@@ -1,6 +1,7 @@
 -- What a door was asked by a form, and what it answered (this project's own).
 use Rattle.std.specs.Prelude.{◌≡◌, ◌⊎◌, ◌+◌, ℕ, List, Bool, true, false, Option, IfSome, Result, Ok, Err, is_some}
 use Rattle.std.specs.Option.{option_map}
+use Rattle.id_table.specs.Maps.{Same}
 use Rattle.guac_handshake.specs.Doors.{KeepsIds, MayRefuse, Sessions, TouchesOne, asked_more, at_name, logged_for}
 use Rattle.guac_handshake.specs.Forms.{IsForm, IsNoForm}
 use Rattle.guac_handshake.specs.declared.form_refusal.FormRefusal.{FormRefusal}
@@ -23,16 +24,19 @@ IsRefusedBy id_of sessions May before now request refused =
 
 -- the form asks something of the door, which answered so; or it is out of form, or memory was wanting, and the door
 -- wasn't asked
-abbrev pub HasOpened : {P : Type 0} → (List ℕ → Option (List ℕ)) → Option Sessions → Option Sessions → Option (ℕ → List ℕ) → Option (List Request) → Option (List Request) → List ℕ → Result (Welcome P) FormRefusal → Type 0
-HasOpened id_of sessions sessions_new draws before now body (Ok welcome) = (request : Request) × IsForm body request × (now ≡ asked_more before request)
-HasOpened id_of sessions sessions_new draws before now body (Err refusal.Form) = IsNoForm body × (now ≡ before)
-HasOpened id_of sessions sessions_new draws before now body (Err refusal.NoMemory) = now ≡ before
-HasOpened id_of sessions sessions_new draws before now body (Err (refusal.Door refused)) = (request : Request) × IsForm body request × IsRefusedBy id_of sessions (MayRefuse id_of sessions draws sessions_new) before now request refused
+abbrev pub HasOpened : {P : Type 0} → (List ℕ → Option (List ℕ)) → Option Sessions → Option Sessions → Option (ℕ → List ℕ) → (Request → Welcome P → Type 0) → Option (List Request) → Option (List Request) → List ℕ → Result (Welcome P) FormRefusal → Type 0
+HasOpened id_of sessions sessions_new draws gives before now body (Ok welcome) = (request : Request) × IsForm body request × (now ≡ asked_more before request) × gives request welcome
+HasOpened id_of sessions sessions_new draws gives before now body (Err refusal.Form) = IsNoForm body × (now ≡ before)
+HasOpened id_of sessions sessions_new draws gives before now body (Err refusal.NoMemory) = now ≡ before
+HasOpened id_of sessions sessions_new draws gives before now body (Err (refusal.Door refused)) = (request : Request) × IsForm body request × IsRefusedBy id_of sessions (MayRefuse id_of sessions draws sessions_new) before now request refused
 
--- the sessions that it touched: that of the welcome; without one, no session is there that wasn't
+-- the sessions that it touched: that of the welcome; without one, no session is there that wasn't, and where the door
+-- wasn't asked each is as it was
 abbrev pub HasMoved : {P : Type 0} → (List ℕ → Option (List ℕ)) → Result (Welcome P) FormRefusal → Sessions → Sessions → Type 0
 HasMoved id_of (Ok welcome) m n = TouchesOne (id_of welcome.id) m n
-HasMoved id_of (Err refused) m n = (name : Option (List ℕ)) × KeepsIds name m n
+HasMoved id_of (Err refusal.Form) m n = Same m n
+HasMoved id_of (Err refusal.NoMemory) m n = Same m n
+HasMoved id_of (Err (refusal.Door refused)) m n = (name : Option (List ℕ)) × KeepsIds name m n
 
 -- a place more is out where one was given
 abbrev pub with_opened : {P : Type 0} → Result (Welcome P) FormRefusal → Option ℕ → Option ℕ

@@ -2,7 +2,7 @@
 
 ghost use Rattle.std.specs.Prelude.{◌≡◌, ◌≤◌, IfErr, IfOk};
 ghost use Rattle.gate_outside.specs.Edge.{Rose};
-ghost use Rattle.guac_handshake.specs.Doors.{IsBusy, IsDial, MayRefuse, logged, one_more_out};
+ghost use Rattle.guac_handshake.specs.Doors.{Grants, IsBusy, IsDial, MayRefuse, logged, one_more_out};
 ghost use Rattle.guac_handshake.specs.Greetings.{HasAnswered};
 ghost use Rattle.id_table.specs.Maps.{Told};
 
@@ -27,6 +27,7 @@ pub(crate) fn ask<R: Threads + Wait + Copy + Send + 'static, D: Door>(
     ensures later_dials { D.dial_faults door.old ≤ D.dial_faults door.new }
     ensures later_starts { D.start_faults door.old ≤ D.start_faults door.new }
     ensures fresh { IfOk result (λ welcome. D.Place.fresh welcome.place welcome.first) }
+    ensures granted { IfOk result (λ welcome. Grants D.id_of (D.begun door.new) (D.joined door.new) request.now welcome) }
 {
     match request {
         Request::Begin(ask) => door.begin(rt, alloc, ask),

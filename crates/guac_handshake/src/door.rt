@@ -2,6 +2,7 @@ ghost use Rattle.std.specs.Prelude.{◌≡◌, ◌≤◌, ◌-◌, ◌+◌, ℕ,
 ghost use Rattle.gate_outside.specs.Edge.{Rose};
 ghost use Rattle.id_table.specs.Maps.{Map, Same, Told};
 ghost use Rattle.gate_model.specs.session.History.{History};
+ghost use Rattle.gate_model.specs.declared.sharing.Asked.{Asked};
 ghost use Rattle.guac_handshake.specs.Doors.{AddedOne, HasConflict, IsAbsent, IsBeginRefusal, IsBusy, IsConflict, IsDial, IsJoinRefusal, IsOpenRefusal, KeepsIds, MeetsHistory, RemovedOne, TellsConflict, at_name, logged, one_more_out, option_less};
 ghost use Rattle.guac_handshake.specs.declared.ask.Ask.{Ask};
 ghost use Rattle.guac_handshake.specs.declared.request.Request.{Request};
@@ -44,6 +45,9 @@ pub trait Door: Counted {
 
     /// What the door says of itself once it has begun the session of this welcome, as the ask wants it.
     ghost begun: { Self → Ask → Welcome Self.Place → Type 0 };
+
+    /// What the door says of itself once a viewer that asked for this has joined, who has this welcome.
+    ghost joined: { Self → Asked → Welcome Self.Place → Type 0 };
 
     /// Whether there is a session of the ID that the name gives.
     fn known<R: Wait>(&mut self, rt: &R, name: &str) -> bool
@@ -173,7 +177,8 @@ pub trait Door: Counted {
         ensures ids { Told (sessions self.old) (sessions self.new) (KeepsIds (id_of name.now)) }
         ensures history { IfSome (sessions self.new) (λ n. MeetsHistory (at_name (id_of name.now) n) role result) }
         ensures out { out self.new ≡ one_more_out result (out self.old) }
-        ensures asked { asked self.new ≡ logged (asked self.old) (join_request name.now role) result };
+        ensures asked { asked self.new ≡ logged (asked self.old) (join_request name.now role) result }
+        ensures granted { IfOk result (λ welcome. joined self.new role welcome) };
 
     /// Takes back a place that was handed out with that ID.
     fn give<R: Wait>(&mut self, rt: &R, id: &str, place: Self::Place)

@@ -1,12 +1,11 @@
 //! The handshake.
 
-ghost use Rattle.std.specs.Prelude.{◌≡◌, ◌<◌, ◌≤◌, ◌⊎◌, [], IfErr, IfOk, length};
+ghost use Rattle.std.specs.Prelude.{◌≡◌, ◌<◌, ◌≤◌, [], IfErr, IfOk, length};
 ghost use Rattle.gate_outside.specs.Edge.{Rose};
-ghost use Rattle.guac_handshake.specs.Causes.{IsEarly};
-ghost use Rattle.guac_handshake.specs.Doors.{AreTaken, HasConflict, HasRefused, IsBusy, IsDial, KeepsIds, MayRefuse, logged, one_more_out};
+ghost use Rattle.guac_handshake.specs.Causes.{HasCause, IsCaused, IsEarly};
+ghost use Rattle.guac_handshake.specs.Doors.{Grants, IsBusy, IsDial, KeepsIds, MayRefuse, Names, logged, one_more_out};
 ghost use Rattle.id_table.specs.Maps.{Same, Told};
-ghost use Rattle.guac_handshake.specs.declared.refused.Refused.TheVariants.{Closed, Forbidden, TooMany, Worn};
-ghost use Rattle.guac_handshake.specs.Greetings.{HasAnswered, HasAsked, HasConnected, HasKept, HasOut, HasSelected, HasTouched, IfReady, IsFound, IsGreeting, IsServed, IsToldError, IsToldReady, stopped_as};
+ghost use Rattle.guac_handshake.specs.Greetings.{HasAnswered, HasAsked, HasConnected, HasKept, HasOut, HasSelected, HasTouched, IfReady, IsFound, IsGreeting, IsServed, IsToldError, IsToldReady, OnReady, stopped_as};
 
 use crate::asking::ask;
 use crate::expected::{Expected, Said};
@@ -149,6 +148,7 @@ fn ready<R: Wait, K: Sink, D: Door>(
 ) -> Greeted<D::Place>
     ensures told { IsToldReady welcome (K.written sink.old) (K.written sink.new) result }
     ensures write_fault { result ≡ Greeted.WriteFault → Rose (K.faults sink.old) (K.faults sink.new) }
+    ensures same { OnReady result (door.new ≡ door.old) }
     ensures out { HasKept (D.out door.old) (D.out door.new) result }
     ensures sessions { Told (D.sessions door.old) (D.sessions door.new) (KeepsIds (D.id_of welcome.id)) }
     ensures asked { D.asked door.new ≡ D.asked door.old }
@@ -203,7 +203,7 @@ fn serve<R: Threads + Wait + Copy + Send + 'static, K: Sink, D: Door>(
     door: &mut D,
     request: &Request,
 ) -> Greeted<D::Place>
-    ensures served { IsServed (MayRefuse D.id_of (D.sessions door.old) (D.draws door.old) (D.sessions door.new)) request.now (K.written sink.old) (K.written sink.new) (D.asked door.old) (D.asked door.new) result }
+    ensures served { IsServed (MayRefuse D.id_of (D.sessions door.old) (D.draws door.old) (D.sessions door.new)) (Names D.id_of) (Grants D.id_of (D.begun door.new) (D.joined door.new)) request.now (K.written sink.old) (K.written sink.new) (D.asked door.old) (D.asked door.new) result }
     ensures out { HasOut (D.out door.old) (D.out door.new) result }
     ensures sessions { Told (D.sessions door.old) (D.sessions door.new) (HasTouched D.id_of result) }
     ensures write_fault { result ≡ Greeted.WriteFault → Rose (K.faults sink.old) (K.faults sink.new) }
@@ -229,7 +229,7 @@ fn converse<R: Threads + Wait + Copy + Send + 'static, S: Source, K: Sink, D: Do
     door: &mut D,
 ) -> Greeted<D::Place>
     requires { unread.old ≡ [] }
-    ensures greeting { IsGreeting D.id_of (D.sessions door.old) (D.sessions door.new) (D.draws door.old) (S.left source.old) (S.left source.new) (K.written sink.old) (K.written sink.new) (D.asked door.old) (D.asked door.new) unread.new result }
+    ensures greeting { IsGreeting D.id_of (D.sessions door.old) (D.sessions door.new) (D.draws door.old) (Grants D.id_of (D.begun door.new) (D.joined door.new)) (S.left source.old) (S.left source.new) (K.written sink.old) (K.written sink.new) (D.asked door.old) (D.asked door.new) unread.new result }
     ensures out { HasOut (D.out door.old) (D.out door.new) result }
     ensures sessions { Told (D.sessions door.old) (D.sessions door.new) (HasTouched D.id_of result) }
     ensures read_fault { result ≡ Greeted.ReadFault → Rose (S.faults source.old) (S.faults source.new) }
@@ -264,18 +264,10 @@ pub fn greet<R: Threads + Wait + Copy + Send + 'static, S: Source, K: Sink, D: D
     rest: &mut Vec<u8>,
     door: &mut D,
 ) -> Greeted<D::Place>
-    ensures greeting { IsGreeting D.id_of (D.sessions door.old) (D.sessions door.new) (D.draws door.old) (S.left source.old) (S.left source.new) (K.written sink.old) (K.written sink.new) (D.asked door.old) (D.asked door.new) rest.new.items result }
+    ensures greeting { IsGreeting D.id_of (D.sessions door.old) (D.sessions door.new) (D.draws door.old) (Grants D.id_of (D.begun door.new) (D.joined door.new)) (S.left source.old) (S.left source.new) (K.written sink.old) (K.written sink.new) (D.asked door.old) (D.asked door.new) rest.new.items result }
     ensures out { HasOut (D.out door.old) (D.out door.new) result }
     ensures sessions { Told (D.sessions door.old) (D.sessions door.new) (HasTouched D.id_of result) }
-    ensures read_fault { result ≡ Greeted.ReadFault → Rose (S.faults source.old) (S.faults source.new) }
-    ensures write_fault { result ≡ Greeted.WriteFault → Rose (K.faults sink.old) (K.faults sink.new) }
-    ensures dial { result ≡ Greeted.Refused 519 → Rose (D.dial_faults door.old) (D.dial_faults door.new) }
-    ensures busy { result ≡ Greeted.Refused 513 → Rose (D.start_faults door.old) (D.start_faults door.new) }
-    ensures conflict { result ≡ Greeted.Refused 517 → HasConflict (D.sessions door.old) }
-    ensures taken { result ≡ Greeted.Refused 517 → AreTaken (D.sessions door.old) (D.draws door.old) }
-    ensures closed { result ≡ Greeted.Refused 523 → HasRefused (D.sessions door.new) Closed ⊎ HasRefused (D.sessions door.new) Worn }
-    ensures forbidden { result ≡ Greeted.Refused 771 → HasRefused (D.sessions door.new) Forbidden }
-    ensures too_many { result ≡ Greeted.Refused 797 → HasRefused (D.sessions door.new) TooMany }
+    ensures cause { IsCaused (Rose (S.faults source.old) (S.faults source.new)) (Rose (K.faults sink.old) (K.faults sink.new)) (HasCause (D.sessions door.old) (D.sessions door.new) (D.draws door.old) (Rose (D.dial_faults door.old) (D.dial_faults door.new)) (Rose (D.start_faults door.old) (D.start_faults door.new))) result }
     ensures fresh { IfReady result (λ place first. D.Place.fresh place first) }
     ensures later_dials { D.dial_faults door.old ≤ D.dial_faults door.new }
     ensures later_starts { D.start_faults door.old ≤ D.start_faults door.new }

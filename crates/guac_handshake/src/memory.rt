@@ -115,6 +115,8 @@ impl Door for MemDoor {
 
     ghost begun = { λ _ _ _. Unit {0} };
 
+    ghost joined = { λ _ _ _. Unit {0} };
+
     fn known<R: Wait>(&mut self, _rt: &R, name: &str) -> bool {
         id_of(&self.ids, name).is_some()
     }

@@ -2,6 +2,7 @@
 
 ghost use Rattle.std.specs.Prelude.{◌≡◌, ◌≤◌, IfOk};
 ghost use Rattle.gate_outside.specs.Edge.{Rose};
+ghost use Rattle.guac_handshake.specs.Doors.{Grants};
 ghost use Rattle.guac_handshake.specs.Opening.{HasMoved, HasOpened, IsDoor, IsThere, with_opened};
 ghost use Rattle.guac_handshake.specs.declared.refused.Refused.TheVariants.{Busy, Dial};
 ghost use Rattle.id_table.specs.Maps.{Same, Told};
@@ -42,7 +43,7 @@ pub fn open_form<R: Threads + Wait + Copy + Send + 'static, D: Door>(
     body: &[u8],
     door: &mut D,
 ) -> Result<Welcome<D::Place>, FormRefusal>
-    ensures opened { HasOpened D.id_of (D.sessions door.old) (D.sessions door.new) (D.draws door.old) (D.asked door.old) (D.asked door.new) body.now result }
+    ensures opened { HasOpened D.id_of (D.sessions door.old) (D.sessions door.new) (D.draws door.old) (Grants D.id_of (D.begun door.new) (D.joined door.new)) (D.asked door.old) (D.asked door.new) body.now result }
     ensures sessions { Told (D.sessions door.old) (D.sessions door.new) (HasMoved D.id_of result) }
     ensures out { D.out door.new ≡ with_opened result (D.out door.old) }
     ensures dial { IsDoor Dial result → Rose (D.dial_faults door.old) (D.dial_faults door.new) }

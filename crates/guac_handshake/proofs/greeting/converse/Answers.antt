@@ -1,5 +1,5 @@
 use Rattle.std.proofs.Common.{refl}
-use Rattle.guac_handshake.specs.Doors.{MayRefuse}
+use Rattle.guac_handshake.specs.Doors.{Grants, MayRefuse, Names}
 use Rattle.guac_handshake.proofs.Endings.{greeted_ended, greeted_ok, greeted_refused, greeted_short, greeted_unread, greeted_unwritten}
 use Rattle.guac_handshake.proofs.Causes.{early_cause, error_fresh, error_read, not_early, rose_after, rose_from, served_read, told_status}
 use Rattle.guac_handshake.proofs.Refusing.{may_before, served_as}
@@ -7,26 +7,26 @@ use Rattle.guac_handshake.proofs.Touching.{touched_behind, touched_early, touche
 use Rattle.guac_handshake.proofs.greeting.converse.Goals as goal
 
 pub returns-in-Ok-clause-greeting : goal.returns-in-Ok-clause-greeting
-returns-in-Ok-clause-greeting g c = greeted_ok _ _ _ _ _ _ _ _ _ _ _ _ _ _ c.requires c.read_request.ensures.asked c.in-Ok.request _ c.in-Ok.ensures.request
-    (served_as (MayRefuse g.D.Door.id_of (g.D.Door.sessions c.read_request.new.door) (g.D.Counted.draws c.read_request.new.door) (g.D.Door.sessions c.serve.new.door)) (MayRefuse g.D.Door.id_of (g.D.Door.sessions c.args.door.now) (g.D.Counted.draws c.args.door.now) (g.D.Door.sessions c.serve.new.door)) _ _ _ _ _ _ (may_before _ _ _ _ _ _ c.read_request.ensures.sessions c.read_request.ensures.draws) c.serve.ensures.served)
+returns-in-Ok-clause-greeting g c = greeted_ok _ _ _ _ _ _ _ _ _ _ _ _ _ _ _ c.requires c.read_request.ensures.asked c.in-Ok.request _ c.in-Ok.ensures.request
+    (served_as (MayRefuse g.D.Door.id_of (g.D.Door.sessions c.read_request.new.door) (g.D.Counted.draws c.read_request.new.door) (g.D.Door.sessions c.serve.new.door)) (MayRefuse g.D.Door.id_of (g.D.Door.sessions c.args.door.now) (g.D.Counted.draws c.args.door.now) (g.D.Door.sessions c.serve.new.door)) (Names g.D.Door.id_of) (Grants g.D.Door.id_of (g.D.Door.begun c.serve.new.door) (g.D.Door.joined c.serve.new.door)) _ _ _ _ _ _ (may_before _ _ _ _ _ _ c.read_request.ensures.sessions c.read_request.ensures.draws) c.serve.ensures.served)
 
 pub returns-in-Err-Refused-clause-greeting : goal.returns-in-Err-Refused-clause-greeting
-returns-in-Err-Refused-clause-greeting g c = greeted_refused _ _ _ _ _ _ _ _ _ _ _ _ _ _ c.requires c.read_request.ensures.asked _ _ _ refl c.in-Err-Refused.ensures.request c.in-Err-Refused.field-0-is c.refuse.ensures.told
+returns-in-Err-Refused-clause-greeting g c = greeted_refused _ _ _ _ _ _ _ _ _ _ _ _ _ _ _ c.requires c.read_request.ensures.asked _ _ _ refl c.in-Err-Refused.ensures.request c.in-Err-Refused.field-0-is c.refuse.ensures.told
 
 pub returns-in-Err-Ended-clause-greeting : goal.returns-in-Err-Ended-clause-greeting
-returns-in-Err-Ended-clause-greeting g c = greeted_ended _ _ _ _ _ _ _ _ _ _ _ _ _ _ c.requires c.read_request.ensures.asked refl refl _ c.in-Err-Ended.ensures.request c.in-Err-Ended.field-0-is
+returns-in-Err-Ended-clause-greeting g c = greeted_ended _ _ _ _ _ _ _ _ _ _ _ _ _ _ _ c.requires c.read_request.ensures.asked refl refl _ c.in-Err-Ended.ensures.request c.in-Err-Ended.field-0-is
 
 pub returns-in-Err-ReadFault-clause-greeting : goal.returns-in-Err-ReadFault-clause-greeting
-returns-in-Err-ReadFault-clause-greeting g c = greeted_unread _ _ _ _ _ _ _ _ _ _ _ _ _ _ c.requires c.read_request.ensures.asked refl refl _ c.in-Err-ReadFault.ensures.request c.in-Err-ReadFault.field-0-is
+returns-in-Err-ReadFault-clause-greeting g c = greeted_unread _ _ _ _ _ _ _ _ _ _ _ _ _ _ _ c.requires c.read_request.ensures.asked refl refl _ c.in-Err-ReadFault.ensures.request c.in-Err-ReadFault.field-0-is
 
 pub returns-in-Err-WriteFault-clause-greeting : goal.returns-in-Err-WriteFault-clause-greeting
-returns-in-Err-WriteFault-clause-greeting g c = greeted_unwritten _ _ _ _ _ _ _ _ _ _ _ _ _ _ c.requires c.read_request.ensures.asked refl refl _ c.in-Err-WriteFault.ensures.request c.in-Err-WriteFault.field-0-is
+returns-in-Err-WriteFault-clause-greeting g c = greeted_unwritten _ _ _ _ _ _ _ _ _ _ _ _ _ _ _ c.requires c.read_request.ensures.asked refl refl _ c.in-Err-WriteFault.ensures.request c.in-Err-WriteFault.field-0-is
 
 pub returns-in-Err-NoMemory-clause-greeting : goal.returns-in-Err-NoMemory-clause-greeting
-returns-in-Err-NoMemory-clause-greeting g c = greeted_short _ _ _ _ _ _ _ _ _ _ _ _ _ _ c.requires c.read_request.ensures.asked refl refl _ c.in-Err-NoMemory.ensures.request c.in-Err-NoMemory.field-0-is
+returns-in-Err-NoMemory-clause-greeting g c = greeted_short _ _ _ _ _ _ _ _ _ _ _ _ _ _ _ c.requires c.read_request.ensures.asked refl refl _ c.in-Err-NoMemory.ensures.request c.in-Err-NoMemory.field-0-is
 
 pub returns-in-Ok-clause-read_fault : goal.returns-in-Ok-clause-read_fault
-returns-in-Ok-clause-read_fault g c = λ e. absurd (served_read _ _ (MayRefuse g.D.Door.id_of (g.D.Door.sessions c.read_request.new.door) (g.D.Counted.draws c.read_request.new.door) (g.D.Door.sessions c.serve.new.door)) _ _ _ _ c.serve.ensures.served e)
+returns-in-Ok-clause-read_fault g c = λ e. absurd (served_read _ _ (MayRefuse g.D.Door.id_of (g.D.Door.sessions c.read_request.new.door) (g.D.Counted.draws c.read_request.new.door) (g.D.Door.sessions c.serve.new.door)) (Names g.D.Door.id_of) (Grants g.D.Door.id_of (g.D.Door.begun c.serve.new.door) (g.D.Door.joined c.serve.new.door)) _ _ _ _ c.serve.ensures.served e)
 
 pub returns-in-Ok-clause-write_fault : goal.returns-in-Ok-clause-write_fault
 returns-in-Ok-clause-write_fault g c = λ e. rose_after _ _ _ c.read_request.ensures.later_writes (c.serve.ensures.write_fault e)
