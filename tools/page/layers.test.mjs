@@ -1,4 +1,4 @@
-// The drawing machine, by the example of docs/PROTOCOL.md ("The drawing machine"): four pixels grey, one of them then
+// The drawing machine, by docs/PROTOCOL.md ("The instructions"): four pixels grey, one of them then
 // black, and two clear; and of each recording the pixels that the gateway's own canvas has.
 import assert from 'node:assert/strict';
 import test from 'node:test';
