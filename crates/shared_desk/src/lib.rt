@@ -15,6 +15,7 @@ mod calls;
 mod held;
 mod host;
 mod link;
+mod meeting;
 mod member;
 mod owners;
 mod place;
@@ -30,6 +31,7 @@ pub use desk_core::{
 };
 pub use host::HostPass;
 pub use link::LinkPass;
+pub use meeting::meet;
 pub use place::Place;
 pub use reader::ReaderPass;
 pub use sender::SenderPass;

@@ -1,10 +1,9 @@
-use Rattle.std.proofs.Common.{[], ◌∷◌, take}
-use Rattle.gate_model.specs.declared.answer.Answer.TheVariants.{Leave as left, Close as closed}
-use Rattle.gate_model.specs.declared.event.Event.TheVariants.{Feed, Join, Read, Write, Take, Leave, Close}
+use Rattle.std.proofs.Common.{[], ◌∷◌}
 use Rattle.std.specs.Prelude.{Ok}
-use Rattle.desk_core.specs.Calls.{feed_answer, join_answer, read_answer, write_answer}
+use Rattle.gate_model.specs.declared.answer.Answer.TheVariants.{Leave as left}
+use Rattle.gate_model.specs.declared.event.Event.TheVariants.{Leave}
 use Rattle.turn_lock.specs.Turns.{view_in}
-use Rattle.shared_desk.specs.Called.{Answers, take_answer}
+use Rattle.shared_desk.specs.Called.{Answers}
 use Rattle.shared_desk.proofs.member.Member.leave.Given as goal
 
 abbrev pub ghosts-end_turn : goal.ghosts-end_turn
