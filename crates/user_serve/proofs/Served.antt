@@ -48,10 +48,10 @@ pub same_viewer : (one other : ℕ) (P : ℕ → Type 0) → one ≡ other → P
 same_viewer one other P is p = subst P (sym is) p
 
 -- a greeting let the viewer in, and a visit followed
-pub let_in : (id_of : List ℕ → Option (List ℕ)) (sessions sessions_new : Option Sessions) (draws : Option (ℕ → List ℕ)) (left_old left left_new written_old written written_new : Option (List ℕ)) (asked_old asked_new : Option (List Request)) (rest : List ℕ) (welcome : Welcome Place) (visit : Visit)
-    → IsGreeting id_of sessions sessions_new draws left_old left written_old written asked_old asked_new rest (greeted.Ready welcome) → Exchanges left left_new written written_new (λ r w. VisitRun welcome visit (rest ++ r) w left_new)
-    → HasGreeted id_of sessions sessions_new draws left_old left_new written_old written_new asked_old asked_new (Served visit)
-let_in id_of sessions sessions_new draws left_old left left_new written_old written written_new asked_old asked_new rest welcome visit g v =
+pub let_in : (id_of : List ℕ → Option (List ℕ)) (sessions sessions_new : Option Sessions) (draws : Option (ℕ → List ℕ)) (gives : Request → Welcome Place → Type 0) (left_old left left_new written_old written written_new : Option (List ℕ)) (asked_old asked_new : Option (List Request)) (rest : List ℕ) (welcome : Welcome Place) (visit : Visit)
+    → IsGreeting id_of sessions sessions_new draws gives left_old left written_old written asked_old asked_new rest (greeted.Ready welcome) → Exchanges left left_new written written_new (λ r w. VisitRun welcome visit (rest ++ r) w left_new)
+    → HasGreeted id_of sessions sessions_new draws gives left_old left_new written_old written_new asked_old asked_new (Served visit)
+let_in id_of sessions sessions_new draws gives left_old left left_new written_old written written_new asked_old asked_new rest welcome visit g v =
     let ran = v.4 in record { welcome = welcome; id = ran.id; left = left; behind = v.0; reads = v.2; written = written; shown = v.1; writes = v.3; greets = (rest, g) }
 
 -- ---- the door

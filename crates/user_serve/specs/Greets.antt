@@ -16,8 +16,8 @@ HasReplied wish args rest (Ready welcome) written = (request : Request) × (wish
 HasReplied wish args rest (Refused status) written = written ≡ args ++ error_text status
 HasReplied wish args rest Ended written = (wish ≡ Unfinished) × IsUnfinished rest × (written ≡ args)
 HasReplied wish args rest ReadFault written = (wish ≡ Unfinished) × (written ≡ args)
-HasReplied wish args rest WriteFault written = (text : List ℕ) × IsReplyTo (λ request refusal. Unit {0}) wish rest text × BeginsWith (args ++ text) written
-HasReplied wish args rest NoMemory written = (text : List ℕ) × IsReplyTo (λ request refusal. Unit {0}) wish rest text × BeginsWith (args ++ text) written
+HasReplied wish args rest WriteFault written = (text : List ℕ) × IsReplyTo (λ request refusal. Unit {0}) (λ request id. Unit {0}) wish rest text × BeginsWith (args ++ text) written
+HasReplied wish args rest NoMemory written = (text : List ℕ) × IsReplyTo (λ request refusal. Unit {0}) (λ request id. Unit {0}) wish rest text × BeginsWith (args ++ text) written
 
 -- the bytes read are instructions, none behind those that settle what is asked, and then the rest; and what was written
 -- is by what they ask

@@ -13,6 +13,8 @@ use Rattle.shared_desk.specs.Hosts.{IsFresh}
 use Rattle.user_serve.specs.Greets.{GreetRun}
 use Rattle.user_serve.specs.Intakes.{IntakeRun}
 use Rattle.user_serve.specs.Outlets.{OutletRun}
+use Rattle.user_serve.specs.declared.ends.IntakeEnd.TheVariants as intakes
+use Rattle.user_serve.specs.declared.ends.OutletEnd.TheVariants as outlets
 use Rattle.user_serve.specs.declared.ends.UserEnd.{UserEnd}
 use Rattle.user_serve.specs.declared.ends.UserEnd.TheVariants.{Served, Refused, Ended, ReadFault, WriteFault, NoMemory}
 use Rattle.user_serve.specs.declared.ends.Visit.{Visit}
@@ -53,14 +55,14 @@ UserRun left ReadFault read written = Greets greeted.ReadFault read written
 UserRun left WriteFault read written = Greets greeted.WriteFault read written
 UserRun left NoMemory read written = ((read ≡ []) × (written ≡ [])) ⊎ Greets greeted.NoMemory read written
 
--- a fact of the visit
-abbrev pub IfServed : UserEnd → (Visit → Type 0) → Type 0
-IfServed (Served visit) F = F visit
-IfServed (Refused status) F = Unit {0}
-IfServed Ended F = Unit {0}
-IfServed ReadFault F = Unit {0}
-IfServed WriteFault F = Unit {0}
-IfServed NoMemory F = Unit {0}
+-- why a connection ended so: of a visit, why each of its loops did; at every other end why the greeting did
+abbrev pub IsCaused : Type 0 → Type 0 → (ℕ → Type 0) → UserEnd → Type 0
+IsCaused read_failed write_failed refuses (Served visit) = (visit.intake ≡ intakes.ReadFault → read_failed) × (visit.outlet ≡ outlets.WriteFault → write_failed)
+IsCaused read_failed write_failed refuses (Refused code) = refuses code
+IsCaused read_failed write_failed refuses Ended = Unit {0}
+IsCaused read_failed write_failed refuses ReadFault = read_failed
+IsCaused read_failed write_failed refuses WriteFault = write_failed
+IsCaused read_failed write_failed refuses NoMemory = Unit {0}
 
 -- ---- by the words of the greeting's own contract
 
@@ -85,10 +87,10 @@ Greeting is_greeting nothing left written ReadFault = is_greeting left written g
 Greeting is_greeting nothing left written WriteFault = is_greeting left written greeted.WriteFault
 Greeting is_greeting nothing left written NoMemory = nothing ⊎ is_greeting left written greeted.NoMemory
 
--- .. so the door was asked by the greeting alone
-abbrev pub HasGreeted : (List ℕ → Option (List ℕ)) → Option Sessions → Option Sessions → Option (ℕ → List ℕ) → Option (List ℕ) → Option (List ℕ) → Option (List ℕ) → Option (List ℕ) → Option (List Request) → Option (List Request) → UserEnd → Type 0
-HasGreeted id_of sessions sessions_new draws left_old left_new written_old written_new asked_old asked_new end =
-    Greeting (λ left written g. (rest : List ℕ) × IsGreeting id_of sessions sessions_new draws left_old left written_old written asked_old asked_new rest g)
+-- .. so the door was asked by the greeting alone, and where a viewer was let in it has given just what was wished
+abbrev pub HasGreeted : (List ℕ → Option (List ℕ)) → Option Sessions → Option Sessions → Option (ℕ → List ℕ) → (Request → Welcome Place → Type 0) → Option (List ℕ) → Option (List ℕ) → Option (List ℕ) → Option (List ℕ) → Option (List Request) → Option (List Request) → UserEnd → Type 0
+HasGreeted id_of sessions sessions_new draws gives left_old left_new written_old written_new asked_old asked_new end =
+    Greeting (λ left written g. (rest : List ℕ) × IsGreeting id_of sessions sessions_new draws gives left_old left written_old written asked_old asked_new rest g)
     ((left_new ≡ left_old) × (written_new ≡ written_old) × (asked_new ≡ asked_old)) left_new written_new end
 
 -- the greeting that stands behind an end

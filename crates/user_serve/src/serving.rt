@@ -1,16 +1,15 @@
 //! One viewer's connection.
 
-ghost use Rattle.std.specs.Prelude.{◌≡◌, ◌≤◌, ◌⊎◌, ◌++◌, ℕ, List};
+ghost use Rattle.std.specs.Prelude.{◌≡◌, ◌≤◌, ◌++◌, ℕ, List};
 ghost use Rattle.gate_model.specs.session.Delivered.{delivered};
 ghost use Rattle.gate_model.specs.text.Text.{texts};
 ghost use Rattle.gate_outside.specs.Edge.{Rose, came, gained};
-ghost use Rattle.guac_handshake.specs.Doors.{AreTaken, HasConflict, HasRefused};
-ghost use Rattle.guac_handshake.specs.declared.refused.Refused.TheVariants.{Closed, Forbidden, TooMany, Worn};
+ghost use Rattle.guac_handshake.specs.Causes.{HasCause};
+ghost use Rattle.guac_handshake.specs.Doors.{Grants};
 ghost use Rattle.shared_desk.specs.Hosts.{IsFresh};
 ghost use Rattle.user_serve.specs.Intakes.{IntakeRun};
 ghost use Rattle.user_serve.specs.Outlets.{OutletRun};
-ghost use Rattle.user_serve.specs.Users.{HasGreeted, IfServed, LeavesDoor, UserRun, VisitRun};
-ghost use Rattle.user_serve.specs.declared.ends.UserEnd.TheVariants as ends;
+ghost use Rattle.user_serve.specs.Users.{HasGreeted, IsCaused, LeavesDoor, UserRun, VisitRun};
 ghost use Rattle.user_serve.specs.declared.ends.IntakeEnd.TheVariants as intakes;
 ghost use Rattle.user_serve.specs.declared.ends.OutletEnd.TheVariants as outlets;
 
@@ -45,19 +44,9 @@ where
     D: Door<Place = Place>,
     B: Bell + Send,
     ensures ran { (read : List ℕ) × (written : List ℕ) × (S.left source.old ≡ came read (S.left source.new)) × (K.written sink.new ≡ gained (K.written sink.old) written) × UserRun (S.left source.new) result read written }
-    ensures greeting { HasGreeted D.id_of (D.sessions door.old) (D.sessions door.new) (D.draws door.old) (S.left source.old) (S.left source.new) (K.written sink.old) (K.written sink.new) (D.asked door.old) (D.asked door.new) result }
+    ensures greeting { HasGreeted D.id_of (D.sessions door.old) (D.sessions door.new) (D.draws door.old) (Grants D.id_of (D.begun door.new) (D.joined door.new)) (S.left source.old) (S.left source.new) (K.written sink.old) (K.written sink.new) (D.asked door.old) (D.asked door.new) result }
     ensures door { LeavesDoor D.id_of (D.out door.old) (D.out door.new) (D.sessions door.old) (D.sessions door.new) result }
-    ensures intake_fault { IfServed result (λ visit. visit.intake ≡ intakes.ReadFault → Rose (S.faults source.old) (S.faults source.new)) }
-    ensures outlet_fault { IfServed result (λ visit. visit.outlet ≡ outlets.WriteFault → Rose (K.faults sink.old) (K.faults sink.new)) }
-    ensures read_fault { result ≡ ends.ReadFault → Rose (S.faults source.old) (S.faults source.new) }
-    ensures write_fault { result ≡ ends.WriteFault → Rose (K.faults sink.old) (K.faults sink.new) }
-    ensures dial { result ≡ ends.Refused 519 → Rose (D.dial_faults door.old) (D.dial_faults door.new) }
-    ensures busy { result ≡ ends.Refused 513 → Rose (D.start_faults door.old) (D.start_faults door.new) }
-    ensures conflict { result ≡ ends.Refused 517 → HasConflict (D.sessions door.old) }
-    ensures taken { result ≡ ends.Refused 517 → AreTaken (D.sessions door.old) (D.draws door.old) }
-    ensures closed { result ≡ ends.Refused 523 → HasRefused (D.sessions door.new) Closed ⊎ HasRefused (D.sessions door.new) Worn }
-    ensures forbidden { result ≡ ends.Refused 771 → HasRefused (D.sessions door.new) Forbidden }
-    ensures too_many { result ≡ ends.Refused 797 → HasRefused (D.sessions door.new) TooMany }
+    ensures cause { IsCaused (Rose (S.faults source.old) (S.faults source.new)) (Rose (K.faults sink.old) (K.faults sink.new)) (HasCause (D.sessions door.old) (D.sessions door.new) (D.draws door.old) (Rose (D.dial_faults door.old) (D.dial_faults door.new)) (Rose (D.start_faults door.old) (D.start_faults door.new))) result }
     ensures later_dials { D.dial_faults door.old ≤ D.dial_faults door.new }
     ensures later_starts { D.start_faults door.old ≤ D.start_faults door.new }
     ensures later_reads { S.faults source.old ≤ S.faults source.new }

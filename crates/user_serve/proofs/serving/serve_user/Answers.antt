@@ -11,13 +11,13 @@ pub returns-in_default-another-clause-ran : goal.returns-in_default-another-clau
 returns-in_default-another-clause-ran g c = untouched _ _
 
 pub returns-in-Ready-clause-ran : goal.returns-in-Ready-clause-ran
-returns-in-Ready-clause-ran g c = served _ _ _ _ _ _ _ c.in-Ready.welcome c.visit.result (greeted _ _ _ _ _ _ _ _ _ _ _ _ c.in-Ready.ensures.greeting) c.visit.ensures.ran
+returns-in-Ready-clause-ran g c = served _ _ _ _ _ _ _ c.in-Ready.welcome c.visit.result (greeted _ _ _ _ _ _ _ _ _ _ _ _ _ c.in-Ready.ensures.greeting) c.visit.ensures.ran
 
 pub returns-in-WriteFault-clause-ran : goal.returns-in-WriteFault-clause-ran
-returns-in-WriteFault-clause-ran g c = greets _ _ _ _ _ _ (greeted _ _ _ _ _ _ _ _ _ _ _ _ c.in-WriteFault.ensures.greeting)
+returns-in-WriteFault-clause-ran g c = greets _ _ _ _ _ _ (greeted _ _ _ _ _ _ _ _ _ _ _ _ _ c.in-WriteFault.ensures.greeting)
 
 pub returns-in-NoMemory-clause-ran : goal.returns-in-NoMemory-clause-ran
-returns-in-NoMemory-clause-ran g c = greets_memory _ _ _ _ _ (greeted _ _ _ _ _ _ _ _ _ _ _ _ c.in-NoMemory.ensures.greeting)
+returns-in-NoMemory-clause-ran g c = greets_memory _ _ _ _ _ (greeted _ _ _ _ _ _ _ _ _ _ _ _ _ c.in-NoMemory.ensures.greeting)
 
 pub returns-in_default-clause-greeting : goal.returns-in_default-clause-greeting
 returns-in_default-clause-greeting g c = inl (refl, refl, refl)
@@ -26,7 +26,7 @@ pub returns-in_default-another-clause-greeting : goal.returns-in_default-another
 returns-in_default-another-clause-greeting g c = inl (refl, refl, refl)
 
 pub returns-in-Ready-clause-greeting : goal.returns-in-Ready-clause-greeting
-returns-in-Ready-clause-greeting g c = let_in _ _ _ _ _ _ _ _ _ _ _ _ _ c.in-Ready.welcome c.visit.result c.in-Ready.ensures.greeting c.visit.ensures.ran
+returns-in-Ready-clause-greeting g c = let_in _ _ _ _ _ _ _ _ _ _ _ _ _ _ c.in-Ready.welcome c.visit.result c.in-Ready.ensures.greeting c.visit.ensures.ran
 
 pub returns-in-NoMemory-clause-greeting : goal.returns-in-NoMemory-clause-greeting
 returns-in-NoMemory-clause-greeting g c = inr (_, c.in-NoMemory.ensures.greeting)
@@ -57,8 +57,14 @@ returns-in-WriteFault-clause-door g c = door_left _ _ _ _ _ _ _ refl c.in-WriteF
 pub returns-in-NoMemory-clause-door : goal.returns-in-NoMemory-clause-door
 returns-in-NoMemory-clause-door g c = door_left _ _ _ _ _ _ _ refl c.in-NoMemory.ensures.out c.in-NoMemory.ensures.sessions
 
-pub returns-in-Ready-clause-intake_fault : goal.returns-in-Ready-clause-intake_fault
-returns-in-Ready-clause-intake_fault g c = λ e. rose_after _ _ _ c.in-Ready.ensures.later_reads (c.visit.ensures.read_fault e)
+pub returns-in-Ready-clause-cause : goal.returns-in-Ready-clause-cause
+returns-in-Ready-clause-cause g c = (λ e. rose_after _ _ _ c.in-Ready.ensures.later_reads (c.visit.ensures.read_fault e), λ e. rose_after _ _ _ c.in-Ready.ensures.later_writes (c.visit.ensures.write_fault e))
 
-pub returns-in-Ready-clause-outlet_fault : goal.returns-in-Ready-clause-outlet_fault
-returns-in-Ready-clause-outlet_fault g c = λ e. rose_after _ _ _ c.in-Ready.ensures.later_writes (c.visit.ensures.write_fault e)
+pub returns-in-Refused-clause-cause : goal.returns-in-Refused-clause-cause
+returns-in-Refused-clause-cause g c = c.in-Refused.ensures.cause
+
+pub returns-in-ReadFault-clause-cause : goal.returns-in-ReadFault-clause-cause
+returns-in-ReadFault-clause-cause g c = c.in-ReadFault.ensures.cause
+
+pub returns-in-WriteFault-clause-cause : goal.returns-in-WriteFault-clause-cause
+returns-in-WriteFault-clause-cause g c = c.in-WriteFault.ensures.cause
