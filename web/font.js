@@ -1,4 +1,4 @@
-// The gateway's font (docs/PROTOCOL.md, "Glyphs"), read backwards: from the pixels of a cell to its character. The 95
+// The gateway's font (docs/TERMINAL.md, "Font"), read backwards: from the pixels of a cell to its character. The 95
 // pictures, the box and its two halves are all different, so the reading is exact; a cell that shows none of them is a
 // picture.
 

@@ -165,7 +165,7 @@ fn cells_js() -> &'static str {
 // once after it was painted, and a copy of it is then known; a copy of the visible layer over itself moves rows. What
 // is drawn in another way is read from its pixels. A cell is a number; those whose pixels are alike are equal.
 
-import { BOX, CELL_HEIGHT, CELL_WIDTH, seenAt } from './font.js';
+import { BOX, CELL_HEIGHT, CELL_WIDTH, LEFT, RIGHT, seenAt } from './font.js';
 import { indexOf } from './palette.js';
 
 /** A cell that shows no picture of the font, or has a colour past the 256th. */
@@ -177,7 +177,7 @@ export function cellOf(face, ink, paper, isUnderlined) {
   return (face << 17) | (isUnderlined ? 1 << 16 : 0) | (ink << 8) | paper;
 }
 
-/** The face of a cell, a code point or BOX. */
+/** The face of a cell, a code point, BOX, LEFT or RIGHT. */
 export const faceOf = (cell) => cell >> 17;
 /** The indices of its colours, and whether it is underlined. */
 export const inkOf = (cell) => (cell >> 8) & 0xff;
@@ -189,11 +189,13 @@ export const BLANK = cellOf(0x20, 0, 0, false);
 
 function characterOf(cell) {
   if (cell === PICTURE) return '\\u2592';
-  return faceOf(cell) === BOX ? '\\ufffd' : String.fromCharCode(faceOf(cell));
+  const face = faceOf(cell);
+  if (face === BOX || face === LEFT) return '\\ufffd';
+  return face === RIGHT ? ' ' : String.fromCharCode(face);
 }
 
-/** The characters of cells as `look` writes them, without the blanks at their end: the box is U+FFFD, and a picture
- *  U+2592. @param {Int32Array} cells */
+/** The characters of cells as `look` writes them, without the blanks at their end: the box is U+FFFD, a character that
+ *  takes two cells U+FFFD and a blank, and a picture U+2592. @param {Int32Array} cells */
 export function textOf(cells) {
   let text = '';
   for (const cell of cells) text += characterOf(cell);
@@ -891,8 +893,9 @@ export class Follow {
 // `/font.js`.
 fn font_js() -> &'static str {
     "\
-// The gateway's font (docs/PROTOCOL.md, \"Glyphs\"), read backwards: from the pixels of a cell to its character. The 95
-// pictures and the box are all different, so the reading is exact; a cell that shows none of them is a picture.
+// The gateway's font (docs/TERMINAL.md, \"Font\"), read backwards: from the pixels of a cell to its character. The 95
+// pictures, the box and its two halves are all different, so the reading is exact; a cell that shows none of them is a
+// picture.
 
 /** How many pixels a cell has. */
 export const CELL_WIDTH = 8;
@@ -901,7 +904,10 @@ export const CELL_HEIGHT = 16;
 /** The face of a cell that shows the box, which stands for each character that the font hasn't. */
 export const BOX = 0x7f;
 
-// From U+0020 on and the box last, five columns each, bit r of a column for row r.
+/** The faces of the two halves of a character that takes two cells: together a box as wide as both. */
+export const [LEFT, RIGHT] = [0x80, 0x81];
+
+// From U+0020 on, then the box and its halves, five columns each, bit r of a column for row r.
 const GLYPHS = `0000000000 00005F0000 0007000700 147F147F14 242A7F2A12 2313086462 3649552250 0005030000
 001C224100 0041221C00 082A1C2A08 08083E0808 0050300000 0808080808 0060600000 2010080402
 3E5149453E 00427F4000 4261514946 2141454B31 1814127F10 2745454539 3C4A494930 0171090503
@@ -913,7 +919,8 @@ const GLYPHS = `0000000000 00005F0000 0007000700 147F147F14 242A7F2A12 231308646
 0001020400 2054545478 7F48444438 3844444420 384444487F 3854545418 087E090102 081454543C
 7F08040478 00447D4000 2040443D00 7F10284400 00417F4000 7C04180478 7C08040478 3844444438
 7C14141408 081414187C 7C08040408 4854545420 043F444020 3C4040207C 1C2040201C 3C4030403C
-4428102844 0C5050503C 4464544C44 0008364100 00007F0000 0041360800 0804081008 7F4141417F`.split(/\\s+/);
+4428102844 0C5050503C 4464544C44 0008364100 00007F0000 0041360800 0804081008 7F4141417F
+7F41414141 414141417F`.split(/\\s+/);
 
 /** The seven rows of five bits that a face has lit, the leftmost pixel in bit 0. @returns {number[]} */
 export function rowsOf(face) {
@@ -3143,7 +3150,7 @@ fn sharp_js() -> &'static str {
 // Sharp text: the cells of the screen, drawn with a font of the browser at the device's own pixels. Each picture of a
 // cell is made once, and then copied to where it stands; only cells that have changed are drawn.
 
-import { CELL_HEIGHT, CELL_WIDTH, BOX } from './font.js';
+import { BOX, CELL_HEIGHT, CELL_WIDTH, LEFT, RIGHT } from './font.js';
 import { PICTURE, faceOf, inkOf, isUnderlined, paperOf } from './cells.js';
 import { inkColour, paperColour, pixelOf } from './palette.js';
 
@@ -3321,16 +3328,21 @@ export class Sharp {
     if (strength !== undefined) return strength;
     const { width, height, font } = this.#cell;
     this.#pen.clearRect(0, 0, width, height);
-    if (face === BOX) {
-      const thick = this.#pen.lineWidth = Math.max(1, Math.round(font / 14));
-      const [left, top] = [Math.ceil(width / 8) + thick / 2, this.#baseline - Math.round(font * 0.7) + thick / 2];
-      this.#pen.strokeRect(left, top, width - 2 * left, this.#baseline - top - thick / 2);
-    } else {
-      this.#pen.fillText(String.fromCharCode(face), 0, this.#baseline);
-    }
+    if (face === BOX || face === LEFT || face === RIGHT) this.#strokeBox(face);
+    else this.#pen.fillText(String.fromCharCode(face), 0, this.#baseline);
     strength = this.#pen.getImageData(0, 0, width, height).data.filter((_, k) => k % 4 === 3);
     this.#faces.set(face, strength);
     return strength;
+  }
+
+  // The box, or its half, which goes on in the next cell.
+  #strokeBox(face) {
+    const { width, font } = this.#cell;
+    const thick = this.#pen.lineWidth = Math.max(1, Math.round(font / 14));
+    const [side, top] = [Math.ceil(width / 8) + thick / 2, this.#baseline - Math.round(font * 0.7) + thick / 2];
+    const left = face === RIGHT ? -width : side;
+    const right = face === LEFT ? 2 * width : width - side;
+    this.#pen.strokeRect(left, top, right - left, this.#baseline - top - thick / 2);
   }
 
   // A picture of a cell, pixel by pixel, as large as the cells here.
