@@ -4,14 +4,14 @@ use Rattle.std.specs.Prelude.{List, [], ◌∷◌, Option, Some, None, true, cod
 use Rattle.clap.specs.Simple.{on_top}
 use Rattle.clap.specs.Words.{App, Kinds, Rule, Text, all_of, fault_of, first_of, matches_of, new_app, new_rule, with_rule}
 use Rattle.clap.specs.declared.builder.action.ArgAction.TheVariants.{Append, SetTrue}
-use Rattle.serve_words.specs.Values.{allowed_of, flag_of, level_of, page_of, port_of, recorder_of, seconds_of, seed_of}
+use Rattle.serve_words.specs.Values.{allowed_of, flag_of, format_of, level_of, page_of, port_of, recorder_of, seconds_of, seed_of}
 use Rattle.serve_words.specs.declared.options.Options.{Options}
 
 -- an option with one value, as `--port 80` or `--port=80`
 abbrev pub with_value : Text → Rule
 with_value name = record (new_rule name) { long = Some name; value_names = 1 }
 
--- the seed has to be there; the port, the level and the two times have defaults, and the recorder has none; what may be
+-- the seed has to be there; the port, the level and the format of notes, and the two times have defaults, and the recorder has none; what may be
 -- dialed and the names of the page are given any number of times; the page is a flag
 abbrev pub seed_rule : Rule
 seed_rule = record (with_value (codes "seed")) { required = true }
@@ -21,6 +21,9 @@ port_rule = record (with_value (codes "port")) { defaults = codes "4822" ∷ [] 
 
 abbrev pub log_rule : Rule
 log_rule = record (with_value (codes "log")) { defaults = codes "warn" ∷ [] }
+
+abbrev pub log_format_rule : Rule
+log_format_rule = record (with_value (codes "log-format")) { defaults = codes "text" ∷ [] }
 
 abbrev pub recorder_rule : Rule
 recorder_rule = with_value (codes "recorder")
@@ -44,9 +47,12 @@ name_rule = record (with_value (codes "name")) { action = Some Append }
 abbrev pub bare_command : App
 bare_command = on_top (λ s. record s { no_binary_name = true }) (new_app (codes "guacgate serve"))
 
--- .. with where it listens and what it tells, with whom it dials and gives up, with its page
+-- .. with where it listens and records, with what it notes, with whom it dials and gives up, with its page
 abbrev pub with_place : App → App
-with_place app = with_rule (with_rule (with_rule (with_rule app seed_rule) port_rule) recorder_rule) log_rule
+with_place app = with_rule (with_rule (with_rule app seed_rule) port_rule) recorder_rule
+
+abbrev pub with_notes : App → App
+with_notes app = with_rule (with_rule app log_rule) log_format_rule
 
 abbrev pub with_limits : App → App
 with_limits app = with_rule (with_rule (with_rule app allow_rule) silence_rule) linger_rule
@@ -55,7 +61,7 @@ abbrev pub with_page : App → App
 with_page app = with_rule (with_rule app page_rule) name_rule
 
 abbrev pub serve_command : App
-serve_command = with_page (with_limits (with_place bare_command))
+serve_command = with_page (with_limits (with_notes (with_place bare_command)))
 
 -- the texts of the options, each where it is there
 pub record Texts : Type 0 where
@@ -63,6 +69,7 @@ pub record Texts : Type 0 where
   pub port : Option Text
   pub recorder : Option Text
   pub level : Option Text
+  pub format : Option Text
   pub allow : Option (List Text)
   pub silence : Option Text
   pub linger : Option Text
@@ -76,6 +83,7 @@ texts_by first all = record {
   port = first (codes "port");
   recorder = first (codes "recorder");
   level = first (codes "log");
+  format = first (codes "log-format");
   allow = all (codes "allow");
   silence = first (codes "silence");
   linger = first (codes "linger");
@@ -100,12 +108,13 @@ options_in t =
     from (option_and_then port_of t.port) (λ port.
     from (recorder_of t.recorder) (λ recorder.
     from (option_and_then level_of t.level) (λ level.
+    from (option_and_then format_of t.format) (λ format.
     from (allowed_of t.allow) (λ allow.
     from (option_and_then seconds_of t.silence) (λ silence.
     from (option_and_then seconds_of t.linger) (λ linger.
     from (option_and_then flag_of t.page) (λ has_page.
     from (page_of has_page t.names) (λ page.
-    Some (record { seed = seed; port = port; recorder = recorder; level = level; allow = allow; silence = silence; linger = linger; page = page }))))))))))
+    Some (record { seed = seed; port = port; recorder = recorder; level = level; format = format; allow = allow; silence = silence; linger = linger; page = page })))))))))))
 
 -- nothing, where the command refuses the words
 abbrev pub unless_refused : Kinds → Option Options → Option Options

@@ -9,6 +9,8 @@ use Rattle.gate_model.specs.text.Numerals.{number_within}
 use Rattle.hex.specs.Hex.{decode_sized}
 use Rattle.log.specs.declared.level.LevelFilter.{LevelFilter}
 use Rattle.log.specs.declared.level.LevelFilter.TheVariants.{Error, Warn, Info}
+use Rattle.serve_words.specs.declared.format.LogFormat.{LogFormat}
+use Rattle.serve_words.specs.declared.format.LogFormat.TheVariants.{Json, Text}
 
 -- a seed is 32 bytes, each of two hexadecimal digits of either case, the high four bits first
 abbrev pub seed_of : List ℕ → Option (List ℕ)
@@ -25,6 +27,10 @@ level_of text =
     else if bytes_eq text (codes "warn") then Some Warn
     else if bytes_eq text (codes "info") then Some Info
     else None
+
+-- notes are written as text or as JSON
+abbrev pub format_of : List ℕ → Option LogFormat
+format_of text = if bytes_eq text (codes "text") then Some Text else if bytes_eq text (codes "json") then Some Json else None
 
 -- an address of a recorder: a host, which isn't empty, and a port
 abbrev pub Address : Type 0

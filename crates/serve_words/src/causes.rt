@@ -6,7 +6,7 @@ ghost use Rattle.serve_words.specs.Given.{options_given};
 use crate::command::serve_command;
 use crate::names::is_name;
 use crate::texts::{Texts, texts_in};
-use crate::values::{address_of, level_of, port_of, seconds_of, seed_of};
+use crate::values::{address_of, format_of, level_of, port_of, seconds_of, seed_of};
 use crate::{WordsFault, options_of};
 use gate_model::NoMemory;
 use std::alloc::Global;
@@ -53,6 +53,8 @@ const PORT: &str = "it is 1 to 65535";
 const ADDRESS: &str = "it is a host, a colon and a port of 1 to 65535";
 
 const LEVEL: &str = "it is error, warn or info";
+
+const FORMAT: &str = "it is text or json";
 
 const SECONDS: &str = "it is 0 to 1000000";
 
@@ -103,6 +105,12 @@ fn unfit_in<'a>(texts: &Texts<'a>) -> Option<Unfit<'a>> {
         level.and_then(level_of).is_some(),
         "--log <LEVEL>",
         LEVEL,
+    ))
+    .or_else(|| unfit_one(
+        texts.format,
+        texts.format.and_then(format_of).is_some(),
+        "--log-format <FORMAT>",
+        FORMAT,
     ))
     .or_else(|| unfit_address(texts.allow.unwrap_or(&[])))
     .or_else(|| unfit_seconds(texts.silence, "--silence <SECONDS>"))

@@ -2,7 +2,7 @@
 
 ghost use Rattle.std.specs.Prelude.{◌≡◌, IfOk, false};
 ghost use Rattle.clap.specs.Words.{app_of, rule_of};
-ghost use Rattle.serve_words.specs.Given.{serve_command, with_limits, with_page, with_place, with_value};
+ghost use Rattle.serve_words.specs.Given.{serve_command, with_limits, with_notes, with_page, with_place, with_value};
 
 use clap::{Arg, ArgAction, Command};
 use gate_model::NoMemory;
@@ -14,11 +14,12 @@ pub(crate) fn serve_command<'a>(alloc: Global) -> Result<Command<'a>, AllocError
 {
     let bare = Command::new(alloc, "guacgate serve").no_binary_name(true);
     let placed = with_place(alloc, bare)?;
-    let limited = with_limits(alloc, placed)?;
+    let noted = with_notes(alloc, placed)?;
+    let limited = with_limits(alloc, noted)?;
     with_page(alloc, limited)
 }
 
-// The command with the options of where it listens, and what it tells whom.
+// The command with the options of where it listens, under which secret, and where sessions are recorded.
 fn with_place<'a>(alloc: Global, command: Command<'a>) -> Result<Command<'a>, AllocError>
     ensures { IfOk result (λ more. app_of more ≡ with_place (app_of command.entry)) }
 {
@@ -38,6 +39,13 @@ fn with_place<'a>(alloc: Global, command: Command<'a>) -> Result<Command<'a>, Al
         "HOST:PORT",
         "where each session is recorded",
     );
+    command.arg(seed)?.arg(port)?.arg(recorder)
+}
+
+// The command with the options of what is noted.
+fn with_notes<'a>(alloc: Global, command: Command<'a>) -> Result<Command<'a>, AllocError>
+    ensures { IfOk result (λ more. app_of more ≡ with_notes (app_of command.entry)) }
+{
     let level = option(
         alloc,
         "log",
@@ -45,7 +53,14 @@ fn with_place<'a>(alloc: Global, command: Command<'a>) -> Result<Command<'a>, Al
         "how much is noted on standard error: error, warn or info",
     )
     .default_value("warn");
-    command.arg(seed)?.arg(port)?.arg(recorder)?.arg(level)
+    let format = option(
+        alloc,
+        "log-format",
+        "FORMAT",
+        "how notes are written, a line for each: text, or json",
+    )
+    .default_value("text");
+    command.arg(level)?.arg(format)
 }
 
 // The command with the options of what may be dialed, and who is given up.

@@ -1,5 +1,5 @@
 //! The words of `serve`: the seed of its IDs, the port that it listens on, where sessions are recorded, how much it
-//! notes, what may be dialed, when peers and sessions are given up, and whether it has a page.
+//! notes and how that is written, what may be dialed, when peers and sessions are given up, and whether it has a page.
 //!
 //! They are read by one simple command of `clap`, whose options are texts; the form of each value is checked by
 //! hand. Which options the words give is `options_given` of `specs/Given.antt`.
@@ -8,6 +8,7 @@
 mod allowed;
 mod causes;
 mod command;
+mod format;
 mod names;
 mod options;
 #[cfg(test)]
@@ -18,5 +19,6 @@ mod values;
 pub use allowed::Allowed;
 pub use causes::{cause, cause_of_prefix};
 pub use command::help;
+pub use format::LogFormat;
 pub use names::Names;
 pub use options::{Options, WordsFault, options_of};

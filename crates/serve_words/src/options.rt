@@ -8,9 +8,10 @@ ghost use Rattle.serve_words.specs.declared.options.WordsFault.TheVariants.{NoMe
 
 use crate::allowed::{Allowed, allowed_in};
 use crate::command::serve_command;
+use crate::format::LogFormat;
 use crate::names::{Names, page_in};
 use crate::texts::{Texts, texts_in};
-use crate::values::{address_of, flag_of, level_of, port_of, seconds_of, seed_of};
+use crate::values::{address_of, flag_of, format_of, level_of, port_of, seconds_of, seed_of};
 use clap::Error;
 use clap::error::ErrorKind;
 use gate_model::Text;
@@ -18,7 +19,7 @@ use log::LevelFilter;
 use std::alloc::{AllocError, Global};
 
 /// How a service runs: the seed under which its dice draw IDs, the port that it listens on, 1 to 65,535, the host
-/// and the port of the recorder of its sessions, where one is wanted, how much it notes, which hosts and ports alone
+/// and the port of the recorder of its sessions, where one is wanted, how much it notes and how that is written, which hosts and ports alone
 /// may be dialed, where not all may, after how many seconds a viewer or a host is given up that sends or takes nothing,
 /// and after how many a session without viewers is closed, of which 0 is never, and by which names the page may be asked
 /// for, where it is wanted.
@@ -28,6 +29,7 @@ pub struct Options {
     pub port: u16,
     pub recorder: Option<(Text, u16)>,
     pub level: LevelFilter,
+    pub format: LogFormat,
     pub allow: Option<Allowed>,
     pub silence: u32,
     pub linger: u32,
@@ -53,7 +55,7 @@ impl From<AllocError> for WordsFault {
 
 /// The options that the words after `serve` give: `--seed HEX` of 64 hexadecimal digits, which has to be there,
 /// `--port P` of 1 to 20 decimal digits, 1 to 65,535, else 4822, `--recorder HOST:PORT` with a host that isn't empty
-/// and such a port behind the last colon, else none, `--log` with `error`, `warn` or `info`, else `warn`, `--allow
+/// and such a port behind the last colon, else none, `--log` with `error`, `warn` or `info`, else `warn`, `--log-format` with `text` or `json`, else `text`, `--allow
 /// HOST:PORT` of the same form, any number of times, else all may be dialed, `--silence SECONDS` and `--linger
 /// SECONDS` of 0 to 1,000,000, else 0, and `--page`, with `--name NAME` any number of times. Usage comes exactly where
 /// the words give none, but for want of memory.
@@ -76,6 +78,7 @@ fn read(alloc: Global, texts: &Texts<'_>) -> Result<Options, WordsFault>
     let port = texts.port.and_then(port_of).ok_or(WordsFault::Usage)?;
     let recorder = recorder_in(alloc, texts.recorder)?;
     let level = texts.level.and_then(level_of).ok_or(WordsFault::Usage)?;
+    let format = texts.format.and_then(format_of).ok_or(WordsFault::Usage)?;
     let allow = allowed_in(alloc, texts.allow)?;
     let silence = texts.silence.and_then(seconds_of).ok_or(WordsFault::Usage)?;
     let linger = texts.linger.and_then(seconds_of).ok_or(WordsFault::Usage)?;
@@ -86,6 +89,7 @@ fn read(alloc: Global, texts: &Texts<'_>) -> Result<Options, WordsFault>
         port,
         recorder,
         level,
+        format,
         allow,
         silence,
         linger,

@@ -1,4 +1,4 @@
-use crate::{WordsFault, cause, cause_of_prefix, help, options_of};
+use crate::{LogFormat, WordsFault, cause, cause_of_prefix, help, options_of};
 use log::LevelFilter;
 use std::alloc::Global;
 use std::test::Fail;
@@ -21,7 +21,7 @@ fn options_come_from_the_words(rt: HostRuntime) -> Result<(), Fail> {
     let plain = options_of(alloc, &words(alloc, "--seed SEED")?)
         .ok()
         .ok_or("refused")?;
-    let line = "--port=080 --log info --seed SEED --recorder=::1:09";
+    let line = "--port=080 --log info --log-format=json --seed SEED --recorder=::1:09";
     let full = options_of(alloc, &words(alloc, line)?)
         .ok()
         .ok_or("refused")?;
@@ -30,6 +30,7 @@ fn options_come_from_the_words(rt: HostRuntime) -> Result<(), Fail> {
         (4822u16, 1u8, 255u8)
     );
     assert!(rt; plain.level == LevelFilter::Warn && full.level == LevelFilter::Info);
+    assert!(rt; plain.format == LogFormat::Text && full.format == LogFormat::Json);
     assert!(rt; full.port == 80 && plain.recorder.is_none());
     let (host, port) = full.recorder.ok_or("no recorder")?;
     assert!(rt; host.as_str() == "::1" && port == 9);
@@ -94,6 +95,9 @@ fn faulty_words_are_refused(rt: HostRuntime) -> Result<(), Fail> {
         "--seed SEED --port 65536",
         "--seed SEED --port=+80",
         "--seed SEED --log debug",
+        "--seed SEED --log-format JSON",
+        "--seed SEED --log-format",
+        "--seed SEED --log-format json --log-format json",
         "--seed SEED --recorder localhost",
         "--seed SEED --recorder :23",
         "--seed SEED --recorder localhost:",
@@ -132,6 +136,7 @@ fn help_names_the_options(rt: HostRuntime) -> Result<(), Fail> {
         "--port <PORT>",
         "--recorder <HOST:PORT>",
         "--log <LEVEL>",
+        "--log-format <FORMAT>",
         "--allow <HOST:PORT>",
         "--silence <SECONDS>",
         "--linger <SECONDS>",
@@ -178,6 +183,12 @@ fn a_faulty_value_is_told(rt: HostRuntime) -> Result<(), Fail> {
             "debug",
             "--log <LEVEL>",
             "it is error, warn or info",
+        ),
+        (
+            "--seed SEED --log-format=xml",
+            "xml",
+            "--log-format <FORMAT>",
+            "it is text or json",
         ),
         (
             "--seed SEED --allow a:23 --allow=:23",

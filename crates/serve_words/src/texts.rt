@@ -15,6 +15,7 @@ pub(crate) struct Texts<'a> {
     pub(crate) port: Option<&'a str>,
     pub(crate) recorder: Option<&'a str>,
     pub(crate) level: Option<&'a str>,
+    pub(crate) format: Option<&'a str>,
     pub(crate) allow: Option<&'a [&'a str]>,
     pub(crate) silence: Option<&'a str>,
     pub(crate) linger: Option<&'a str>,
@@ -28,7 +29,7 @@ impl<'a> Model for Texts<'a> {
 
     ghost Value = { GivenTexts };
 
-    ghost view = { λ s. record { seed = option_map (λ t. t.now) s.seed; port = option_map (λ t. t.now) s.port; recorder = option_map (λ t. t.now) s.recorder; level = option_map (λ t. t.now) s.level; allow = option_map (λ l. map (λ t. t.now) l.now) s.allow; silence = option_map (λ t. t.now) s.silence; linger = option_map (λ t. t.now) s.linger; page = option_map (λ t. t.now) s.page; names = option_map (λ l. map (λ t. t.now) l.now) s.names } };
+    ghost view = { λ s. record { seed = option_map (λ t. t.now) s.seed; port = option_map (λ t. t.now) s.port; recorder = option_map (λ t. t.now) s.recorder; level = option_map (λ t. t.now) s.level; format = option_map (λ t. t.now) s.format; allow = option_map (λ l. map (λ t. t.now) l.now) s.allow; silence = option_map (λ t. t.now) s.silence; linger = option_map (λ t. t.now) s.linger; page = option_map (λ t. t.now) s.page; names = option_map (λ l. map (λ t. t.now) l.now) s.names } };
 }
 
 /// What the command found.
@@ -40,6 +41,7 @@ pub(crate) fn texts_in<'a>(matches: &'a ArgMatches<'_>) -> Texts<'a>
         port: matches.get_str("port"),
         recorder: matches.get_str("recorder"),
         level: matches.get_str("log"),
+        format: matches.get_str("log-format"),
         allow: matches.get_strs("allow"),
         silence: matches.get_str("silence"),
         linger: matches.get_str("linger"),

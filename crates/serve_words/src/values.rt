@@ -6,8 +6,9 @@ ghost use Rattle.std.specs.List.{AllPass, list_all};
 ghost use Rattle.gate_model.specs.text.Numerals.{is_number};
 ghost use Rattle.gate_model.specs.text.Spelling.{number_of};
 ghost use Rattle.hex.specs.Hex.{is_hex_digit};
-ghost use Rattle.serve_words.specs.Values.{address_in, address_of, flag_of, level_of, port_of, seconds_of, seed_of};
+ghost use Rattle.serve_words.specs.Values.{address_in, address_of, flag_of, format_of, level_of, port_of, seconds_of, seed_of};
 
+use crate::LogFormat;
 use hex::FromHex;
 use log::LevelFilter;
 
@@ -85,6 +86,17 @@ pub(crate) fn level_of(text: &str) -> Option<LevelFilter>
         "error" => Some(LevelFilter::Error),
         "warn" => Some(LevelFilter::Warn),
         "info" => Some(LevelFilter::Info),
+        _ => None,
+    }
+}
+
+/// The way of writing of one of the two words.
+pub(crate) fn format_of(text: &str) -> Option<LogFormat>
+    ensures { result ≡ format_of text.now }
+{
+    match text {
+        "text" => Some(LogFormat::Text),
+        "json" => Some(LogFormat::Json),
         _ => None,
     }
 }
