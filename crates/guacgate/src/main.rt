@@ -17,7 +17,7 @@ use limits::serve_options;
 use log::sink::Console;
 use page_files::PageFile;
 use real_ends::{Limits, TcpNet, Watch};
-use saying::{say, say_end};
+use saying::{say, say_unprepared};
 use std::env::VarError;
 use std::io::ErrorKind;
 use std::net::{IpAddr, Ipv4Addr};
@@ -76,10 +76,11 @@ fn main(rt: HostRuntime) -> ExitCode {
     if let Some(status) = tell(&rt, &words, &mut output) {
         return ExitCode::from(status);
     }
+    let serves = serve_options(&words).is_some();
     let (words, ends) = match prepare(&rt, words) {
         Ok(prepared) => prepared,
         Err(status) => {
-            say_end(&rt, status);
+            say_unprepared(&rt, serves, status);
             return ExitCode::from(status);
         }
     };
@@ -99,7 +100,6 @@ fn main(rt: HostRuntime) -> ExitCode {
         files,
         log: Console(rt),
     };
-    let serves = serve_options(&words).is_some();
     if serves {
         let _ = thread::spawn(&rt, move || look_after(&rt, &of_job));
     }

@@ -5,6 +5,13 @@ pub(crate) fn say<R: Eprint>(rt: &R, text: &str) {
     let _ = eprintln!(rt; "{}", text.trim_end());
 }
 
+/// Says why a run ended before it began, with a status, where it is one of `serve`.
+pub(crate) fn say_unprepared<R: Eprint>(rt: &R, serves: bool, status: u8) {
+    if serves {
+        say_end(rt, status);
+    }
+}
+
 /// Says why a run of `serve` ended with a status, where nothing else tells it.
 pub(crate) fn say_end<R: Eprint>(rt: &R, status: u8) {
     match status {
