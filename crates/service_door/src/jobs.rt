@@ -1,5 +1,6 @@
 //! The two jobs of a session: one feeds it what its host sends, the other sends what it has for its host.
 
+use crate::causes::cause_at;
 use crate::marks::SharedMarks;
 use gate_model::Cause;
 use gate_outside::{Bell, Clock, Sink, Source};
@@ -36,6 +37,7 @@ impl<S: Source + Send + 'static, C: Clock + Send + 'static, B: Bell + Send + 'st
         if end == PumpEnd::NoMemory {
             stop(rt, &mut pass, &bell);
         }
+        marks.closed_for(cause_at(rt, alloc, &mut pass));
         marks.pump_ended();
     }
 }

@@ -7,6 +7,7 @@
 //! viewer (`IsKeeper` of `specs/Recorders.antt`).
 #![tactic(auto)]
 
+mod causes;
 mod door;
 mod jobs;
 mod making;
@@ -17,6 +18,7 @@ mod recording;
 mod refusals;
 mod session;
 
+pub use causes::find_closed;
 pub use door::ServiceDoor;
 pub use jobs::{PumpJob, SenderJob};
 pub use recorder::RecorderJob;

@@ -1,6 +1,7 @@
 //! The marks that a session's jobs set when they end, and how long nobody has been in it.
 
-use gate_model::NoMemory;
+use crate::causes::number_of;
+use gate_model::{Cause, NoMemory};
 use std::alloc::Global;
 use std::sync::Arc;
 use std::sync::atomic::Ordering::SeqCst;
@@ -9,6 +10,10 @@ use std::sync::atomic::{AtomicBool, AtomicU64};
 #[derive(Drop)]
 struct Marks {
     pump: AtomicBool,
+    // The number of the cause for which the session is closed, or 0.
+    cause: AtomicU64,
+    // Whether that cause was asked for.
+    told: AtomicBool,
     sender: AtomicBool,
     // Whether the recorder has ended before its session, and it wasn't asked for since.
     recorder: AtomicBool,
@@ -29,6 +34,8 @@ impl SharedMarks {
     pub(crate) fn new(alloc: Global, joinable: bool) -> Result<SharedMarks, NoMemory> {
         let marks = Marks {
             pump: AtomicBool::new(false),
+            cause: AtomicU64::new(0),
+            told: AtomicBool::new(false),
             sender: AtomicBool::new(false),
             recorder: AtomicBool::new(false),
             deserted: AtomicU64::new(0),
@@ -44,6 +51,26 @@ impl SharedMarks {
         Ok(SharedMarks {
             marks: Arc::try_clone(&self.marks)?,
         })
+    }
+
+    /// Says for which cause the session is closed.
+    pub(crate) fn closed_for(&self, cause: Option<Cause>) {
+        self.marks.cause.store(number_of(cause), SeqCst);
+    }
+
+    /// The number of the cause for which the session is closed, or 0.
+    pub(crate) fn cause(&self) -> u64 {
+        self.marks.cause.load(SeqCst)
+    }
+
+    /// The same, where it wasn't asked for so before; else 0.
+    pub(crate) fn take_cause(&self) -> u64 {
+        let cause = self.cause();
+        if cause > 0 && !self.marks.told.swap(true, SeqCst) {
+            cause
+        } else {
+            0
+        }
     }
 
     /// Says that the pump has ended.
