@@ -8,7 +8,7 @@ use crate::notes::{note_end, note_recorder_failed, note_refused, note_untidied};
 use crate::paging::Page;
 use crate::seen::WatchedShelf;
 use crate::tidying::TidyJob;
-use gate_model::{Instr, NoMemory, Text};
+use gate_model::{Cause, Instr, NoMemory, Text};
 use gate_outside::{Bell, Dialer, Helper, Net, Sink, Spawner, write_all};
 use guac_instr::text_of;
 use id_table::LockedShelf;
@@ -82,7 +82,8 @@ where
                 return;
             };
             session.stop(rt, &self.bell);
-            note_end(&self.log, &id, session.newest());
+            let cause = session.cause().or(Some(Cause::Stopped));
+            note_end(&self.log, &id, session.newest(), cause);
         }
     }
 
@@ -185,7 +186,7 @@ pub(crate) fn sweep_all<R: Wait, L: Log>(rt: &R, sessions: &LockedShelf<Session>
         if session.take_recorder_failed() {
             note_recorder_failed(log, &id);
         }
-        note_end(log, &id, session.newest());
+        note_end(log, &id, session.newest(), session.cause());
     }
 }
 

@@ -1,5 +1,6 @@
 //! What the service notes. An ID is cut to its first eight digits, so that a note gives nobody a session.
 
+use gate_model::{Cause, Role};
 use log::{Log, info, warn};
 use uuid::Uuid;
 
@@ -35,9 +36,20 @@ pub(crate) fn note_undone<L: Log>(log: &L, name: &str) {
     warn!(log; session = digits(name); "session ${} was taken back, since a job of it couldn't be started", digits(name));
 }
 
+/// A viewer has joined the session of this name, in a role.
+pub(crate) fn note_joined<L: Log>(log: &L, name: &str, viewer: u32, role: Role) {
+    let role = word_of(role);
+    info!(log; session = digits(name), viewer, role; "viewer {viewer} has joined session ${}, to {role}", digits(name));
+}
+
+/// Who asked to join the session of this name was refused with a status.
+pub(crate) fn note_not_joined<L: Log>(log: &L, name: &str, status: u16) {
+    info!(log; session = digits(name), status; "a viewer couldn't join session ${}: it was refused with {status}", digits(name));
+}
+
 /// A viewer has left the session of this name.
-pub(crate) fn note_visit<L: Log>(log: &L, name: &str) {
-    info!(log; session = digits(name); "a viewer of session ${} has left", digits(name));
+pub(crate) fn note_visit<L: Log>(log: &L, name: &str, viewer: u32) {
+    info!(log; session = digits(name), viewer; "viewer {viewer} of session ${} has left", digits(name));
 }
 
 /// The host and the port of the session of this name were dialed.
@@ -48,6 +60,11 @@ pub(crate) fn note_dialed<L: Log>(log: &L, name: &str, host: &str, port: u16) {
 /// The host and the port couldn't be dialed, or may not be.
 pub(crate) fn note_undialed<L: Log>(log: &L, host: &str, port: u16) {
     warn!(log; host, port; "{host:?}, port {port}, couldn't be dialed");
+}
+
+/// No session could be begun to the host and the port: who asked was refused with a status.
+pub(crate) fn note_unbegun<L: Log>(log: &L, host: &str, port: u16, status: u16) {
+    warn!(log; host, port, status; "no session could be begun to {host:?}, port {port}: it was refused with {status}");
 }
 
 /// A session is closed, since nobody has been in it for as long as it may.
@@ -84,11 +101,40 @@ pub(crate) fn note_untidied<L: Log>(log: &L) {
     warn!(log; "nothing that is silent is given up, since the job for it couldn't be started");
 }
 
-/// A session has left the table, with so many entries.
-pub(crate) fn note_end<L: Log>(log: &L, id: &Uuid, entries: u64) {
+/// A session is closed, for a cause.
+pub(crate) fn note_closed<L: Log>(log: &L, id: &Uuid, cause: Cause) {
     let mut buffer = Uuid::encode_buffer();
     let session = first_of(id, &mut buffer);
-    info!(log; session, entries; "session ${session} has ended, after {entries} entries");
+    let (end, why) = told(Some(cause));
+    info!(log; session, end; "session ${session} is closed: {why}");
+}
+
+/// A session has left the table, with so many entries, for a cause, where it is known.
+pub(crate) fn note_end<L: Log>(log: &L, id: &Uuid, entries: u64, cause: Option<Cause>) {
+    let mut buffer = Uuid::encode_buffer();
+    let session = first_of(id, &mut buffer);
+    let (end, why) = told(cause);
+    info!(log; session, entries, end; "session ${session} has ended, after {entries} entries: {why}");
+}
+
+// A cause in a word, and told to people.
+fn told(cause: Option<Cause>) -> (&'static str, &'static str) {
+    match cause {
+        Some(Cause::ServerEnd) => ("host", "its host ended the connection"),
+        Some(Cause::LinkFault) => ("fault", "the connection to its host failed"),
+        Some(Cause::Stopped) => ("stopped", "it was stopped"),
+        Some(Cause::Worn) => ("full", "it had as many entries as it may have"),
+        None => ("unknown", "nobody knows why"),
+    }
+}
+
+// What a role lets a viewer do.
+fn word_of(role: Role) -> &'static str {
+    match role {
+        Role::Control => "type",
+        Role::View => "look",
+        Role::Keep => "record",
+    }
 }
 
 /// A connection couldn't be served.

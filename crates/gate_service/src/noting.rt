@@ -3,13 +3,14 @@
 ghost use Rattle.std.specs.Prelude.{Option};
 
 use crate::notes::{
-    note_begun, note_dialed, note_undialed, note_undone, note_unrecorded, note_unstarted,
-    note_visit,
+    note_begun, note_dialed, note_joined, note_not_joined, note_unbegun, note_undialed,
+    note_undone, note_unrecorded, note_unstarted, note_visit,
 };
 use gate_model::{Asked, Text};
 use gate_outside::{Counted, Way};
-use guac_handshake::{Ask, Begun, Door, Recorder, Refused, Welcome};
+use guac_handshake::{Ask, Begun, Door, Recorder, Refused, Welcome, status_of};
 use log::Log;
+use shared_desk::Place;
 use std::alloc::Global;
 use std::sync::Wait;
 
@@ -29,7 +30,7 @@ impl<D: Door, L: Log + Drop> Counted for NotingDoor<D, L> {
     ghost draws = { λ d. D.draws d.door };
 }
 
-impl<D: Door, L: Log + Drop> Door for NotingDoor<D, L> {
+impl<D: Door<Place = Place>, L: Log + Drop> Door for NotingDoor<D, L> {
     type Place = D::Place;
 
     type Pump = D::Pump;
@@ -66,7 +67,12 @@ impl<D: Door, L: Log + Drop> Door for NotingDoor<D, L> {
                 note_dialed(&self.log, name, ask.host.as_str(), ask.port);
             }
             Err(Refused::Dial) => note_undialed(&self.log, ask.host.as_str(), ask.port),
-            Err(_) => {}
+            Err(refused) => note_unbegun(
+                &self.log,
+                ask.host.as_str(),
+                ask.port,
+                status_of(*refused),
+            ),
         }
         opened
     }
@@ -92,11 +98,21 @@ impl<D: Door, L: Log + Drop> Door for NotingDoor<D, L> {
         name: &str,
         role: Asked,
     ) -> Result<Welcome<D::Place>, Refused> {
-        self.door.join(rt, alloc, name, role)
+        let joined = self.door.join(rt, alloc, name, role);
+        match &joined {
+            Ok(welcome) => note_joined(
+                &self.log,
+                name,
+                welcome.place.reader.viewer(),
+                welcome.place.role,
+            ),
+            Err(refused) => note_not_joined(&self.log, name, status_of(*refused)),
+        }
+        joined
     }
 
     fn give<R: Wait>(&mut self, rt: &R, id: &str, place: D::Place) {
-        note_visit(&self.log, id);
+        note_visit(&self.log, id, place.reader.viewer());
         self.door.give(rt, id, place);
     }
 }

@@ -1,15 +1,20 @@
 //! The job that gives up what nobody uses.
 
 use crate::accepting::sweep_all;
-use crate::notes::{note_backlogged, note_deserted, note_recorder_failed, note_silent};
+use crate::notes::{
+    note_backlogged, note_closed, note_deserted, note_end, note_recorder_failed, note_silent,
+};
 use crate::seen::WatchedShelf;
+use gate_model::Cause;
 use gate_outside::{Bell, Helper};
 use http::Method;
 use http_front::Request;
 use http_tunnel::tunnel_request;
 use id_table::LockedShelf;
 use log::Log;
-use service_door::{ServiceDoor, Session, close_backlogged, find_unrecorded, look, sweep_deserted};
+use service_door::{
+    ServiceDoor, Session, close_backlogged, find_closed, find_unrecorded, look, sweep_deserted,
+};
 use std::alloc::Global;
 use std::sync::Wait;
 use std::sync::atomic::AtomicU64;
@@ -59,6 +64,7 @@ where
             if wakes {
                 looks = 0;
             }
+            job.note_closed(rt);
             sweep_all(rt, &job.sessions, &job.log);
             look(rt, &job.sessions, &job.bell, wakes);
             job.close_backlogged(rt);
@@ -76,6 +82,16 @@ where
         for _ in rt.forever() {
             match close_backlogged(rt, &mut self.sessions, &self.bell) {
                 Some(id) => note_backlogged(&self.log, &id),
+                None => return,
+            }
+        }
+    }
+
+    // Notes which sessions are closed, also where somebody has a place in them yet.
+    fn note_closed<R: Wait>(&self, rt: &R) {
+        for _ in rt.forever() {
+            match find_closed(rt, &self.sessions) {
+                Some((id, cause)) => note_closed(&self.log, &id, cause),
                 None => return,
             }
         }
@@ -102,6 +118,8 @@ where
             };
             note_deserted(&self.log, &id);
             session.stop(rt, &self.bell);
+            let cause = session.cause().or(Some(Cause::Stopped));
+            note_end(&self.log, &id, session.newest(), cause);
         }
     }
 
