@@ -2,8 +2,8 @@
 
 ghost use Rattle.std.specs.Prelude.{◌≡◌, ◌⊎◌};
 
+use crate::noting::Notes;
 use crate::saying::say_end;
-use log::sink::Console;
 use log::{LevelFilter, Logged, error, warn};
 use real_ends::Watch;
 use std::fs::Files;
@@ -31,11 +31,11 @@ const BETWEEN: u64 = 20;
 /// Looks until the process is asked to end, and then ends the net, at SIGINT at once. A signal that the process was started without, as by
 /// `env --block-signal=TERM`, stays pending, and the system tells so; also where the process is the first of a
 /// container, for which the system has no action of its own.
-pub(crate) fn look_after<R>(rt: &R, watch: &Watch)
+pub(crate) fn look_after<R>(rt: &R, watch: &Watch, notes: Notes)
 where
-    R: Files + Alloc + Clock + Wait + Eprint + Copy + Drop,
+    R: Files + AllocGlobal + Clock + Wait + Copy + Drop,
 {
-    let log = Logged::new(*rt, LevelFilter::Warn, Console(*rt));
+    let log = Logged::new(*rt, LevelFilter::Warn, notes.log(rt));
     let mut told = 0u64;
     let mut quiet = QUIET;
     for _ in rt.forever() {
@@ -58,33 +58,39 @@ where
 }
 
 /// The status of a run, of `serve` or of other words: a service that was told to end has ended well, once its connections
-/// are gone or five seconds have, and of one that ended by a fault it is told which.
-pub(crate) fn ended<R: Clock + Eprint + Copy + Drop>(
-    rt: &R,
-    status: u8,
-    serves: bool,
-    watch: &Watch,
-) -> u8
+/// are gone or five seconds have, and of one that ended by a fault it is told which, unless nobody takes its notes.
+pub(crate) fn ended<R>(rt: &R, status: u8, serves: bool, watch: &Watch, notes: Notes) -> u8
+where
+    R: AllocGlobal + Clock + Wait + Eprint + Copy + Drop,
     ensures { (result ≡ status) ⊎ (result ≡ 0) }
 {
-    if status != 8 {
-        if serves {
-            say_end(rt, status);
-        }
+    if !serves {
         return status;
     }
-    if watch.is_ending() {
+    if status == 8 && watch.is_ending() {
         wait_for_ends(rt, watch);
+        let _ = notes.queue.settle(rt);
         return 0;
     }
     match watch.fault() {
-        Some(number) => {
-            let log = Logged::new(*rt, LevelFilter::Error, Console(*rt));
-            error!(log; "the port can't be listened on: {}", io::Error::from_raw_os_error(number));
+        Some(number) if status == 8 => note_fault(rt, number, notes),
+        _ => {
+            if notes.queue.settle(rt) {
+                say_end(rt, status);
+            }
         }
-        None => say_end(rt, status),
     }
     status
+}
+
+// Notes the fault of the system by which the net ended.
+fn note_fault<R>(rt: &R, number: i32, notes: Notes)
+where
+    R: AllocGlobal + Clock + Wait + Copy + Drop,
+{
+    let log = Logged::new(*rt, LevelFilter::Error, notes.log(rt));
+    error!(log; "the port can't be listened on: {}", io::Error::from_raw_os_error(number));
+    let _ = notes.queue.settle(rt);
 }
 
 // Waits until no connection is open, so that viewers and recorders have their last bytes.

@@ -1,22 +1,25 @@
-//! The limits that the words of `serve` set to the net.
+//! The limits that the words of `serve` set to the net, and how it notes.
 
 use crate::saying::say;
 use real_ends::{Limits, RuleFault, Rules};
-use serve_words::{Allowed, Options, WordsFault, cause, cause_of_prefix, options_of};
+use serve_words::{Allowed, LogFormat, Options, WordsFault, cause, cause_of_prefix, options_of};
 
-/// The limits of the words: none where they give no options, which is told, and whose status is for who does what they
-/// say. The status is 2 where a prefix of `--allow` is of no form, and 6 where memory is wanting.
-pub(crate) fn limits_of<R: AllocGlobal + Eprint>(rt: &R, words: &[String]) -> Result<Limits, u8> {
+/// The limits of the words, and how is noted: none, and text, where they give no options, which is told, and whose status
+/// is for who does what they say. The status is 2 where a prefix of `--allow` is of no form, and 6 where memory is wanting.
+pub(crate) fn limits_of<R: AllocGlobal + Eprint>(
+    rt: &R,
+    words: &[String],
+) -> Result<(Limits, LogFormat), u8> {
     let Some(options) = serve_options(words) else {
-        return Ok(Limits::none());
+        return Ok((Limits::none(), LogFormat::Text));
     };
     match options_of(rt.alloc(), options) {
-        Ok(options) => limits_in(rt, &options),
+        Ok(options) => Ok((limits_in(rt, &options)?, options.format)),
         Err(WordsFault::Usage) => {
             if let Some(said) = cause(rt.alloc(), options).map_err(|_| 6)? {
                 say(rt, &said);
             }
-            Ok(Limits::none())
+            Ok((Limits::none(), LogFormat::Text))
         }
         Err(WordsFault::NoMemory) => Err(6),
     }

@@ -14,21 +14,28 @@ use ending::{ended, look_after};
 use gate_outside::{Failed, Sink, StdSink, StdSource, write_all};
 use gate_service::{Host, top};
 use limits::serve_options;
-use log::sink::Console;
+use noting::Notes;
 use page_files::PageFile;
 use real_ends::{Limits, TcpNet, Watch};
 use saying::{say, say_unprepared};
+use service_notes::Queue;
 use std::env::VarError;
+use std::fs::Files;
 use std::io::ErrorKind;
 use std::net::{IpAddr, Ipv4Addr};
 use std::process::ExitCode;
+use std::sync::Wait;
+use std::thread::Threads;
+use std::time::Clock;
 use std::{env, thread};
 use web_page::page;
 
 mod ending;
 mod limits;
+mod noting;
 mod saying;
 mod seed;
+mod standard;
 
 const VERSION: &str = "guacgate 0.1.0\n";
 
@@ -41,9 +48,9 @@ usage: guacgate draw COLS ROWS < BYTES
        guacgate play at STAMP < RECORDING
        guacgate play keys < BYTES
        guacgate clip < BYTES
-       guacgate serve --seed HEX [--port PORT] [--log LEVEL] [--allow HOST:PORT]
-                      [--silence SECONDS] [--linger SECONDS] [--recorder HOST:PORT]
-                      [--page] [--name NAME]
+       guacgate serve --seed HEX [--port PORT] [--recorder HOST:PORT] [--log LEVEL]
+                      [--log-format FORMAT] [--allow HOST:PORT] [--silence SECONDS]
+                      [--linger SECONDS] [--page] [--name NAME]
 
 draw    draws what a Telnet host sent, read from standard input, on a screen of COLS columns (1 to
         512) and ROWS rows (1 to 256), at most 8192 cells
@@ -77,7 +84,7 @@ fn main(rt: HostRuntime) -> ExitCode {
         return ExitCode::from(status);
     }
     let serves = serve_options(&words).is_some();
-    let (words, ends) = match prepare(&rt, words) {
+    let (words, ends) = match prepare(&rt, words, serves) {
         Ok(prepared) => prepared,
         Err(status) => {
             say_unprepared(&rt, serves, status);
@@ -91,6 +98,7 @@ fn main(rt: HostRuntime) -> ExitCode {
         of_net,
         of_job,
         files,
+        notes,
     } = ends;
     let mut host = Host {
         source: StdSource::new(rt.reader()),
@@ -98,13 +106,13 @@ fn main(rt: HostRuntime) -> ExitCode {
         frames: StdSink::new(rt.stderr()),
         net: TcpNet::within(rt, address, limits, of_net),
         files,
-        log: Console(rt),
+        log: notes.log(&rt),
     };
     if serves {
-        let _ = thread::spawn(&rt, move || look_after(&rt, &of_job));
+        start_jobs(&rt, of_job, notes);
     }
     let status = top(&rt, rt.alloc(), &words, &mut host);
-    ExitCode::from(ended(&rt, status, serves, &watch))
+    ExitCode::from(ended(&rt, status, serves, &watch, notes))
 }
 
 // Tells the text that the words ask for, if they ask for one: the status then.
@@ -122,7 +130,7 @@ fn tell<K: Sink>(rt: &HostRuntime, words: &[String], output: &mut K) -> Option<u
 }
 
 // What a service is made of: where it listens, within which limits, what is seen of its net, here, by the net and by the
-// job that looks after it, and the files of its page.
+// job that looks after it, the files of its page, and its notes.
 #[derive(Drop)]
 struct Ends {
     address: IpAddr,
@@ -131,13 +139,27 @@ struct Ends {
     of_net: Watch,
     of_job: Watch,
     files: &'static [PageFile],
+    notes: Notes,
+}
+
+// Starts what goes on beside the service: its notes are written, and it is looked after.
+fn start_jobs<R>(rt: &R, watch: Watch, notes: Notes)
+where
+    R: Threads + Wait + Clock + Files + AllocGlobal + Eprint + Copy + Send + Drop + 'static,
+{
+    notes.start(rt);
+    let inner = *rt;
+    let _ = thread::spawn(rt, move || look_after(&inner, &watch, notes));
 }
 
 // The words with their seed, and what the net is made of.
-fn prepare(rt: &HostRuntime, words: Vec<String>) -> Result<(Vec<String>, Ends), u8> {
+fn prepare(rt: &HostRuntime, words: Vec<String>, serves: bool) -> Result<(Vec<String>, Ends), u8> {
+    if serves {
+        standard::fill_ends(rt);
+    }
     let words = seed::read_in(rt, words)?;
     let address = address(rt)?;
-    let limits = limits::limits_of(rt, &words)?;
+    let (limits, format) = limits::limits_of(rt, &words)?;
     let Ok(watch) = Watch::new(rt.alloc()) else {
         return Err(6);
     };
@@ -147,6 +169,9 @@ fn prepare(rt: &HostRuntime, words: Vec<String>) -> Result<(Vec<String>, Ends), 
     let Ok(files) = page(rt.alloc()) else {
         return Err(6);
     };
+    let Ok(queue) = Queue::new(rt.alloc()) else {
+        return Err(6);
+    };
     let ends = Ends {
         address,
         limits,
@@ -154,6 +179,7 @@ fn prepare(rt: &HostRuntime, words: Vec<String>) -> Result<(Vec<String>, Ends), 
         of_net,
         of_job,
         files,
+        notes: Notes::new(format, queue),
     };
     Ok((words, ends))
 }
