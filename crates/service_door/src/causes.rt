@@ -3,8 +3,7 @@
 use crate::Session;
 use gate_model::Cause;
 use id_table::LockedShelf;
-use shared_desk::{FeedRefusal, LinkPass};
-use std::alloc::Global;
+use session_link::PumpEnd;
 use std::sync::Wait;
 use std::sync::atomic::AtomicU64;
 use std::sync::atomic::Ordering::SeqCst;
@@ -28,22 +27,24 @@ pub fn find_closed<R: Wait>(rt: &R, sessions: &LockedShelf<Session>) -> Option<(
     Some((id, cause_of(number.load(SeqCst))?))
 }
 
-/// Why a session is closed: so it refuses a piece, which changes nothing. None where it is open.
-pub(crate) fn cause_at<R: Wait>(rt: &R, alloc: Global, pass: &mut LinkPass) -> Option<Cause> {
-    match pass.feed(rt, alloc, &[0u8], 0) {
-        Err(FeedRefusal::Closed(cause)) => Some(cause),
-        _ => None,
+/// Why a session is closed whose pump has ended so; at want of memory its job stops it.
+pub(crate) fn cause_at(end: PumpEnd) -> Cause {
+    match end {
+        PumpEnd::LinkEnded => Cause::ServerEnd,
+        PumpEnd::ReadFault => Cause::LinkFault,
+        PumpEnd::Closed(cause) => cause,
+        PumpEnd::Worn => Cause::Worn,
+        PumpEnd::NoMemory => Cause::Stopped,
     }
 }
 
-/// The number of a cause, as a mark has it; 0 is none.
-pub(crate) fn number_of(cause: Option<Cause>) -> u64 {
+/// The number of a cause, as a mark has it, of 1 to 4; 0 is none.
+pub(crate) fn number_of(cause: Cause) -> u64 {
     match cause {
-        None => 0,
-        Some(Cause::ServerEnd) => 1,
-        Some(Cause::LinkFault) => 2,
-        Some(Cause::Stopped) => 3,
-        Some(Cause::Worn) => 4,
+        Cause::ServerEnd => 1,
+        Cause::LinkFault => 2,
+        Cause::Stopped => 3,
+        Cause::Worn => 4,
     }
 }
 

@@ -37,7 +37,7 @@ impl<S: Source + Send + 'static, C: Clock + Send + 'static, B: Bell + Send + 'st
         if end == PumpEnd::NoMemory {
             stop(rt, &mut pass, &bell);
         }
-        marks.closed_for(cause_at(rt, alloc, &mut pass));
+        marks.closed_for(cause_at(end));
         marks.pump_ended();
     }
 }

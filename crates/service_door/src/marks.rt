@@ -54,7 +54,7 @@ impl SharedMarks {
     }
 
     /// Says for which cause the session is closed.
-    pub(crate) fn closed_for(&self, cause: Option<Cause>) {
+    pub(crate) fn closed_for(&self, cause: Cause) {
         self.marks.cause.store(number_of(cause), SeqCst);
     }
 
