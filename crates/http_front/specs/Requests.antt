@@ -1,7 +1,7 @@
 -- The requests that bytes make, and why they make none (RFC 9112 as `httparse` reads it; the limits, the statuses and
 -- their order are this project's own).
 use Rattle.std.specs.Prelude.{◌≡◌, ◌⊎◌, ℕ, ◌+◌, ◌<◌, ◌≤◌, List, length, take, drop, map, All, Some, None}
-use Rattle.httparse.specs.Grammar.{RequestHead, ReadsRequest, HasNoRequest, NeverHasRequest, print_request}
+use Rattle.httparse.specs.Grammar.{RequestHead, ReadsRequest, HasNoRequest, MayBecomeRequest, NeverHasRequest, print_request}
 use Rattle.httparse.specs.declared.spans.HeaderSpan.{HeaderSpan}
 use Rattle.httparse.specs.declared.spans.RequestSpans.{RequestSpans}
 use Rattle.httparse.specs.Spans.{IsHeaderWithin, IsRequestAt, IsWithin, RequestExceeds, header_bytes, name_and_value, span_bytes}
@@ -31,11 +31,11 @@ pub record Begins (bytes : List ℕ) (head : RequestHead) (rest : List ℕ) : Ty
 abbrev pub HasNoHead : List ℕ → Type 0
 HasNoHead bytes = (head : RequestHead) (rest : List ℕ) → ¬ (Begins bytes head rest)
 
--- why a head is refused, of the bytes that came: there are too many fields, or too many bytes without a whole
--- head; no bytes that follow can make a head; or the fields of a head that is whole are refused
+-- why a head is refused, of the bytes that came: there are too many fields, or too many bytes without a whole head, which
+-- more of them could make; no bytes that follow can make a head; or the fields of a head that is whole are refused
 abbrev pub IsRefused : List ℕ → ℕ → Type 0
 IsRefused bytes status =
-    ((status ≡ 431) × HasNoHead bytes × (RequestExceeds most_fields bytes ⊎ (length bytes ≡ most_head)))
+    ((status ≡ 431) × HasNoHead bytes × (RequestExceeds most_fields bytes ⊎ ((length bytes ≡ most_head) × MayBecomeRequest bytes)))
     ⊎ ((status ≡ 400) × HasNoHead bytes × NeverHasRequest bytes)
     ⊎ ((head : RequestHead) × (rest : List ℕ) × Begins bytes head rest × (refusal_of (map name_and_value head.fields) ≡ Some status))
 
@@ -120,7 +120,7 @@ pub record IsWholeHead (bytes : List ℕ) (fields : List HeaderSpan) (spans : Re
 
 -- what is said of bytes of which more may come
 abbrev pub Judges : List ℕ → Judged → Type 0
-Judges bytes More = HasNoRequest bytes
+Judges bytes More = HasNoRequest bytes × MayBecomeRequest bytes
 Judges bytes (Taken place) = IsTaken bytes place
 Judges bytes (judged_refused status) = IsRefused bytes status
 
