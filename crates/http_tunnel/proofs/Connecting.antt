@@ -2,7 +2,9 @@
 use Rattle.std.proofs.Common.{◌≡◌, ◌⊎◌, inl, inr, ℕ, ◌+◌, ◌-◌, ◌<◌, List, [], ◌++◌, length, refl, ap, sym, ◌∙◌, subst, arith}
 use Rattle.std.specs.Prelude.{Option, Some, None, IfSome, is_some, Result, Ok, Err, IsOk, OnErr, is_ok, if◌then◌else◌}
 use Rattle.std.specs.Option.{option_map}
-use Rattle.guac_handshake.specs.Doors.{option_less}
+use Rattle.guac_handshake.specs.Doors.{Sessions, option_less}
+use Rattle.guac_handshake.specs.Opening.{HasOpened}
+use Rattle.guac_handshake.specs.declared.request.Request.{Request}
 use Rattle.guac_handshake.specs.declared.form_refusal.FormRefusal.{FormRefusal}
 use Rattle.guac_handshake.specs.declared.form_refusal.FormRefusal.TheVariants as form
 use Rattle.guac_handshake.specs.declared.refused.Refused.{Refused}
@@ -77,6 +79,19 @@ connected_home drawn opened result a b home t = after_told (ConnectOf drawn open
 pub less_more : (out mid now : Option ℕ) → mid ≡ option_map (λ n. n + 1) out → now ≡ option_less mid → now ≡ out
 less_more None mid now more less = less ∙ ap option_less more
 less_more (Some n) mid now more less = less ∙ (ap option_less more ∙ ap Some (let z : (n + 1) - 1 ≡ n = omega arith in z))
+
+-- ---- what the door says of itself
+
+-- a door that wasn't called since says what it said
+pub still_granted : {D : Type 0} (d e : D) (P : D → Type 0) → e ≡ d → P d → P e
+still_granted d e P same p = subst P (sym same) p
+
+-- of a refusal nothing is said of what is given
+pub still_refused : (id_of : List ℕ → Option (List ℕ)) (sessions sessions_new : Option Sessions) (draws : Option (ℕ → List ℕ)) (Gives Others : Request → Welcome Place → Type 0) (before now : Option (List Request)) (body : List ℕ) (refused : FormRefusal)
+    → HasOpened id_of sessions sessions_new draws Gives before now body (Err refused) → HasOpened id_of sessions sessions_new draws Others before now body (Err refused)
+still_refused id_of sessions sessions_new draws Gives Others before now body form.Form h = h
+still_refused id_of sessions sessions_new draws Gives Others before now body form.NoMemory h = h
+still_refused id_of sessions sessions_new draws Gives Others before now body (form.Door refused) h = h
 
 -- ---- what the door counted
 

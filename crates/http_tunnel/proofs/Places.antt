@@ -5,8 +5,8 @@ use Rattle.guac_handshake.specs.Doors.{KeepsIds, SameId, Sessions, TouchesOne}
 use Rattle.guac_handshake.specs.Opening.{HasMoved}
 use Rattle.guac_handshake.specs.declared.form_refusal.FormRefusal.{FormRefusal}
 use Rattle.guac_handshake.specs.declared.welcome.Welcome.{Welcome}
-use Rattle.guac_handshake.proofs.Touching.{told_kept}
-use Rattle.id_table.specs.Maps.{Changed, Shelved, Told, had}
+use Rattle.guac_handshake.proofs.Touching.{moved_none as unasked}
+use Rattle.id_table.specs.Maps.{Changed, Same, Shelved, Told, had}
 use Rattle.id_table.specs.Refused.{value_of}
 use Rattle.id_table.specs.declared.add_refusal.AddRefusal.{AddRefusal}
 use Rattle.id_table.specs.declared.add_refusal.AddRefusal.TheVariants as refusal
@@ -45,7 +45,7 @@ touched_back name m k n (inr h) g = inr (λ id. (same_on (m id) (k id) (n id) (h
 
 module _ (id_of : List ℕ → Option (List ℕ)) where
   pub moved_none : (r : FormRefusal) (o : Option Sessions) → Told o o (HasMoved {P = Place} id_of (Err r))
-  moved_none r o = told_none (HasMoved {P = Place} id_of (Err r)) o o refl (λ m. (None, told_kept None (Some m)))
+  moved_none r o = unasked Place id_of o o r (told_none Same o o refl (λ m k. refl))
 
   pub moved_back : (welcome : Welcome Place) (o p q : Option Sessions) → Told o p (HasMoved id_of (Ok welcome)) → Told p q (KeepsIds (id_of welcome.id)) → Told o q (HasMoved id_of (Ok welcome))
   moved_back welcome o p q moved kept = told_on (HasMoved id_of (Ok welcome)) (KeepsIds (id_of welcome.id)) (HasMoved id_of (Ok welcome)) o p q moved kept (λ m k n is h g. touched_back (id_of welcome.id) m k n h g)

@@ -7,6 +7,8 @@ use Rattle.turn_lock.specs.declared.view.View.{View}
 use Rattle.http_front.specs.declared.response.Response.{Response}
 use Rattle.guac_handshake.specs.Doors.{Sessions}
 use Rattle.guac_handshake.specs.declared.request.Request.{Request}
+use Rattle.guac_handshake.specs.declared.welcome.Welcome.{Welcome}
+use Rattle.shared_desk.specs.declared.place.Place.{Place}
 use Rattle.id_table.specs.Maps.{Shelved}
 use Rattle.http_tunnel.specs.Requests.{IsResponse, IsTunnelRefusal, Serves, without_body}
 use Rattle.http_tunnel.specs.Reads.{mark_of}
@@ -126,6 +128,6 @@ busy_answered (Ok body) response r e = absurd (let z : 200 ≡ 503 = sym r.0 ∙
 busy_answered (Err refusal) response r e = ap Err (status_busy refusal (sym r.0 ∙ e))
 
 -- what was done for the same request
-pub served_as : (id_of : List ℕ → Option (List ℕ)) (s s1 : Option Sessions) (draws : Option (ℕ → List ℕ)) (asked asked1 : Option (List Request)) (out out1 : Option ℕ) (drawn : Option (ℕ → List ℕ)) (told told1 : Option (Shelved Tunnel)) (body : List ℕ) (answered : Result (List ℕ) Refusal) (r q : Route) → r ≡ q
-    → Serves id_of s s1 draws asked asked1 out out1 drawn told told1 body answered q → Serves id_of s s1 draws asked asked1 out out1 drawn told told1 body answered r
-served_as id_of s s1 draws asked asked1 out out1 drawn told told1 body answered r q same k = subst (λ (x : Route). Serves id_of s s1 draws asked asked1 out out1 drawn told told1 body answered x) (sym same) k
+pub served_as : (id_of : List ℕ → Option (List ℕ)) (s s1 : Option Sessions) (draws : Option (ℕ → List ℕ)) (gives : Request → Welcome Place → Type 0) (asked asked1 : Option (List Request)) (out out1 : Option ℕ) (drawn : Option (ℕ → List ℕ)) (told told1 : Option (Shelved Tunnel)) (body : List ℕ) (answered : Result (List ℕ) Refusal) (r q : Route) → r ≡ q
+    → Serves id_of s s1 draws gives asked asked1 out out1 drawn told told1 body answered q → Serves id_of s s1 draws gives asked asked1 out out1 drawn told told1 body answered r
+served_as id_of s s1 draws gives asked asked1 out out1 drawn told told1 body answered r q same k = subst (λ (x : Route). Serves id_of s s1 draws gives asked asked1 out out1 drawn told told1 body answered x) (sym same) k

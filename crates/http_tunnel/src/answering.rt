@@ -2,6 +2,7 @@
 
 ghost use Rattle.std.specs.Prelude.{◌≡◌, ◌≤◌, ℕ, List, Err, Result};
 ghost use Rattle.gate_outside.specs.Edge.{Rose};
+ghost use Rattle.guac_handshake.specs.Doors.{Grants};
 ghost use Rattle.http_tunnel.specs.Requests.{IsResponse, Serves, without_body};
 ghost use Rattle.http_tunnel.specs.Routes.{IsAsked, route_of};
 ghost use Rattle.http_tunnel.specs.Tunnels.{AreHome};
@@ -67,7 +68,7 @@ where
     requires home { AreHome (T.told tunnels.old) }
     requires route { IsAsked route }
     ensures home { AreHome (T.told tunnels.new) }
-    ensures served { Serves D.id_of (D.sessions door.old) (D.sessions door.new) (D.draws door.old) (D.asked door.old) (D.asked door.new) (D.out door.old) (D.out door.new) (X.draws dice.old) (T.told tunnels.old) (T.told tunnels.new) body.now result route }
+    ensures served { Serves D.id_of (D.sessions door.old) (D.sessions door.new) (D.draws door.old) (Grants D.id_of (D.begun door.new) (D.joined door.new)) (D.asked door.old) (D.asked door.new) (D.out door.old) (D.out door.new) (X.draws dice.old) (T.told tunnels.old) (T.told tunnels.new) body.now result route }
     ensures dial { result ≡ Err Dial → Rose (D.dial_faults door.old) (D.dial_faults door.new) }
     ensures busy { result ≡ Err Busy → Rose (D.start_faults door.old) (D.start_faults door.new) }
     ensures later_dials { D.dial_faults door.old ≤ D.dial_faults door.new }
@@ -105,7 +106,7 @@ where
     X: Dice,
     requires { AreHome (T.told tunnels.old) }
     ensures home { AreHome (T.told tunnels.new) }
-    ensures answered { (answered : Result (List ℕ) Refusal) × IsResponse answered result × Serves D.id_of (D.sessions door.old) (D.sessions door.new) (D.draws door.old) (D.asked door.old) (D.asked door.new) (D.out door.old) (D.out door.new) (X.draws dice.old) (T.told tunnels.old) (T.told tunnels.new) request.now.body.now answered (route_of request.now.method request.now.target.now) }
+    ensures answered { (answered : Result (List ℕ) Refusal) × IsResponse answered result × Serves D.id_of (D.sessions door.old) (D.sessions door.new) (D.draws door.old) (Grants D.id_of (D.begun door.new) (D.joined door.new)) (D.asked door.old) (D.asked door.new) (D.out door.old) (D.out door.new) (X.draws dice.old) (T.told tunnels.old) (T.told tunnels.new) request.now.body.now answered (route_of request.now.method request.now.target.now) }
     ensures dial { result.status ≡ 502 → Rose (D.dial_faults door.old) (D.dial_faults door.new) }
     ensures busy { result.status ≡ 503 → Rose (D.start_faults door.old) (D.start_faults door.new) }
     ensures later_dials { D.dial_faults door.old ≤ D.dial_faults door.new }

@@ -1,8 +1,8 @@
 //! A request for a tunnel.
 
-ghost use Rattle.std.specs.Prelude.{◌≡◌, ◌≤◌, ◌⊎◌, IfErr, IfOk, Err, Result};
+ghost use Rattle.std.specs.Prelude.{◌≡◌, ◌≤◌, ◌⊎◌, IfErr, IfOk, OnOk, Err, Result};
 ghost use Rattle.gate_outside.specs.Edge.{Rose};
-ghost use Rattle.guac_handshake.specs.Doors.{KeepsIds};
+ghost use Rattle.guac_handshake.specs.Doors.{Grants, KeepsIds};
 ghost use Rattle.guac_handshake.specs.Opening.{HasMoved, HasOpened};
 ghost use Rattle.guac_handshake.specs.declared.form_refusal.FormRefusal.{FormRefusal};
 ghost use Rattle.guac_handshake.specs.declared.welcome.Welcome.{Welcome};
@@ -63,6 +63,7 @@ fn add_tunnel<R: Wait, T: Shelf<Tunnel>, D: Door<Place = Place>, X: Dice>(
 ) -> Result<Uuid, Refusal>
     ensures added { Told (T.told tunnels.old) (T.told tunnels.new) (IsAdded IsId (X.draws dice.old) welcome result) }
     ensures kind { IfErr result (λ refused. (refused ≡ Conflict) ⊎ (refused ≡ NoMemory)) }
+    ensures same { OnOk result (door.new ≡ door.old) }
     ensures out { D.out door.new ≡ out_added result (D.out door.old) }
     ensures sessions { Told (D.sessions door.old) (D.sessions door.new) (KeepsIds (D.id_of welcome.id)) }
     ensures asked { D.asked door.new ≡ D.asked door.old }
@@ -98,7 +99,7 @@ where
     X: Dice,
     requires { AreHome (T.told tunnels.old) }
     ensures home { AreHome (T.told tunnels.new) }
-    ensures connected { (opened : Result (Welcome Place) FormRefusal) × HasOpened D.id_of (D.sessions door.old) (D.sessions door.new) (D.draws door.old) (D.asked door.old) (D.asked door.new) body.now opened × AnswersOpened opened result × Told (D.sessions door.old) (D.sessions door.new) (HasMoved D.id_of opened) × Told (T.told tunnels.old) (T.told tunnels.new) (ConnectOf (X.draws dice.old) opened result) }
+    ensures connected { (opened : Result (Welcome Place) FormRefusal) × HasOpened D.id_of (D.sessions door.old) (D.sessions door.new) (D.draws door.old) (λ request welcome. OnOk result (Grants D.id_of (D.begun door.new) (D.joined door.new) request welcome)) (D.asked door.old) (D.asked door.new) body.now opened × AnswersOpened opened result × Told (D.sessions door.old) (D.sessions door.new) (HasMoved D.id_of opened) × Told (T.told tunnels.old) (T.told tunnels.new) (ConnectOf (X.draws dice.old) opened result) }
     ensures out { D.out door.new ≡ out_after result (D.out door.old) }
     ensures dial { result ≡ Err Dial → Rose (D.dial_faults door.old) (D.dial_faults door.new) }
     ensures busy { result ≡ Err Busy → Rose (D.start_faults door.old) (D.start_faults door.new) }

@@ -11,11 +11,11 @@ ghost use Rattle.http_tunnel.specs.declared.reading.TunnelRefusal.{TunnelRefusal
 ghost use Rattle.http_tunnel.specs.declared.tunnel.Tunnel.{Tunnel};
 
 use crate::giving::give;
-use crate::reading::{TunnelEnd, TunnelRefusal, tunnel_read};
+use crate::reading::{TunnelEnd, TunnelRefusal, Waits, read_within};
 use crate::refusal::Refusal;
 use crate::tunnel::Tunnel;
 use gate_model::Bytes;
-use gate_outside::{Bell, MemBell};
+use gate_outside::Bell;
 use guac_handshake::Door;
 use id_table::Shelf;
 use shared_desk::{Place, ReaderPass};
@@ -240,11 +240,12 @@ fn read_behind<R: Wait, B: Bell>(
     ensures viewer { reader.new.viewer ≡ reader.old.viewer }
     ensures read { (given : List ℕ) × (text.new.items ≡ text.old.items ++ (given ++ mark_of result)) × HasRead reader.old.viewer reader.old.view reader.new.view given result }
 {
-    if text.is_empty() {
-        tunnel_read(rt, reader, bell, text)
+    let waits = if text.is_empty() {
+        Waits::Once
     } else {
-        tunnel_read(rt, reader, &MemBell::new(), text)
-    }
+        Waits::Never
+    };
+    read_within(rt, reader, bell, text, waits)
 }
 
 // Reads with a reader's pass that was taken out.

@@ -8,6 +8,7 @@ use desk_core::{ReadAnswer, ReadRefusal};
 use gate_outside::{Bell, wait_for_news};
 use shared_desk::ReaderPass;
 use std::sync::Wait;
+use wake_spot::Rings;
 
 /// How a read of a tunnel ended.
 #[derive(Clone, Copy, Debug, PartialEq, Eq)]
@@ -83,12 +84,35 @@ fn look<R: Wait>(
     }
 }
 
+/// Whether a read that finds nothing waits for the bell before it reads once more.
+#[derive(Clone, Copy)]
+pub(crate) enum Waits {
+    Once,
+    Never,
+}
+
+// Waits for news of the viewer, where that is wanted.
+fn wait<R: Wait, B: Bell>(
+    rt: &R,
+    pass: &ReaderPass,
+    bell: &B,
+    held: bool,
+    rings: Rings,
+    waits: Waits,
+) {
+    match waits {
+        Waits::Once => wait_for_news(rt, bell, pass.spots(), pass.viewer(), held, rings),
+        Waits::Never => {}
+    }
+}
+
 // Reads, and where nothing is there once more.
 fn look_twice<R: Wait, B: Bell>(
     rt: &R,
     pass: &mut ReaderPass,
     bell: &B,
     into: &mut Vec<u8>,
+    waits: Waits,
 ) -> Result<TunnelEnd, TunnelRefusal>
     ensures session { pass.new.session ≡ pass.old.session }
     ensures viewer { pass.new.viewer ≡ pass.old.viewer }
@@ -99,7 +123,7 @@ fn look_twice<R: Wait, B: Bell>(
     match look(rt, pass, into, &mut held) {
         Ok(Some(end)) => Ok(end),
         Ok(None) => {
-            wait_for_news(rt, bell, pass.spots(), pass.viewer(), held, rings);
+            wait(rt, pass, bell, held, rings, waits);
             settled(look(rt, pass, into, &mut held))
         }
         Err(refused) => Err(refused),
@@ -128,6 +152,24 @@ fn mark(into: &mut Vec<u8>, end: TunnelEnd) -> Result<TunnelEnd, TunnelRefusal>
     }
 }
 
+/// The same as `tunnel_read`, but that it waits only where that is wanted.
+pub(crate) fn read_within<R: Wait, B: Bell>(
+    rt: &R,
+    pass: &mut ReaderPass,
+    bell: &B,
+    into: &mut Vec<u8>,
+    waits: Waits,
+) -> Result<TunnelEnd, TunnelRefusal>
+    ensures session { pass.new.session ≡ pass.old.session }
+    ensures viewer { pass.new.viewer ≡ pass.old.viewer }
+    ensures read { (text : List ℕ) × (into.new.items ≡ into.old.items ++ (text ++ mark_of result)) × HasRead pass.old.viewer pass.old.view pass.new.view text result }
+{
+    match look_twice(rt, pass, bell, into, waits) {
+        Ok(end) => mark(into, end),
+        Err(refused) => Err(refused),
+    }
+}
+
 /// Reads for the viewer, and appends what it was given and the mark of the end, `0.;`. Where nothing is there it waits
 /// for the bell once and reads once more (this project's own rule). Ended comes where the viewer was given the closing
 /// instruction, by this read or before. Refused, `into` has what was delivered, without the mark: want of memory alone
@@ -142,8 +184,5 @@ pub fn tunnel_read<R: Wait, B: Bell>(
     ensures viewer { pass.new.viewer ≡ pass.old.viewer }
     ensures read { (text : List ℕ) × (into.new.items ≡ into.old.items ++ (text ++ mark_of result)) × HasRead pass.old.viewer pass.old.view pass.new.view text result }
 {
-    match look_twice(rt, pass, bell, into) {
-        Ok(end) => mark(into, end),
-        Err(refused) => Err(refused),
-    }
+    read_within(rt, pass, bell, into, Waits::Once)
 }

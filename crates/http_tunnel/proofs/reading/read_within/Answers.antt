@@ -1,7 +1,7 @@
 use Rattle.std.proofs.Common.{◌∙◌, ◌++◌, ℕ, List, ap, sym, append_assoc}
 use Rattle.http_tunnel.specs.Reads.{mark_of}
 use Rattle.http_tunnel.proofs.Looks.{append_nil, read_marked}
-use Rattle.http_tunnel.proofs.reading.tunnel_read.Goals as goal
+use Rattle.http_tunnel.proofs.reading.read_within.Goals as goal
 
 pub returns-in-Ok-clause-read : goal.returns-in-Ok-clause-read
 returns-in-Ok-clause-read g c =
