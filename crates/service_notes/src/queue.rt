@@ -8,8 +8,8 @@ use std::alloc::{AllocError, Global};
 use std::sync::Wait;
 use std::sync::atomic::AtomicU64;
 use std::sync::atomic::Ordering::SeqCst;
-use std::thread;
 use std::time::{Clock, Duration};
+use std::{io, thread};
 
 /// How many notes wait at most.
 const MOST: usize = 1024;
@@ -68,13 +68,16 @@ impl Queue {
         R: Wait + Clock + AllocGlobal + Eprint,
     {
         let mut told = 0u64;
+        let mut torn = false;
         for _ in rt.forever() {
             let Ok(line) = self.out.recv(rt) else {
                 return;
             };
-            match rt.eprint(line) {
-                Ok(()) => told = self.tell_lost(rt, format, told),
-                Err(_) => self.lose(),
+            torn = write(rt, line, torn).is_err();
+            if torn {
+                self.lose();
+            } else {
+                told = self.tell_lost(rt, format, told);
             }
             self.done.fetch_add(1, SeqCst);
         }
@@ -108,6 +111,14 @@ impl Queue {
         }
         false
     }
+}
+
+// Writes a line. Where one was cut before it, perhaps within, that is ended first.
+fn write<R: Eprint>(rt: &R, line: String, torn: bool) -> io::Result<()> {
+    if torn {
+        rt.eprint('\n')?;
+    }
+    rt.eprint(line)
 }
 
 // The line that tells of so many lost notes.
