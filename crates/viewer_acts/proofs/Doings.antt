@@ -75,22 +75,22 @@ same_below (p ∷ places) mine g behind = past_history p (places ++ mine) g (beh
 -- ---- parts that were done
 
 module _ (viewer : ℕ) (mine : List ℕ) where
-  did_later : (own : List Entry) (before upto : History) (parts : List Part) (gained : List Entry) → Did viewer mine own before upto parts gained → IsLater before upto
+  pub did_later : (own : List Entry) (before upto : History) (parts : List Part) (gained : List Entry) → Did viewer mine own before upto parts gained → IsLater before upto
   did_later own before upto [] gained d = d.1
   did_later own before upto (part ∷ parts) gained d = later_trans before d.0 upto d.3.later (did_later (d.1 ++ own) d.0 upto parts d.2 d.5)
 
   -- from an earlier history
-  did_earlier : (own : List Entry) (first before upto : History) (parts : List Part) (gained : List Entry) → IsLater first before → Did viewer mine own before upto parts gained → Did viewer mine own first upto parts gained
+  pub did_earlier : (own : List Entry) (first before upto : History) (parts : List Part) (gained : List Entry) → IsLater first before → Did viewer mine own before upto parts gained → Did viewer mine own first upto parts gained
   did_earlier own first before upto [] gained l d = (d.0, later_trans first before upto l d.1)
   did_earlier own first before upto (part ∷ parts) gained l d = (d.0, d.1, d.2, record { later = later_trans first before d.0 l d.3.later; own_there = d.3.own_there; became = d.3.became }, d.4, d.5)
 
   -- up to a later one
-  did_longer : (own : List Entry) (before upto last : History) (parts : List Part) (gained : List Entry) → IsLater upto last → Did viewer mine own before upto parts gained → Did viewer mine own before last parts gained
+  pub did_longer : (own : List Entry) (before upto last : History) (parts : List Part) (gained : List Entry) → IsLater upto last → Did viewer mine own before upto parts gained → Did viewer mine own before last parts gained
   did_longer own before upto last [] gained l d = (d.0, later_trans before upto last d.1 l)
   did_longer own before upto last (part ∷ parts) gained l d = (d.0, d.1, d.2, d.3, d.4, did_longer (d.1 ++ own) d.0 upto last parts d.2 l d.5)
 
   -- with further places, all behind
-  did_placed : (places : List ℕ) (own : List Entry) (before upto : History) (parts : List Part) (gained : List Entry) → ((p : ℕ) → Contains places p → length upto ≤ p) → Did viewer mine own before upto parts gained → Did viewer (places ++ mine) own before upto parts gained
+  pub did_placed : (places : List ℕ) (own : List Entry) (before upto : History) (parts : List Part) (gained : List Entry) → ((p : ℕ) → Contains places p → length upto ≤ p) → Did viewer mine own before upto parts gained → Did viewer (places ++ mine) own before upto parts gained
   did_placed places own before upto [] gained behind d = d
   did_placed places own before upto (part ∷ parts) gained behind d =
       let short : length d.0 ≤ length upto = later_length d.0 upto (did_later (d.1 ++ own) d.0 upto parts d.2 d.5) in
@@ -98,7 +98,7 @@ module _ (viewer : ℕ) (mine : List ℕ) where
       (d.0, d.1, d.2, record { later = d.3.later; own_there = there; became = d.3.became }, d.4, did_placed places (d.1 ++ own) d.0 upto parts d.2 behind d.5)
 
   -- and then others
-  did_more : (own : List Entry) (before mid upto : History) (parts others : List Part) (gained then_ : List Entry) → Did viewer mine own before mid parts gained → Did viewer mine (gained ++ own) mid upto others then_ → Did viewer mine own before upto (parts ++ others) (then_ ++ gained)
+  pub did_more : (own : List Entry) (before mid upto : History) (parts others : List Part) (gained then_ : List Entry) → Did viewer mine own before mid parts gained → Did viewer mine (gained ++ own) mid upto others then_ → Did viewer mine own before upto (parts ++ others) (then_ ++ gained)
   did_more own before mid upto [] others gained then_ d m =
       let bare : Did viewer mine own before upto others then_ = did_earlier own before mid upto others then_ d.1 (subst (λ (es : List Entry). Did viewer mine (es ++ own) mid upto others then_) d.0 m) in
       subst (λ (es : List Entry). Did viewer mine own before upto others es) (sym (ap (λ (es : List Entry). then_ ++ es) d.0 ∙ append-nil then_)) bare
