@@ -10,8 +10,10 @@ use Rattle.guac_handshake.specs.declared.refused.Refused.{Refused}
 use Rattle.guac_handshake.specs.declared.refused.Refused.TheVariants.{Absent, Conflict, Dial, Busy, Closed, Forbidden, TooMany, Worn, NoMemory}
 use Rattle.guac_handshake.specs.declared.request.Request.{Request}
 use Rattle.guac_handshake.specs.declared.welcome.Welcome.{Welcome}
+use Rattle.shared_desk.specs.declared.place.Place.{Place}
 use Rattle.service_door.specs.Sessions.{NoneLent, SessionState, histories, history_of, sessions_of}
-use Rattle.service_door.specs.Doors.{Both, OthersStay, Table}
+use Rattle.service_door.specs.Begun.{IsJoined}
+use Rattle.service_door.specs.Doors.{Both, JoinLeaves, OthersStay, Table}
 use Rattle.service_door.proofs.Tables.{after_call, after_so, by_id, changed_unlent, none_some, same_some, sessions_so, told_same, told_so, told_then}
 use Rattle.service_door.proofs.Adding.{some_lent}
 
@@ -156,6 +158,20 @@ miss_both r t name id P is s = told_so r t (Misses id) (λ m n. ((x : List ℕ) 
 
 pub unnamed_both : (r : Option Table) (name : Option (List ℕ)) (P : SessionState → SessionState → Type 0) → name ≡ None → Told r r (λ m n. ((x : List ℕ) → name ≡ Some x → Both P (m x) (n x)) × OthersStay name m n)
 unnamed_both r name P is = told_same r (λ m n. ((x : List ℕ) → name ≡ Some x → Both P (m x) (n x)) × OthersStay name m n) (λ m. ((λ x e. absurd (none_some x (sym is ∙ e))), λ k ne. refl))
+
+-- a viewer that was let in has joined
+pub swap_joined : (r t : Option Table) (id : List ℕ) (v w : SessionState) (role : Asked) (answer : Result (Welcome Place) Refused) → Told r t (Swaps id v w) → IfOk answer (λ welcome. id_of_name welcome.id ≡ Some id) → JoinLeaves role answer v w → IfOk answer (λ welcome. IsJoined t role welcome)
+swap_joined r t id v w role (Err refused) s named leaves = tt
+swap_joined None None id v w role (Ok welcome) s named leaves = tt
+swap_joined None (Some n) id v w role (Ok welcome) s named leaves = absurd s
+swap_joined (Some m) None id v w role (Ok welcome) s named leaves = absurd s
+swap_joined (Some m) (Some n) id v w role (Ok welcome) s named leaves = record {
+  id = id;
+  named = named;
+  session = w;
+  there = s.1.0;
+  joined = leaves.1;
+}
 
 -- ---- a look
 

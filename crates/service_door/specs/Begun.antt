@@ -77,3 +77,15 @@ pub record HasJoinedLast (asked : Asked) (place : Place) (host : HostState) : Ty
   pub seen : host.view.seen ≡ Join viewer place.role first ∷ before
   pub role : grant_of (share_mode before) asked ≡ Ok place.role
   pub seat : IsSeated viewer place host
+
+-- the viewer of this welcome has joined the session of its ID last, as it asked
+pub record IsJoinedAt (m : Shelved SessionState) (asked : Asked) (welcome : Welcome Place) : Type 0 where
+  pub id : List ℕ
+  pub named : id_of_name welcome.id ≡ Some id
+  pub session : SessionState
+  pub there : m id ≡ Some (Some session)
+  pub joined : HasJoinedLast asked welcome.place session.host
+
+abbrev pub IsJoined : Option (Shelved SessionState) → Asked → Welcome Place → Type 0
+IsJoined None asked welcome = Unit {0}
+IsJoined (Some m) asked welcome = IsJoinedAt m asked welcome

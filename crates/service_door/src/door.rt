@@ -72,7 +72,7 @@ impl<'a, T: Shelf<Session>, H: Helper, B: Bell + Send + 'static> Door for Servic
     ghost use Rattle.guac_handshake.specs.Names.{id_of_name};
     ghost use Rattle.id_table.specs.Maps.{Told};
     ghost use Rattle.shared_desk.specs.Hosts.{IsFresh};
-    ghost use Rattle.service_door.specs.Begun.{IsBegun};
+    ghost use Rattle.service_door.specs.Begun.{IsBegun, IsJoined};
     ghost use Rattle.service_door.specs.Doors.{GiveChanges, HasLeft, JoinChanges, StopsUnder};
     ghost use Rattle.service_door.specs.Sessions.{sessions_of};
 
@@ -93,6 +93,8 @@ impl<'a, T: Shelf<Session>, H: Helper, B: Bell + Send + 'static> Door for Servic
     ghost asked = { λ _. None };
 
     ghost begun = { λ d ask welcome. IsBegun (is_some d.recorder) (T.told d.sessions.now) ask welcome };
+
+    ghost joined = { λ d role welcome. IsJoined (T.told d.sessions.now) role welcome };
 
     fn known<R: Wait>(&mut self, rt: &R, name: &str) -> bool {
         match id_named(name) {
@@ -203,6 +205,7 @@ impl<'a, T: Shelf<Session>, H: Helper, B: Bell + Send + 'static> Door for Servic
         ensures history { IfSome (sessions_of (T.told self.new.sessions.now)) (λ n. MeetsHistory (at_name (id_of_name name.now) n) role result) }
         ensures out { None ≡ one_more_out result None }
         ensures asked { None ≡ logged None (join_request name.now role) result }
+        ensures granted { IfOk result (λ welcome. IsJoined (T.told self.new.sessions.now) role welcome) }
 
         // Of this door alone.
         ensures joined { Told (T.told self.old.sessions.now) (T.told self.new.sessions.now) (JoinChanges (id_of_name name.now) role result) }

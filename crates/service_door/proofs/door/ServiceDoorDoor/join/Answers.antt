@@ -7,7 +7,7 @@ use Rattle.guac_handshake.specs.declared.welcome.Welcome.{Welcome}
 use Rattle.shared_desk.specs.declared.place.Place.{Place}
 use Rattle.service_door.specs.Doors.{JoinLeaves}
 use Rattle.service_door.proofs.Tables.{not_lent}
-use Rattle.service_door.proofs.Lending.{lent, miss_both, miss_history, miss_keeps, miss_there, miss_unlent, misses, swap_both, swap_history, swap_keeps, swap_there, swap_unlent, swaps, same_name, untold_asked, untold_out}
+use Rattle.service_door.proofs.Lending.{lent, miss_both, miss_history, miss_keeps, miss_there, miss_unlent, misses, swap_both, swap_history, swap_joined, swap_keeps, swap_there, swap_unlent, swaps, same_name, untold_asked, untold_out}
 use Rattle.service_door.proofs.door.ServiceDoorDoor.join.Goals as goal
 
 pub lend-requires : goal.lend-requires
@@ -54,3 +54,6 @@ returns-clause-out g c = untold_out c.welcome-joined.result
 
 pub returns-clause-asked : goal.returns-clause-asked
 returns-clause-asked g c = untold_asked (join_request c.args.name.now c.args.role) c.welcome-joined.result
+
+pub returns-clause-granted : goal.returns-clause-granted
+returns-clause-granted g c = swap_joined (g.T.Shelf.told c.args.self.now.sessions.now) (g.T.Shelf.told c.back.new.self) c.in-Some.key c.in-Some-lend.session c.welcome-joined.new.session c.args.role c.welcome-joined.result (swaps (g.T.Shelf.told c.args.self.now.sessions.now) (g.T.Shelf.told c.lend.new.self) (g.T.Shelf.told c.back.new.self) c.in-Some.key c.in-Some-lend.session c.welcome-joined.new.session c.in-Some-lend.ensures c.back.ensures) c.welcome-joined.ensures.id c.welcome-joined.ensures.leaves
