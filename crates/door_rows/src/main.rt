@@ -9,6 +9,7 @@
 
 mod calls;
 mod forms;
+mod leaving;
 mod service;
 mod topics;
 

@@ -5,5 +5,7 @@ mod Fronts
 mod Beginning
 -- A request that is due no response.
 mod Replying
+-- Why a connection ended.
+mod Caused
 -- What the jobs have may go to other threads.
 pub mod Crosses

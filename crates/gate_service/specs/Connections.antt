@@ -7,8 +7,9 @@ use Rattle.guac_handshake.specs.Texts.{error_text}
 use Rattle.http_front.specs.declared.request.Incoming.{Incoming}
 use Rattle.http_front.specs.declared.response.Response.{Response}
 use Rattle.user_serve.specs.Users.{UserRun}
+use Rattle.user_serve.specs.Users as user
 use Rattle.user_serve.specs.declared.ends.UserEnd.{UserEnd}
-use Rattle.gate_service.specs.Requests.{HttpRun, OnSilent}
+use Rattle.gate_service.specs.Requests.{HttpRun, IsHttpCaused, OnSilent}
 use Rattle.gate_service.specs.declared.routing.ConnEnd.{ConnEnd}
 use Rattle.gate_service.specs.declared.routing.ConnEnd.TheVariants.{User, Http, Ended, ReadFault, NoMemory}
 
@@ -28,6 +29,14 @@ ConnRun due before typed left Ended read written = AtEnd before × (before ≡ l
 ConnRun due before typed left ReadFault read written = (before ≡ left) × (read ≡ []) × (written ≡ [])
 ConnRun due before typed left NoMemory read written = Begins IsDigit before × (before ≡ left) × (read ≡ []) × BeginsWith (error_text 512) written
 
+-- why it ended so: for a viewer as `serve_user` says, and for HTTP the source's end, or a read or a write that failed
+abbrev pub IsCaused : Type 0 → Type 0 → Type 0 → (ℕ → Type 0) → ConnEnd → Type 0
+IsCaused read_failed write_failed at_end refuses (User end) = user.IsCaused read_failed write_failed refuses end
+IsCaused read_failed write_failed at_end refuses (Http end) = IsHttpCaused read_failed write_failed at_end end
+IsCaused read_failed write_failed at_end refuses Ended = Unit {0}
+IsCaused read_failed write_failed at_end refuses ReadFault = read_failed
+IsCaused read_failed write_failed at_end refuses NoMemory = Unit {0}
+
 -- a fact of a viewer's end
 abbrev pub IfUser : ConnEnd → (UserEnd → Type 0) → Type 0
 IfUser (User end) F = F end
@@ -36,10 +45,11 @@ IfUser Ended F = Unit {0}
 IfUser ReadFault F = Unit {0}
 IfUser NoMemory F = Unit {0}
 
--- a fact of the ends at which nobody was served, nor told so
-abbrev pub IfUnserved : ConnEnd → Type 0 → Type 0
-IfUnserved (User end) P = Unit {0}
-IfUnserved (Http end) P = OnSilent end P
-IfUnserved Ended P = P
-IfUnserved ReadFault P = P
-IfUnserved NoMemory P = Unit {0}
+-- what a connection left alone, of the sink, the door and the rest: a viewer's the rest, one that was served nothing all of
+-- them, and one that was refused for want of memory the door and the rest
+abbrev pub LeavesAlone : Type 0 → Type 0 → Type 0 → ConnEnd → Type 0
+LeavesAlone sink door rest (User end) = rest
+LeavesAlone sink door rest (Http end) = OnSilent end (sink × door × rest)
+LeavesAlone sink door rest Ended = sink × door × rest
+LeavesAlone sink door rest ReadFault = sink × door × rest
+LeavesAlone sink door rest NoMemory = door × rest

@@ -2,6 +2,7 @@
 use Rattle.std.specs.Prelude.{◌≡◌, ◌≤◌, ◌⊎◌, ℕ, List, [], length, take, Option}
 use Rattle.guac_handshake.specs.Doors.{Sessions}
 use Rattle.guac_handshake.specs.declared.request.Request.{Request as DoorRequest}
+use Rattle.guac_handshake.specs.declared.welcome.Welcome.{Welcome}
 use Rattle.http_front.specs.Requests.{IsUnfinished, Receives}
 use Rattle.http_front.specs.Responses.{response_text}
 use Rattle.http_front.specs.declared.request.Incoming.{Incoming}
@@ -12,14 +13,15 @@ use Rattle.http_tunnel.specs.Requests.{IsResponse, Serves}
 use Rattle.http_tunnel.specs.Routes.{route_of}
 use Rattle.http_tunnel.specs.declared.tunnel.Tunnel.{Tunnel}
 use Rattle.id_table.specs.Maps.{Shelved}
+use Rattle.shared_desk.specs.declared.place.Place.{Place}
 use Rattle.gate_service.specs.declared.requests.HttpEnd.{HttpEnd}
 use Rattle.gate_service.specs.declared.requests.HttpEnd.TheVariants.{Answered, Ended, ReadFault, WriteFault, NoMemory}
 
 -- the response meets the contract of `tunnel_request` for the whole request, by what the door, the dice and the shelf of
 -- tunnels tell before and after the call; the last two facts are the causes of the statuses 502 and 503
-abbrev pub IsAnswer : (List ℕ → Option (List ℕ)) → Option Sessions → Option Sessions → Option (ℕ → List ℕ) → Option (List DoorRequest) → Option (List DoorRequest) → Option ℕ → Option ℕ → Option (ℕ → List ℕ) → Option (Shelved Tunnel) → Option (Shelved Tunnel) → Type 0 → Type 0 → Request → Response → Type 0
-IsAnswer id_of sessions sessions_new draws asked asked_new out out_new drawn told told_new dialed started request response =
-    ((answered : _) × IsResponse answered response × Serves id_of sessions sessions_new draws asked asked_new out out_new drawn told told_new request.body.now answered (route_of request.method request.target.now))
+abbrev pub IsAnswer : (List ℕ → Option (List ℕ)) → Option Sessions → Option Sessions → Option (ℕ → List ℕ) → (DoorRequest → Welcome Place → Type 0) → Option (List DoorRequest) → Option (List DoorRequest) → Option ℕ → Option ℕ → Option (ℕ → List ℕ) → Option (Shelved Tunnel) → Option (Shelved Tunnel) → Type 0 → Type 0 → Request → Response → Type 0
+IsAnswer id_of sessions sessions_new draws gives asked asked_new out out_new drawn told told_new dialed started request response =
+    ((answered : _) × IsResponse answered response × Serves id_of sessions sessions_new draws gives asked asked_new out out_new drawn told told_new request.body.now answered (route_of request.method request.target.now))
     × (response.status ≡ 502 → dialed) × (response.status ≡ 503 → started)
 
 -- an empty response with this status and this code
@@ -71,3 +73,11 @@ OnSilent WriteFault P = Unit {0}
 OnSilent NoMemory P = Unit {0}
 OnSilent Ended P = P
 OnSilent ReadFault P = P
+
+-- why it ended so: the source's end, or a read or a write that failed
+abbrev pub IsHttpCaused : Type 0 → Type 0 → Type 0 → HttpEnd → Type 0
+IsHttpCaused read_failed write_failed at_end (Answered status) = Unit {0}
+IsHttpCaused read_failed write_failed at_end WriteFault = write_failed
+IsHttpCaused read_failed write_failed at_end NoMemory = Unit {0}
+IsHttpCaused read_failed write_failed at_end Ended = at_end
+IsHttpCaused read_failed write_failed at_end ReadFault = read_failed

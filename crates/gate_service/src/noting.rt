@@ -49,6 +49,8 @@ impl<D: Door<Place = Place>, L: Log + Drop> Door for NotingDoor<D, L> {
 
     ghost begun = { λ d ask welcome. D.begun d.door ask welcome };
 
+    ghost joined = { λ d role welcome. D.joined d.door role welcome };
+
     fn known<R: Wait>(&mut self, rt: &R, name: &str) -> bool {
         self.door.known(rt, name)
     }

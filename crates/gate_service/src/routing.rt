@@ -1,19 +1,14 @@
 //! By its first byte a connection is a viewer's, or HTTP.
 
-ghost use Rattle.std.specs.Prelude.{◌≡◌, ◌≤◌, ◌⊎◌, ◌++◌, ℕ, List};
-ghost use Rattle.gate_outside.specs.Edge.{AtEnd, Rose, came, gained};
-ghost use Rattle.guac_handshake.specs.Doors.{AreTaken, HasConflict, HasRefused};
-ghost use Rattle.guac_handshake.specs.declared.refused.Refused.TheVariants.{Closed, Forbidden, TooMany, Worn};
+ghost use Rattle.std.specs.Prelude.{◌≡◌, ◌≤◌, ℕ, List};
+ghost use Rattle.gate_outside.specs.Edge.{AtEnd, Rose, gained};
+ghost use Rattle.guac_handshake.specs.Causes.{HasCause};
+ghost use Rattle.guac_handshake.specs.Doors.{Grants};
 ghost use Rattle.http_tunnel.specs.Tunnels.{AreHome};
-ghost use Rattle.user_serve.specs.Users.{HasGreeted, IfServed, LeavesDoor};
-ghost use Rattle.user_serve.specs.declared.ends.IntakeEnd.TheVariants as intakes;
-ghost use Rattle.user_serve.specs.declared.ends.OutletEnd.TheVariants as outlets;
-ghost use Rattle.user_serve.specs.declared.ends.UserEnd.TheVariants as users;
-ghost use Rattle.gate_service.specs.Connections.{ConnRun, IfUnserved, IfUser};
+ghost use Rattle.user_serve.specs.Users.{HasGreeted, LeavesDoor};
+ghost use Rattle.gate_service.specs.Connections.{ConnRun, IfUser, IsCaused, LeavesAlone};
 ghost use Rattle.gate_service.specs.Lookaheads.{faults_of, left_of, typed_of};
 ghost use Rattle.gate_service.specs.Requests.{IsAnswer, IsDue};
-ghost use Rattle.gate_service.specs.declared.requests.HttpEnd.TheVariants as https;
-ghost use Rattle.gate_service.specs.declared.routing.ConnEnd.TheVariants as ends;
 
 use crate::Lookahead;
 use crate::refusing::refuse;
@@ -72,33 +67,12 @@ where
     requires { AreHome (T.told tunnels.old) }
     ensures home { AreHome (T.told tunnels.new) }
     ensures ran { (read : List ℕ) × (written : List ℕ) × (K.written sink.new ≡ gained (K.written sink.old) written) ×
-        ConnRun (IsDue (IsAnswer D.id_of (D.sessions door.old) (D.sessions door.new) (D.draws door.old) (D.asked door.old) (D.asked door.new) (D.out door.old) (D.out door.new) (X.draws dice.old) (T.told tunnels.old) (T.told tunnels.new) (Rose (D.dial_faults door.old) (D.dial_faults door.new)) (Rose (D.start_faults door.old) (D.start_faults door.new))) ((door.new ≡ door.old) × (tunnels.new ≡ tunnels.old) × (dice.new ≡ dice.old)))
+        ConnRun (IsDue (IsAnswer D.id_of (D.sessions door.old) (D.sessions door.new) (D.draws door.old) (Grants D.id_of (D.begun door.new) (D.joined door.new)) (D.asked door.old) (D.asked door.new) (D.out door.old) (D.out door.new) (X.draws dice.old) (T.told tunnels.old) (T.told tunnels.new) (Rose (D.dial_faults door.old) (D.dial_faults door.new)) (Rose (D.start_faults door.old) (D.start_faults door.new))) ((door.new ≡ door.old) × (tunnels.new ≡ tunnels.old) × (dice.new ≡ dice.old)))
         (left_of S.left source.old) (typed_of S.left source.old) (left_of S.left source.new) result read written }
-    ensures read_fault { result ≡ ends.ReadFault → Rose (faults_of S.faults source.old) (faults_of S.faults source.new) }
-    ensures untouched { IfUnserved result ((sink.new ≡ sink.old) × (door.new ≡ door.old) × (tunnels.new ≡ tunnels.old) × (dice.new ≡ dice.old)) }
-    ensures refused { result ≡ ends.NoMemory → (door.new ≡ door.old) × (tunnels.new ≡ tunnels.old) × (dice.new ≡ dice.old) }
-
-    // The causes of the other ends of HTTP.
-    ensures http_ended { result ≡ ends.Http https.Ended → AtEnd (left_of S.left source.new) }
-    ensures http_read { result ≡ ends.Http https.ReadFault → Rose (faults_of S.faults source.old) (faults_of S.faults source.new) }
-    ensures http_write { result ≡ ends.Http https.WriteFault → Rose (K.faults sink.old) (K.faults sink.new) }
-
-    // What the contract of `serve_user` says of a viewer's end. It leaves the tunnels and the dice alone.
-    ensures apart { IfUser result (λ end. (tunnels.new ≡ tunnels.old) × (dice.new ≡ dice.old)) }
-    ensures greeting { IfUser result (HasGreeted D.id_of (D.sessions door.old) (D.sessions door.new) (D.draws door.old) (typed_of S.left source.old) (left_of S.left source.new) (K.written sink.old) (K.written sink.new) (D.asked door.old) (D.asked door.new)) }
+    ensures untouched { LeavesAlone (sink.new ≡ sink.old) (door.new ≡ door.old) ((tunnels.new ≡ tunnels.old) × (dice.new ≡ dice.old)) result }
+    ensures cause { IsCaused (Rose (faults_of S.faults source.old) (faults_of S.faults source.new)) (Rose (K.faults sink.old) (K.faults sink.new)) (AtEnd (left_of S.left source.new)) (HasCause (D.sessions door.old) (D.sessions door.new) (D.draws door.old) (Rose (D.dial_faults door.old) (D.dial_faults door.new)) (Rose (D.start_faults door.old) (D.start_faults door.new))) result }
+    ensures greeting { IfUser result (HasGreeted D.id_of (D.sessions door.old) (D.sessions door.new) (D.draws door.old) (Grants D.id_of (D.begun door.new) (D.joined door.new)) (typed_of S.left source.old) (left_of S.left source.new) (K.written sink.old) (K.written sink.new) (D.asked door.old) (D.asked door.new)) }
     ensures door { IfUser result (LeavesDoor D.id_of (D.out door.old) (D.out door.new) (D.sessions door.old) (D.sessions door.new)) }
-    ensures intake_fault { IfUser result (λ end. IfServed end (λ visit. visit.intake ≡ intakes.ReadFault → Rose (faults_of S.faults source.old) (faults_of S.faults source.new))) }
-    ensures outlet_fault { IfUser result (λ end. IfServed end (λ visit. visit.outlet ≡ outlets.WriteFault → Rose (K.faults sink.old) (K.faults sink.new))) }
-    ensures greeting_read { result ≡ ends.User users.ReadFault → Rose (faults_of S.faults source.old) (faults_of S.faults source.new) }
-    ensures greeting_write { result ≡ ends.User users.WriteFault → Rose (K.faults sink.old) (K.faults sink.new) }
-    ensures dial { result ≡ ends.User (users.Refused 519) → Rose (D.dial_faults door.old) (D.dial_faults door.new) }
-    ensures busy { result ≡ ends.User (users.Refused 513) → Rose (D.start_faults door.old) (D.start_faults door.new) }
-    ensures conflict { result ≡ ends.User (users.Refused 517) → HasConflict (D.sessions door.old) }
-    ensures taken { result ≡ ends.User (users.Refused 517) → AreTaken (D.sessions door.old) (D.draws door.old) }
-    ensures closed { result ≡ ends.User (users.Refused 523) → HasRefused (D.sessions door.new) Closed ⊎ HasRefused (D.sessions door.new) Worn }
-    ensures forbidden { result ≡ ends.User (users.Refused 771) → HasRefused (D.sessions door.new) Forbidden }
-    ensures too_many { result ≡ ends.User (users.Refused 797) → HasRefused (D.sessions door.new) TooMany }
-
     ensures later_dials { D.dial_faults door.old ≤ D.dial_faults door.new }
     ensures later_starts { D.start_faults door.old ≤ D.start_faults door.new }
     ensures later_reads { faults_of S.faults source.old ≤ faults_of S.faults source.new }

@@ -69,6 +69,8 @@ impl Door for OneDoor {
 
     ghost begun = { λ d ask welcome. Unit {0} };
 
+    ghost joined = { λ d role welcome. Unit {0} };
+
     fn known<R: Wait>(&mut self, _rt: &R, name: &str) -> bool {
         name == "here"
     }

@@ -1,7 +1,9 @@
 use Rattle.std.proofs.Common.{arith, inl, inr, sym, ◌∙◌}
 use Rattle.gate_model.specs.text.Spelling.{IsDigit}
 use Rattle.gate_service.specs.Lookaheads.{left_of}
+use Rattle.guac_handshake.proofs.Causes.{rose_after, rose_from}
 use Rattle.gate_service.proofs.Beginning.{begins}
+use Rattle.gate_service.proofs.Caused.{http_caused, user_caused}
 use Rattle.gate_service.proofs.Typed.{typed_same}
 use Rattle.gate_service.proofs.routing.connection.Goals as goal
 
@@ -20,3 +22,12 @@ returns-in-Ok-clause-ran g c =
     let first = begins IsDigit (left_of g.S.Source.left c.args.source.now) _ _ c.in-Ok-Some.ensures.first c.in-Ok-Some.field-0-is (omega (arith, digit.0), omega (arith, digit.1)) in
     let typed = typed_same _ _ _ _ c.in-Ok-Some.ensures.begun c.in-Ok-Some.ensures.same in
     (r.0, r.1, r.3, (first, sym typed ∙ sym c.in-Ok.ensures.typed ∙ r.2, r.4))
+
+pub returns-then-not-is_ascii_digit-clause-cause : goal.returns-then-not-is_ascii_digit-clause-cause
+returns-then-not-is_ascii_digit-clause-cause g c =
+    let k = c.serve_request.ensures in
+    http_caused _ _ _ c.serve_request.result (λ e. rose_after _ _ _ c.in-Ok-Some.ensures.later (k.read_fault e)) k.write_fault k.ended
+
+pub returns-in-Ok-clause-cause : goal.returns-in-Ok-clause-cause
+returns-in-Ok-clause-cause g c =
+    user_caused _ _ _ _ c.serve_user.result (λ r. rose_after _ _ _ c.in-Ok-Some.ensures.later (rose_from _ _ _ c.in-Ok.ensures.faults r)) c.serve_user.ensures.cause
