@@ -8,6 +8,8 @@ use Rattle.screen_grid.specs.contracts.grid.Grid as grid
 use Rattle.tab_stops.specs.contracts.stops.TabStops as stops
 use Rattle.vt_screen.specs.contracts.pen.Pen as pen
 use Rattle.vt_screen.specs.contracts.saved.Saved as saved
+use Rattle.vt_screen.specs.contracts.state.State as state
+use Rattle.vt_screen.specs.contracts.state.State.TheInside as whole_state
 use Rattle.vt_screen.specs.contracts.screen.Screen as screen
 use Rattle.vt_screen.specs.contracts.screen.Screen.TheInside as whole_screen
 use Rattle.glyph_cache.specs.contracts.cache.Cache as cache
@@ -18,12 +20,20 @@ use Rattle.desk_core.specs.contracts.host.Host as host
 use Rattle.desk_core.specs.contracts.log.Log as log
 use Rattle.desk_core.specs.contracts.outgoing.Outgoing as outgoing
 use Rattle.desk_core.specs.contracts.frames.Frames as frames
+use Rattle.gate_model.specs.contracts.cell.Cell as cell
+use Rattle.gate_model.specs.contracts.cell.Half as half
 use Rattle.gate_model.specs.contracts.setup.Setup as setup
 use Rattle.viewer_book.specs.contracts.book.Book as book
 use Rattle.shared_desk.specs.contracts.held.Held as held
 
+half_send : IsSend half.the_row
+half_send = search sendable depth 20
+
+cell_send : IsSend cell.the_row
+cell_send = search (half_send, sendable) depth 20
+
 grid_send : IsSend grid.the_row
-grid_send = search (sendable, crosses) depth 20
+grid_send = search (cell_send, sendable, crosses) depth 20
 
 stops_send : IsSend stops.the_row
 stops_send = search (sendable, crosses) depth 20
@@ -35,8 +45,8 @@ saved_send : IsSend saved.the_row
 saved_send = search (pen_send, sendable) depth 20
 
 -- field by field, in the order of the struct
-whole_screen_send : IsSend whole_screen.the_row
-whole_screen_send = declared_send whole_screen.the_type (
+whole_state_send : IsSend whole_state.the_row
+whole_state_send = declared_send whole_state.the_type (
   search sendable,
   (
     search sendable,
@@ -79,6 +89,12 @@ whole_screen_send = declared_send whole_screen.the_type (
     ),
   ),
 )
+
+state_send : IsSend state.the_row
+state_send = view_send whole_state.the_row _ _ _ _ whole_state_send
+
+whole_screen_send : IsSend whole_screen.the_row
+whole_screen_send = declared_send whole_screen.the_type (state_send, tt)
 
 screen_send : IsSend screen.the_row
 screen_send = view_send whole_screen.the_row _ _ _ _ whole_screen_send
