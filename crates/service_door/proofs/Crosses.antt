@@ -23,7 +23,7 @@ marks_send : IsSend marks.the_row
 marks_send = search (sendable, crosses) depth 20
 
 marks_sync : IsSync marks.the_row
-marks_sync = declared_sync marks.the_type (search (sendable, crosses), (search (sendable, crosses), (search (sendable, crosses), (search (sendable, crosses), (search (sendable, crosses) depth 20, tt)))))
+marks_sync = declared_sync marks.the_type (search (sendable, crosses), (search (sendable, crosses), (search (sendable, crosses), (search (sendable, crosses), (search (sendable, crosses), (search (sendable, crosses), (search (sendable, crosses) depth 20, tt)))))))
 
 shared_marks_send : IsSend shared_marks.the_row
 shared_marks_send = declared_send shared_marks.the_type (Arc-send marks.the_row marks_send marks_sync, tt)
