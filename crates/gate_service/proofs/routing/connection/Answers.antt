@@ -31,3 +31,9 @@ returns-then-not-is_ascii_digit-clause-cause g c =
 pub returns-in-Ok-clause-cause : goal.returns-in-Ok-clause-cause
 returns-in-Ok-clause-cause g c =
     user_caused _ _ _ _ c.serve_user.result (λ r. rose_after _ _ _ c.in-Ok-Some.ensures.later (rose_from _ _ _ c.in-Ok.ensures.faults r)) c.serve_user.ensures.cause
+
+-- what is typed from there on is what the viewer's greeting read
+pub returns-in-Ok-clause-greeting : goal.returns-in-Ok-clause-greeting
+returns-in-Ok-clause-greeting g c =
+    let typed = typed_same _ _ _ _ c.in-Ok-Some.ensures.begun c.in-Ok-Some.ensures.same in
+    rw (sym typed ∙ sym c.in-Ok.ensures.typed) c.serve_user.ensures.greeting
