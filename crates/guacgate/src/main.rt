@@ -20,13 +20,9 @@ use real_ends::{Limits, TcpNet, Watch};
 use saying::{say, say_unprepared};
 use service_notes::Queue;
 use std::env::VarError;
-use std::fs::Files;
 use std::io::ErrorKind;
 use std::net::{IpAddr, Ipv4Addr};
 use std::process::ExitCode;
-use std::sync::Wait;
-use std::thread::Threads;
-use std::time::Clock;
 use std::{env, thread};
 use web_page::page;
 
@@ -109,7 +105,8 @@ fn main(rt: HostRuntime) -> ExitCode {
         log: notes.log(&rt),
     };
     if serves {
-        start_jobs(&rt, of_job, notes);
+        notes.start(&rt);
+        let _ = thread::spawn(&rt, move || look_after(&rt, &of_job, notes));
     }
     let status = top(&rt, rt.alloc(), &words, &mut host);
     ExitCode::from(ended(&rt, status, serves, &watch, notes))
@@ -140,16 +137,6 @@ struct Ends {
     of_job: Watch,
     files: &'static [PageFile],
     notes: Notes,
-}
-
-// Starts what goes on beside the service: its notes are written, and it is looked after.
-fn start_jobs<R>(rt: &R, watch: Watch, notes: Notes)
-where
-    R: Threads + Wait + Clock + Files + AllocGlobal + Eprint + Copy + Send + Drop + 'static,
-{
-    notes.start(rt);
-    let inner = *rt;
-    let _ = thread::spawn(rt, move || look_after(&inner, &watch, notes));
 }
 
 // The words with their seed, and what the net is made of.
