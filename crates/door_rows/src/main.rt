@@ -9,7 +9,6 @@
 
 mod calls;
 mod forms;
-mod leaving;
 mod service;
 mod topics;
 

@@ -117,11 +117,6 @@ fn greet_one<R: Threads + Wait + Copy + Send + 'static, D: Door>(
     Ok(to.written().to_vec(alloc)?)
 }
 
-/// A helper that dials once.
-pub fn dialing(alloc: Global) -> Result<MemHelper> {
-    helper(alloc, 1, Faults { start: 0, dial: 0 })
-}
-
 // A helper that dials so often, with as many others for the clocks of the sessions.
 fn helper(alloc: Global, dials: usize, faults: Faults) -> Result<MemHelper> {
     let links = links(alloc, dials)?;

@@ -2,7 +2,7 @@
 
 use crate::calls::{Call, Done, door, greeted};
 use crate::forms::{ask_of, form, undialed};
-use crate::{forms, leaving, service};
+use crate::{forms, service};
 use anyhow::{Context, Result, bail};
 use guac_handshake::Greeted;
 use guac_handshake::memory::{MemDoor, MemPlace};
@@ -32,7 +32,6 @@ pub fn value<R: Threads + Wait + Copy + Send + 'static>(
         "undialed_forms" => undialed(rt, alloc, input),
         "member_forms" => forms::member(rt, alloc, input),
         "service" => service::answer(rt, alloc, input),
-        "leaving" => leaving::answer(rt, alloc, input),
         _ => bail!("no such topic"),
     }
 }
