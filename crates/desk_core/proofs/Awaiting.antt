@@ -83,7 +83,7 @@ stamped_next g (Write viewer acts) n = tt
 stamped_next g (Take count) n = tt
 stamped_next g (Leave viewer) n = tt
 stamped_next g (Close cause) n = tt
-stamped_next g (Start cols lines mode term entries stamp frame) n = absurd n
+stamped_next g (Start cols lines mode term faces entries stamp frame) n = absurd n
 
 stamped_frames : (h : History) → Legal h → AreStamped (frames h)
 stamped_frames [] l = absurd l
@@ -146,7 +146,7 @@ next_nothing g v (Write viewer acts) none gives = by_viewer (viewer == v)
     by_viewer : (b : Bool) → (if b then left_by_all (position g v) (awaited g v) acts else awaited g v) ≡ []
     by_viewer true = ap (λ (ts : List ℕ). left_by_all (position g v) ts acts) none ∙ nothing_left (position g v) acts
     by_viewer false = none
-next_nothing g v (Start cols lines mode term entries stamp frame) none gives = more_nothing (is_closed g || is_keep (role_in g v)) (awaited g v) [] none refl
+next_nothing g v (Start cols lines mode term faces entries stamp frame) none gives = more_nothing (is_closed g || is_keep (role_in g v)) (awaited g v) [] none refl
 next_nothing g v (Feed bytes stamp frame) none gives = more_nothing (is_closed g || is_keep (role_in g v)) (awaited g v) [] none refl
 next_nothing g v (Refit u c r stamp frame) none gives = more_nothing (is_closed g || is_keep (role_in g v)) (awaited g v) [] none refl
 next_nothing g v (Join viewer role first) none gives = more_nothing (is_closed g || is_keep (role_in (Join viewer role first ∷ g) v)) (awaited g v) (shown_by g (position g v) v (Join viewer role first)) none gives

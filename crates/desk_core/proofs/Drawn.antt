@@ -90,10 +90,10 @@ no_buffer before keys next none few gains =
     sym (gains small ∙ same)
 
 -- the first frame alone
-pub drawn_first : (d : DrawingState) (setup : Setup) (stamp : ℕ) (frame : List Instr) (screen : Terminal) → let h = Start setup.cols setup.rows setup.mode setup.term setup.entries stamp frame ∷ [] in
+pub drawn_first : (d : DrawingState) (setup : Setup) (stamp : ℕ) (frame : List Instr) (screen : Terminal) → let h = Start setup.cols setup.rows setup.mode setup.term setup.faces setup.entries stamp frame ∷ [] in
     shown screen ≡ shown (at h) → d.screen ≡ shown screen → AreLayers (draw nothing frame) (shown screen) d.keys → (length (new_keys [] (shown screen).keys) ≤ most_buffers → d.keys ≡ new_keys [] (shown screen).keys) → HasDrawn d h
 drawn_first d setup stamp frame screen now is drawn held =
-    let h : History = Start setup.cols setup.rows setup.mode setup.term setup.entries stamp frame ∷ [] in
+    let h : History = Start setup.cols setup.rows setup.mode setup.term setup.faces setup.entries stamp frame ∷ [] in
     let every : all_frames h ≡ frame = append-nil frame in
     record {
       screen = is ∙ now;

@@ -8,7 +8,7 @@ use Rattle.gate_model.specs.declared.token.Token.{Token}
 use Rattle.gate_model.specs.telnet.TelnetTokens.{tokens, unfinished_token}
 use Rattle.gate_model.specs.terminal.Replies.{replies_on}
 use Rattle.gate_model.specs.terminal.Sizes.{ScreenSize, size_after, sized}
-use Rattle.gate_model.specs.session.History.{History, at, bytes, cuts, first_size, size_now, terminal_type}
+use Rattle.gate_model.specs.session.History.{History, at, bytes, cuts, first_size, opening, size_now, terminal_type}
 use Rattle.gate_model.specs.session.Output.{answered, typed}
 use Rattle.gate_model.specs.session.Rights.{may, mods, held_after}
 use Rattle.gate_model.specs.terminal.Screens.{AreColoured, after_controls, completed, shown}
@@ -61,7 +61,7 @@ replied d h bs term replies cols rows s same wide high says =
     let force : sized cols rows ≡ now =
     ap (λ (c : ℕ). sized c rows) (wide ∙ drawn_cols d.drawing h s.legal s.drawing) ∙ (ap (sized (size_now h).columns) (high ∙ drawn_rows d.drawing h s.legal s.drawing) ∙ sym (size-in-force h s.legal)) in
     let more = replies_on now (terminal_type h) (at h) (tokens (bytes h)) given in
-    let all : answered h (bytes h ++ bs) ≡ answered h (bytes h) ++ more = replies-go-on (first_size h) (terminal_type h) (bytes h) bs (cuts h) given (cuts_within h) e in
+    let all : answered h (bytes h ++ bs) ≡ answered h (bytes h) ++ more = replies-go-on (opening h) (terminal_type h) (bytes h) bs (cuts h) given (cuts_within h) e in
     says (bytes h) s.host.scrolled (at h) given s.host.heard e
     ∙ (ap (λ (z : ScreenSize). replies_on z term (at h) (tokens (bytes h)) given) force
     ∙ (ap (λ (xs : List ℕ). replies_on now xs (at h) (tokens (bytes h)) given) (same ∙ s.setup.term)

@@ -26,7 +26,7 @@ impl Model for Log {
 impl Log {
     /// The opening alone.
     pub fn opened(setup: &Setup, stamp: u64, frame: &Instrs) -> Log
-        ensures { result ≡ record { past = Start setup.now.cols setup.now.rows setup.now.mode setup.now.term setup.now.entries stamp frame.now ∷ []; entries = 1 } }
+        ensures { result ≡ record { past = Start setup.now.cols setup.now.rows setup.now.mode setup.now.term setup.now.faces setup.now.entries stamp frame.now ∷ []; entries = 1 } }
     {
         Log {
             past: named::<Brand, _>(&(setup, stamp, frame)),

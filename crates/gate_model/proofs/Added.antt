@@ -103,7 +103,7 @@ IsNext g (Write viewer acts) = Writes g viewer acts
 IsNext g (Take count) = Takes g count
 IsNext g (Leave viewer) = is_live g viewer ≡ true
 IsNext g (Close cause) = is_closed g ≡ false
-IsNext g (Start cols lines mode term entries stamp frame) = ⊥
+IsNext g (Start cols lines mode term faces entries stamp frame) = ⊥
 
 -- ---- of conditions in their order, none holds
 
@@ -270,4 +270,4 @@ stays_started h (Write viewer acts) n = record { cols = refl; rows = refl; term 
 stays_started h (Take count) n = record { cols = refl; rows = refl; term = refl }
 stays_started h (Leave viewer) n = record { cols = refl; rows = refl; term = refl }
 stays_started h (Close cause) n = record { cols = refl; rows = refl; term = refl }
-stays_started h (Start cols lines mode term entries stamp frame) n = absurd n
+stays_started h (Start cols lines mode term faces entries stamp frame) n = absurd n

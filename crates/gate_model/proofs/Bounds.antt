@@ -56,7 +56,7 @@ next_bounds g (Write viewer acts) b s = plain_bounds g (Write viewer acts) b ref
 next_bounds g (Take count) b s = plain_bounds g (Take count) b refl refl refl b.few_joined
 next_bounds g (Leave viewer) b s = plain_bounds g (Leave viewer) b refl refl refl b.few_joined
 next_bounds g (Close cause) b s = plain_bounds g (Close cause) b refl refl refl b.few_joined
-next_bounds g (Start cols rows mode term entries stamp frame) b s = absurd s
+next_bounds g (Start cols rows mode term faces entries stamp frame) b s = absurd s
 
 pub bounds_of : (h : History) → Legal h → Bounds h
 bounds_of [] l = absurd l

@@ -9,7 +9,7 @@ use Rattle.gate_model.specs.session.Refusals.{close_cause}
 
 pub open_without_cause : (h : History) → close_cause h ≡ None → is_closed h ≡ false
 open_without_cause [] e = refl
-open_without_cause (Start cols rows mode term entries stamp frame ∷ g) e = open_without_cause g e
+open_without_cause (Start cols rows mode term faces entries stamp frame ∷ g) e = open_without_cause g e
 open_without_cause (Feed bytes stamp frame ∷ g) e = open_without_cause g e
 open_without_cause (Size viewer cols rows stamp frame ∷ g) e = open_without_cause g e
 open_without_cause (Join viewer role first ∷ g) e = open_without_cause g e
@@ -21,7 +21,7 @@ open_without_cause (Close cause ∷ g) e = absurd (let w : Some cause ≡ None =
 
 pub closed_with_cause : (h : History) (cause : Cause) → close_cause h ≡ Some cause → (is_closed h ≡ true) × (closing h ≡ farewell cause ∷ [])
 closed_with_cause [] cause e = absurd (let w : None ≡ Some cause = e in cc)
-closed_with_cause (Start cols rows mode term entries stamp frame ∷ g) cause e = closed_with_cause g cause e
+closed_with_cause (Start cols rows mode term faces entries stamp frame ∷ g) cause e = closed_with_cause g cause e
 closed_with_cause (Feed bytes stamp frame ∷ g) cause e = closed_with_cause g cause e
 closed_with_cause (Size viewer cols rows stamp frame ∷ g) cause e = closed_with_cause g cause e
 closed_with_cause (Join viewer role first ∷ g) cause e = closed_with_cause g cause e

@@ -5,6 +5,7 @@ use Rattle.unicode_width.proofs.Computing.{unicode_width}
 use Rattle.gate_model.specs.terminal.Printing.{width_of}
 use Rattle.gate_model.specs.text.Reading.{read}
 use Rattle.gate_model.specs.picture.Palette.{colour_of}
+use Rattle.gate_model.specs.declared.faces.Faces.TheVariants.{Ascii}
 use Rattle.gate_model.specs.declared.colour.Colour.{Colour}
 use Rattle.gate_model.specs.declared.entry.Entry.{Entry}
 use Rattle.gate_model.specs.declared.entry.Entry.TheVariants.{Start, Feed}
@@ -15,7 +16,7 @@ use Rattle.gate_model.specs.picture.KeyGrid.{KeyGrid}
 use Rattle.gate_model.specs.picture.Glyphs.{lit}
 use Rattle.gate_model.specs.picture.Pictures.{picture}
 use Rattle.gate_model.specs.picture.Buffers.{buffer_key, layers, is_held, new_keys}
-use Rattle.gate_model.specs.terminal.Sizes.{sized}
+use Rattle.gate_model.specs.terminal.Sizes.{in_ascii}
 use Rattle.gate_model.specs.terminal.Screens.{screen, shown}
 use Rattle.gate_model.specs.session.History.{History, at}
 use Rattle.gate_model.specs.session.Cost.{changes, cost, keys_shown, old_row, rise}
@@ -29,7 +30,7 @@ rows = (refl, refl, refl, refl, refl, refl)
 -- ---- histories
 
 opening : ℕ → ℕ → History
-opening cols rows = Start cols rows Nobody [] 100 1 (Sync 1 ∷ []) ∷ []
+opening cols rows = Start cols rows Nobody [] Ascii 100 1 (Sync 1 ∷ []) ∷ []
 
 -- what a Feed of these bytes makes: the lines scrolled, the places that changed, the keys that are new, and the bound
 record Fed : Type 0 where
@@ -89,7 +90,7 @@ black : Colour
 black = record { red = 0; green = 0; blue = 0 }
 
 -- a screen of one place, which shows the cursor, and one buffer with an A
-one_buffer : let m = layers (shown (screen (sized 1 1) [] [])) (letter 65 ∷ []) in
+one_buffer : let m = layers (shown (screen (in_ascii 1 1) [] [])) (letter 65 ∷ []) in
     ((m (pos 0)).width ≡ 8) × ((m (pos 0)).height ≡ 16) × ((m (pos 0)).pixel 7 15 ≡ Some grey)
     × ((m (negsuc 0)).width ≡ 8) × ((m (negsuc 0)).height ≡ 16) × ((m (negsuc 0)).pixel 1 4 ≡ Some grey) × ((m (negsuc 0)).pixel 1 2 ≡ Some black)
     × ((m (negsuc 1)).width ≡ 0) × ((m (pos 1)).height ≡ 0) × (buffer_key (letter 65 ∷ []) (negsuc 0) ≡ Some (letter 65))

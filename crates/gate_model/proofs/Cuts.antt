@@ -17,7 +17,7 @@ use Rattle.gate_model.specs.terminal.Reports.{report}
 use Rattle.gate_model.specs.terminal.Resizing.{resized}
 use Rattle.gate_model.specs.terminal.Screens.{Happening, Does, Turns, after_controls, after_all, completed, data_of, functions, happens, happens_past, screen}
 use Rattle.gate_model.specs.terminal.Terminal.{Terminal, opening_screen}
-use Rattle.gate_model.specs.terminal.Sizes.{ScreenSize, Cut, AreWithin, cuts_below, size_after, size_at}
+use Rattle.gate_model.specs.terminal.Sizes.{ScreenSize, Opening, Cut, AreWithin, cuts_below, size_after, size_at}
 use Rattle.gate_model.specs.terminal.ScreenLaws.{ScreensGoOn, ScreensTurn}
 use Rattle.gate_model.proofs.OneToken.{one-token}
 use Rattle.gate_model.proofs.OptionLaws.{answers_from-append}
@@ -97,23 +97,23 @@ happens-turn done bytes (cut ∷ cuts) to =
     ∙ sym (append_assoc (map Does (drop done before)) (Turns cut.size ∷ happens_past (length before) bytes cuts) (Turns to ∷ []))
 
 pub screens-go-on : ScreensGoOn
-screens-go-on size bytes more cuts w =
-    let t = opening_screen size.columns size.rows in
+screens-go-on start bytes more cuts w =
+    let t = opening_screen start.faces start.size.columns start.size.rows in
     ap (after_all t) (happens-more 0 bytes more cuts w (omega arith))
     ∙ after_all-append t (happens bytes cuts) (map Does (completed bytes more))
-    ∙ after_all-does (screen size bytes cuts) (completed bytes more)
+    ∙ after_all-does (screen start bytes cuts) (completed bytes more)
 
 pub screens-turn : ScreensTurn
-screens-turn size bytes cuts to =
-    let t = opening_screen size.columns size.rows in
+screens-turn start bytes cuts to =
+    let t = opening_screen start.faces start.size.columns start.size.rows in
     ap (after_all t) (happens-turn 0 bytes cuts to) ∙ after_all-append t (happens bytes cuts) (Turns to ∷ [])
 
-reports-go-on : (size : ScreenSize) (bytes more : List ℕ) (cuts : List Cut) → AreWithin (length bytes) cuts → reports size (bytes ++ more) cuts ≡ reports size bytes cuts ++ reports_from (screen size bytes cuts) (completed bytes more)
-reports-go-on size bytes more cuts w =
-    let t = opening_screen size.columns size.rows in
+reports-go-on : (start : Opening) (bytes more : List ℕ) (cuts : List Cut) → AreWithin (length bytes) cuts → reports start (bytes ++ more) cuts ≡ reports start bytes cuts ++ reports_from (screen start bytes cuts) (completed bytes more)
+reports-go-on start bytes more cuts w =
+    let t = opening_screen start.faces start.size.columns start.size.rows in
     ap (reports_of t) (happens-more 0 bytes more cuts w (omega arith))
     ∙ reports_of-append t (happens bytes cuts) (map Does (completed bytes more))
-    ∙ ap (λ (rs : List ℕ). reports size bytes cuts ++ rs) (reports_of-does (screen size bytes cuts) (completed bytes more))
+    ∙ ap (λ (rs : List ℕ). reports start bytes cuts ++ rs) (reports_of-does (screen start bytes cuts) (completed bytes more))
 
 -- ---- tokens with their sizes
 
@@ -218,9 +218,9 @@ past-same : (xs : List ℕ) → past xs xs ≡ []
 past-same xs = drop-length xs
 
 -- one byte
-pub reply_is : (size : ScreenSize) (cuts : List Cut) (term before : List ℕ) (b : ℕ) (given : List Token) → AreWithin (length before) cuts → length given ≤ 1 → tokens (before ++ b ∷ []) ≡ tokens before ++ given
-    → reply_after size cuts term before b ≡ replies_on (size_after size cuts) term (screen size before cuts) (tokens before) given
-reply_is size cuts term before b given w le e = by_given given le e (answers-past size cuts term before b given e)
+pub reply_is : (start : Opening) (cuts : List Cut) (term before : List ℕ) (b : ℕ) (given : List Token) → AreWithin (length before) cuts → length given ≤ 1 → tokens (before ++ b ∷ []) ≡ tokens before ++ given
+    → reply_after start cuts term before b ≡ replies_on (size_after start.size cuts) term (screen start before cuts) (tokens before) given
+reply_is start cuts term before b given w le e = by_given given le e (answers-past start.size cuts term before b given e)
   where
     now : List ℕ
     now = before ++ b ∷ []
@@ -232,41 +232,41 @@ reply_is size cuts term before b given w le e = by_given given le e (answers-pas
     all = ap (λ n. cuts_below n cuts) counted ∙ all_below (length before) cuts w
 
     said : List ℕ
-    said = reports_from (screen size before cuts) (completed before (b ∷ []))
+    said = reports_from (screen start before cuts) (completed before (b ∷ []))
 
-    reported : past (reports size before cuts) (reports size now cuts) ≡ said
-    reported = ap (past (reports size before cuts)) (reports-go-on size before (b ∷ []) cuts w) ∙ drop-append_seam (reports size before cuts) said
+    reported : past (reports start before cuts) (reports start now cuts) ≡ said
+    reported = ap (past (reports start before cuts)) (reports-go-on start before (b ∷ []) cuts w) ∙ drop-append_seam (reports start before cuts) said
 
-    earlier : reply_after size cuts term before b ≡ past (option_answers term (sized_tokens size before cuts)) (option_answers term (sized_tokens size now cuts)) ++ doubled said
+    earlier : reply_after start cuts term before b ≡ past (option_answers term (sized_tokens start.size before cuts)) (option_answers term (sized_tokens start.size now cuts)) ++ doubled said
     earlier =
-        ap (λ (cs : List Cut). past (option_answers term (sized_tokens size before cs)) (option_answers term (sized_tokens size now cs)) ++ doubled (past (reports size before cs) (reports size now cs))) all
-        ∙ ap (λ (rs : List ℕ). past (option_answers term (sized_tokens size before cuts)) (option_answers term (sized_tokens size now cuts)) ++ doubled rs) reported
+        ap (λ (cs : List Cut). past (option_answers term (sized_tokens start.size before cs)) (option_answers term (sized_tokens start.size now cs)) ++ doubled (past (reports start before cs) (reports start now cs))) all
+        ∙ ap (λ (rs : List ℕ). past (option_answers term (sized_tokens start.size before cuts)) (option_answers term (sized_tokens start.size now cuts)) ++ doubled rs) reported
 
-    in_force : size_at size cuts (length now) ≡ size_after size cuts
-    in_force = ap (size_after size) all
+    in_force : size_at start.size cuts (length now) ≡ size_after start.size cuts
+    in_force = ap (size_after start.size) all
 
     by_given : (ts : List Token) → length ts ≤ 1 → tokens now ≡ tokens before ++ ts
-        → past (option_answers term (sized_tokens size before cuts)) (option_answers term (sized_tokens size now cuts)) ≡ answers_from term (switches_from all_off (tokens before)) (all_at (size_at size cuts (length now)) ts)
-        → reply_after size cuts term before b ≡ replies_on (size_after size cuts) term (screen size before cuts) (tokens before) ts
+        → past (option_answers term (sized_tokens start.size before cuts)) (option_answers term (sized_tokens start.size now cuts)) ≡ answers_from term (switches_from all_off (tokens before)) (all_at (size_at start.size cuts (length now)) ts)
+        → reply_after start cuts term before b ≡ replies_on (size_after start.size cuts) term (screen start before cuts) (tokens before) ts
     by_given [] le e is =
         let same : tokens now ≡ tokens before = e ∙ append-nil (tokens before) in
         let none : completed before (b ∷ []) ≡ [] = ap (λ (ts : List Token). drop (length (functions (tokens before))) (functions ts)) same ∙ drop-length (functions (tokens before)) in
-        earlier ∙ ap (λ (rs : List ℕ). rs ++ doubled said) is ∙ ap (λ (cs : List Control). doubled (reports_from (screen size before cuts) cs)) none
+        earlier ∙ ap (λ (rs : List ℕ). rs ++ doubled said) is ∙ ap (λ (cs : List Control). doubled (reports_from (screen start before cuts) cs)) none
     by_given (tok ∷ []) le e is =
         let done : completed before (b ∷ []) ≡ after_tokens (tokens before) (tok ∷ []) = ap (λ (ts : List Token). drop (length (functions (tokens before))) (functions ts)) e in
         let answer : ScreenSize → List ℕ = λ s. option_answer s.columns s.rows term (switches_from all_off (tokens before)) tok in
         earlier
-        ∙ ap (λ (rs : List ℕ). rs ++ doubled said) (is ∙ append-nil (answer (size_at size cuts (length now))) ∙ ap answer in_force)
-        ∙ ap (λ (cs : List Control). answer (size_after size cuts) ++ doubled (reports_from (screen size before cuts) cs)) done
-        ∙ sym (append-nil (answer (size_after size cuts) ++ doubled (reports_from (screen size before cuts) (after_tokens (tokens before) (tok ∷ [])))))
+        ∙ ap (λ (rs : List ℕ). rs ++ doubled said) (is ∙ append-nil (answer (size_at start.size cuts (length now))) ∙ ap answer in_force)
+        ∙ ap (λ (cs : List Control). answer (size_after start.size cuts) ++ doubled (reports_from (screen start before cuts) cs)) done
+        ∙ sym (append-nil (answer (size_after start.size cuts) ++ doubled (reports_from (screen start before cuts) (after_tokens (tokens before) (tok ∷ [])))))
     by_given (t ∷ u ∷ ts) le e is = absurd (omega (arith, le))
 
-replies_after_all : (size : ScreenSize) (cuts : List Cut) (term before more : List ℕ) (given : List Token) → AreWithin (length before) cuts → tokens (before ++ more) ≡ tokens before ++ given
-    → replies_from size cuts term before more ≡ replies_on (size_after size cuts) term (screen size before cuts) (tokens before) given
-replies_after_all size cuts term before [] given w e =
+replies_after_all : (start : Opening) (cuts : List Cut) (term before more : List ℕ) (given : List Token) → AreWithin (length before) cuts → tokens (before ++ more) ≡ tokens before ++ given
+    → replies_from start cuts term before more ≡ replies_on (size_after start.size cuts) term (screen start before cuts) (tokens before) given
+replies_after_all start cuts term before [] given w e =
     let none : given ≡ [] = append_cancel_left (tokens before) given [] (sym e ∙ (ap tokens (append-nil before) ∙ sym (append-nil (tokens before)))) in
-    sym (ap (replies_on (size_after size cuts) term (screen size before cuts) (tokens before)) none)
-replies_after_all size cuts term before (b ∷ more) given w e =
+    sym (ap (replies_on (size_after start.size cuts) term (screen start before cuts) (tokens before)) none)
+replies_after_all start cuts term before (b ∷ more) given w e =
     let now = before ++ b ∷ [] in
     let one = tokens (unfinished_token before ++ b ∷ []) in
     let first : tokens now ≡ tokens before ++ one = (tokens-cut before (b ∷ [])).given in
@@ -274,47 +274,47 @@ replies_after_all size cuts term before (b ∷ more) given w e =
     let next : tokens (now ++ more) ≡ tokens now ++ rest = (tokens-cut now more).given in
     let both : given ≡ one ++ rest = append_cancel_left (tokens before) given (one ++ rest)
     (sym e ∙ (ap tokens (sym (append_assoc before (b ∷ []) more)) ∙ (next ∙ (ap (λ (ts : List Token). ts ++ rest) first ∙ append_assoc (tokens before) one rest)))) in
-    let t = screen size before cuts in
-    let s = size_after size cuts in
+    let t = screen start before cuts in
+    let s = size_after start.size cuts in
     let done : completed before (b ∷ []) ≡ after_tokens (tokens before) one = ap (λ (ts : List Token). drop (length (functions (tokens before))) (functions ts)) first in
-    let turned : screen size now cuts ≡ after_controls t (after_tokens (tokens before) one) = screens-go-on size before (b ∷ []) cuts w ∙ ap (after_controls t) done in
-    ap (λ (rs : List ℕ). rs ++ replies_from size cuts term now more) (reply_is size cuts term before b one w (one-token before b) first)
-    ∙ ap (λ (rs : List ℕ). replies_on s term t (tokens before) one ++ rs) (replies_after_all size cuts term now more rest (within-more before b cuts w) next)
+    let turned : screen start now cuts ≡ after_controls t (after_tokens (tokens before) one) = screens-go-on start before (b ∷ []) cuts w ∙ ap (after_controls t) done in
+    ap (λ (rs : List ℕ). rs ++ replies_from start cuts term now more) (reply_is start cuts term before b one w (one-token before b) first)
+    ∙ ap (λ (rs : List ℕ). replies_on s term t (tokens before) one ++ rs) (replies_after_all start cuts term now more rest (within-more before b cuts w) next)
     ∙ ap (λ (u : Terminal). replies_on s term t (tokens before) one ++ replies_on s term u (tokens now) rest) turned
     ∙ ap (λ (ts : List Token). replies_on s term t (tokens before) one ++ replies_on s term (after_controls t (after_tokens (tokens before) one)) ts rest) first
     ∙ sym (ap (replies_on s term t (tokens before)) both ∙ replies_on-append s term t (tokens before) one rest)
 
-from-append : (size : ScreenSize) (cuts : List Cut) (term before bytes more : List ℕ) → replies_from size cuts term before (bytes ++ more) ≡ replies_from size cuts term before bytes ++ replies_from size cuts term (before ++ bytes) more
-from-append size cuts term before [] more = ap (λ (bs : List ℕ). replies_from size cuts term bs more) (sym (append-nil before))
-from-append size cuts term before (b ∷ bytes) more =
-    let first : List ℕ = reply_after size cuts term before b in
+from-append : (start : Opening) (cuts : List Cut) (term before bytes more : List ℕ) → replies_from start cuts term before (bytes ++ more) ≡ replies_from start cuts term before bytes ++ replies_from start cuts term (before ++ bytes) more
+from-append start cuts term before [] more = ap (λ (bs : List ℕ). replies_from start cuts term bs more) (sym (append-nil before))
+from-append start cuts term before (b ∷ bytes) more =
+    let first : List ℕ = reply_after start cuts term before b in
     let next : List ℕ = before ++ b ∷ [] in
-    ap (λ (rs : List ℕ). first ++ rs) (from-append size cuts term next bytes more)
-    ∙ (sym (append_assoc first (replies_from size cuts term next bytes) (replies_from size cuts term (next ++ bytes) more))
-    ∙ ap (λ (bs : List ℕ). (first ++ replies_from size cuts term next bytes) ++ replies_from size cuts term bs more) (append_assoc before (b ∷ []) bytes))
+    ap (λ (rs : List ℕ). first ++ rs) (from-append start cuts term next bytes more)
+    ∙ (sym (append_assoc first (replies_from start cuts term next bytes) (replies_from start cuts term (next ++ bytes) more))
+    ∙ ap (λ (bs : List ℕ). (first ++ replies_from start cuts term next bytes) ++ replies_from start cuts term bs more) (append_assoc before (b ∷ []) bytes))
 
 -- more bytes are answered as much or more
-pub replies-longer : (size : ScreenSize) (term bytes more : List ℕ) (cuts : List Cut) → length (replies size term bytes cuts) ≤ length (replies size term (bytes ++ more) cuts)
-replies-longer size term bytes more cuts = omega (arith, ap length (from-append size cuts term [] bytes more), length-append (replies size term bytes cuts) (replies_from size cuts term bytes more))
+pub replies-longer : (start : Opening) (term bytes more : List ℕ) (cuts : List Cut) → length (replies start term bytes cuts) ≤ length (replies start term (bytes ++ more) cuts)
+replies-longer start term bytes more cuts = omega (arith, ap length (from-append start cuts term [] bytes more), length-append (replies start term bytes cuts) (replies_from start cuts term bytes more))
 
 pub replies-go-on : RepliesGoOn
-replies-go-on size term bytes more cuts given w e = from-append size cuts term [] bytes more ∙ ap (λ (rs : List ℕ). replies size term bytes cuts ++ rs) (replies_after_all size cuts term bytes more given w e)
+replies-go-on start term bytes more cuts given w e = from-append start cuts term [] bytes more ∙ ap (λ (rs : List ℕ). replies start term bytes cuts ++ rs) (replies_after_all start cuts term bytes more given w e)
 
 late : (n k : ℕ) (cuts : List Cut) (to : ScreenSize) → k ≤ n → cuts_below k (cuts ++ record { after = n; size = to } ∷ []) ≡ cuts_below k cuts
 late n k cuts to le =
     let high : nat_lt n k ≡ false = le-ltb n k le in
     filter-append (λ (cut : Cut). nat_lt cut.after k) cuts (record { after = n; size = to } ∷ []) ∙ rw high (append-nil (cuts_below k cuts))
 
-replies-late : (size : ScreenSize) (cuts : List Cut) (n : ℕ) (to : ScreenSize) (term before bytes : List ℕ) → length before + length bytes ≤ n
-    → replies_from size (cuts ++ record { after = n; size = to } ∷ []) term before bytes ≡ replies_from size cuts term before bytes
-replies-late size cuts n to term before [] le = refl
-replies-late size cuts n to term before (b ∷ bytes) le =
+replies-late : (start : Opening) (cuts : List Cut) (n : ℕ) (to : ScreenSize) (term before bytes : List ℕ) → length before + length bytes ≤ n
+    → replies_from start (cuts ++ record { after = n; size = to } ∷ []) term before bytes ≡ replies_from start cuts term before bytes
+replies-late start cuts n to term before [] le = refl
+replies-late start cuts n to term before (b ∷ bytes) le =
     let now = before ++ b ∷ [] in
     let more : List Cut = cuts ++ record { after = n; size = to } ∷ [] in
     let small : length now ≤ n = omega (arith, le, length-append before (b ∷ [])) in
-    ap (λ (cs : List Cut). (past (option_answers term (sized_tokens size before cs)) (option_answers term (sized_tokens size now cs)) ++ doubled (past (reports size before cs) (reports size now cs))) ++ replies_from size more term now bytes)
+    ap (λ (cs : List Cut). (past (option_answers term (sized_tokens start.size before cs)) (option_answers term (sized_tokens start.size now cs)) ++ doubled (past (reports start before cs) (reports start now cs))) ++ replies_from start more term now bytes)
     (late n (length now) cuts to small)
-    ∙ ap (λ (rs : List ℕ). reply_after size cuts term before b ++ rs) (replies-late size cuts n to term now bytes (omega (arith, le, length-append before (b ∷ []))))
+    ∙ ap (λ (rs : List ℕ). reply_after start cuts term before b ++ rs) (replies-late start cuts n to term now bytes (omega (arith, le, length-append before (b ∷ []))))
 
 pub replies-stay : RepliesStay
-replies-stay size term bytes cuts to = replies-late size cuts (length bytes) to term [] bytes (omega arith)
+replies-stay start term bytes cuts to = replies-late start cuts (length bytes) to term [] bytes (omega arith)

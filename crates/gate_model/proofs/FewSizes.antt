@@ -12,7 +12,7 @@ use Rattle.gate_model.specs.terminal.Effects.{effect}
 use Rattle.gate_model.specs.terminal.Replies.{reports_from, reply_given, reply_after, replies_from, replies, replies_on}
 use Rattle.gate_model.specs.terminal.Resizing.{resized, saved_within}
 use Rattle.gate_model.specs.terminal.Screens.{Happening, Does, Turns, after_all, data_byte, data_of, functions, happens_past, screen}
-use Rattle.gate_model.specs.terminal.Sizes.{ScreenSize, IsScreenSize, Cut, AreWithin, cuts_below, size_after}
+use Rattle.gate_model.specs.terminal.Sizes.{ScreenSize, Opening, IsScreenSize, Cut, AreWithin, cuts_below, size_after}
 use Rattle.gate_model.specs.terminal.TabStops.{stops_resized}
 use Rattle.gate_model.specs.terminal.Terminal.{Saved, Terminal, first_stops, is_first_stop, opening_screen}
 use Rattle.gate_model.proofs.Cuts.{reply_is}
@@ -94,7 +94,7 @@ within_below n (cut ∷ cuts) = pick (nat_lt cut.after (n + 1)) refl (within_bel
     pick true e rest = let lt : cut.after < n + 1 = grind (arith, nat_tests) in both (cuts_below (n + 1) cuts) (omega (arith, lt)) rest
     pick false e rest = rest
 
-module _ (size : ScreenSize) (cuts : List Cut) (term : List ℕ) (sized : IsScreenSize size.columns size.rows) (sizes : AreSizes cuts) (few : length term ≤ 40) where
+module _ (start : Opening) (cuts : List Cut) (term : List ℕ) (sized : IsScreenSize start.size.columns start.size.rows) (sizes : AreSizes cuts) (few : length term ≤ 40) where
   by_given : (s : ScreenSize) (t : Terminal) (before given : List Token) → Fits t → length given ≤ 1
       → length (replies_on s term t before given) + (46 * length (data_of (before ++ given)) + (46 * length (functions before) + 46 * length before))
       ≤ 46 * length (before ++ given) + (46 * length (data_of before) + 46 * length (functions (before ++ given)))
@@ -127,7 +127,7 @@ module _ (size : ScreenSize) (cuts : List Cut) (term : List ℕ) (sized : IsScre
   by_given s t before (a ∷ b ∷ given) f le = absurd (omega (arith, le))
 
   byte_short : (before : List ℕ) (b : ℕ) → let now = before ++ b ∷ [] in
-      length (reply_after size cuts term before b) + (46 * length (data_of (tokens now)) + (46 * length (functions (tokens before)) + 46 * length (tokens before)))
+      length (reply_after start cuts term before b) + (46 * length (data_of (tokens now)) + (46 * length (functions (tokens before)) + 46 * length (tokens before)))
       ≤ 46 * length (tokens now) + (46 * length (data_of (tokens before)) + 46 * length (functions (tokens now)))
   byte_short before b =
       let now : List ℕ = before ++ b ∷ [] in
@@ -136,25 +136,25 @@ module _ (size : ScreenSize) (cuts : List Cut) (term : List ℕ) (sized : IsScre
       let more : tokens now ≡ tokens before ++ given = (tokens-cut before (b ∷ [])).given in
       let counted : length now ≡ length before + 1 = length-append before (b ∷ []) in
       let w : AreWithin (length before) earlier = subst (λ n. AreWithin (length before) (cuts_below n cuts)) (sym counted) (within_below (length before) cuts) in
-      let same : reply_after size cuts term before b ≡ reply_after size earlier term before b = sym (ap (λ (cs : List Cut). reply_with cs before b) (below_again (length now) cuts)) in
-      let is = reply_is size earlier term before b given w (one-token before b) more in
-      let t = screen size before earlier in
-      let fits : Fits t = happens_fits (opening_screen size.columns size.rows) 0 before earlier record { near = opening-near size.columns size.rows sized.some_columns sized.some_rows; cols = sized.few_columns; rows = omega (arith, sized.few_rows) } (sizes_below (length now) cuts sizes) in
-      subst (λ (ts : List Token). length (reply_after size cuts term before b) + (46 * length (data_of ts) + (46 * length (functions (tokens before)) + 46 * length (tokens before))) ≤ 46 * length ts + (46 * length (data_of (tokens before)) + 46 * length (functions ts))) (sym more)
-      (omega (arith, ap length (same ∙ is), by_given (size_after size earlier) t (tokens before) given fits (one-token before b)))
+      let same : reply_after start cuts term before b ≡ reply_after start earlier term before b = sym (ap (λ (cs : List Cut). reply_with cs before b) (below_again (length now) cuts)) in
+      let is = reply_is start earlier term before b given w (one-token before b) more in
+      let t = screen start before earlier in
+      let fits : Fits t = happens_fits (opening_screen start.faces start.size.columns start.size.rows) 0 before earlier record { near = opening-near start.faces start.size.columns start.size.rows sized.some_columns sized.some_rows; cols = sized.few_columns; rows = omega (arith, sized.few_rows) } (sizes_below (length now) cuts sizes) in
+      subst (λ (ts : List Token). length (reply_after start cuts term before b) + (46 * length (data_of ts) + (46 * length (functions (tokens before)) + 46 * length (tokens before))) ≤ 46 * length ts + (46 * length (data_of (tokens before)) + 46 * length (functions ts))) (sym more)
+      (omega (arith, ap length (same ∙ is), by_given (size_after start.size earlier) t (tokens before) given fits (one-token before b)))
     where
       reply_with : List Cut → List ℕ → ℕ → List ℕ
-      reply_with cs before b = reply_given size cs term before b
+      reply_with cs before b = reply_given start cs term before b
 
-  from_short : (before bytes : List ℕ) → length (replies_from size cuts term before bytes) + (46 * length (data_of (tokens (before ++ bytes))) + (46 * length (functions (tokens before)) + 46 * length (tokens before)))
+  from_short : (before bytes : List ℕ) → length (replies_from start cuts term before bytes) + (46 * length (data_of (tokens (before ++ bytes))) + (46 * length (functions (tokens before)) + 46 * length (tokens before)))
       ≤ 46 * length (tokens (before ++ bytes)) + (46 * length (data_of (tokens before)) + 46 * length (functions (tokens (before ++ bytes))))
   from_short before [] = let same : before ++ [] ≡ before = append-nil before in rw same (omega arith)
   from_short before (b ∷ bytes) =
       let now : List ℕ = before ++ b ∷ [] in
       let same : now ++ bytes ≡ before ++ b ∷ bytes = append_assoc before (b ∷ []) bytes in
-      subst (λ (bs : List ℕ). length (replies_from size cuts term before (b ∷ bytes)) + (46 * length (data_of (tokens bs)) + (46 * length (functions (tokens before)) + 46 * length (tokens before))) ≤ 46 * length (tokens bs) + (46 * length (data_of (tokens before)) + 46 * length (functions (tokens bs)))) same
-      (omega (arith, length-append (reply_after size cuts term before b) (replies_from size cuts term now bytes), byte_short before b, from_short now bytes))
+      subst (λ (bs : List ℕ). length (replies_from start cuts term before (b ∷ bytes)) + (46 * length (data_of (tokens bs)) + (46 * length (functions (tokens before)) + 46 * length (tokens before))) ≤ 46 * length (tokens bs) + (46 * length (data_of (tokens before)) + 46 * length (functions (tokens bs)))) same
+      (omega (arith, length-append (reply_after start cuts term before b) (replies_from start cuts term now bytes), byte_short before b, from_short now bytes))
 
-pub replies-short : (size : ScreenSize) (term bs : List ℕ) (cuts : List Cut) → IsScreenSize size.columns size.rows → AreSizes cuts → length term ≤ 40 → length (replies size term bs cuts) ≤ 46 * length bs
-replies-short size term bs cuts sized sizes few =
-    omega (arith, from_short size cuts term sized sizes few [] bs, ap (λ (ts : List Token). length (data_of ts)) no_tokens, functions-short (tokens bs), tokens-short bs)
+pub replies-short : (start : Opening) (term bs : List ℕ) (cuts : List Cut) → IsScreenSize start.size.columns start.size.rows → AreSizes cuts → length term ≤ 40 → length (replies start term bs cuts) ≤ 46 * length bs
+replies-short start term bs cuts sized sizes few =
+    omega (arith, from_short start cuts term sized sizes few [] bs, ap (λ (ts : List Token). length (data_of ts)) no_tokens, functions-short (tokens bs), tokens-short bs)

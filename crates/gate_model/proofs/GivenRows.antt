@@ -1,5 +1,6 @@
 -- Worked facts of what viewers are given: by frames that are kept, or by a picture.
 use Rattle.std.proofs.Common.{◌≡◌, ℕ, ◌<◌, suc, zero, List, [], ◌∷◌, ◌++◌, length, false, refl, pos, negsuc, arith}
+use Rattle.gate_model.specs.declared.faces.Faces.TheVariants.{Ascii}
 use Rattle.gate_model.specs.declared.instr.Instr.{Instr}
 use Rattle.gate_model.specs.declared.how.How.TheVariants.{Suffix, Fresh as Picture}
 use Rattle.gate_model.specs.declared.instr.Instr.TheVariants.{Size, Sync}
@@ -16,7 +17,7 @@ use Rattle.gate_model.specs.session.Kept.{kept_of, Covers}
 use Rattle.gate_model.specs.session.Whole.{Restores}
 
 abbrev opened : History
-opened = Join 1 Control (Sync 1 ∷ []) ∷ Start 1 1 Nobody [] 1000 1 (Sync 1 ∷ []) ∷ []
+opened = Join 1 Control (Sync 1 ∷ []) ∷ Start 1 1 Nobody [] Ascii 1000 1 (Sync 1 ∷ []) ∷ []
 
 abbrev two_more : History
 two_more = Feed (66 ∷ []) 3 (Sync 3 ∷ []) ∷ Feed (65 ∷ []) 2 (Sync 2 ∷ []) ∷ opened
@@ -54,7 +55,7 @@ no_picture h t is covers u = u.0 covers
 
 -- a picture of a screen without its glyph buffer restores nothing
 abbrev with_buffer : History
-with_buffer = Start 1 1 Nobody [] 1000 1 (Size (pos 0) 8 16 ∷ Size (negsuc 0) 8 16 ∷ Sync 1 ∷ []) ∷ []
+with_buffer = Start 1 1 Nobody [] Ascii 1000 1 (Size (pos 0) 8 16 ∷ Size (negsuc 0) 8 16 ∷ Sync 1 ∷ []) ∷ []
 
 without_buffer : Restores with_buffer (Size (pos 0) 8 16 ∷ Sync 1 ∷ []) → ⊥
 without_buffer r = no_width 0 8 (r nothing (λ k. refl) (λ k w h. (refl, refl)) (negsuc 0)).width (omega arith)

@@ -52,7 +52,7 @@ next_rises g (Write viewer acts) r s = plain_rises g (Write viewer acts) refl re
 next_rises g (Take count) r s = plain_rises g (Take count) refl refl r
 next_rises g (Leave viewer) r s = plain_rises g (Leave viewer) refl refl r
 next_rises g (Close cause) r s = plain_rises g (Close cause) refl refl r
-next_rises g (Start cols rows mode term entries stamp frame) r s = absurd s
+next_rises g (Start cols rows mode term faces entries stamp frame) r s = absurd s
 
 rises_of : (h : History) → Legal h → Rises h
 rises_of [] l = absurd l

@@ -21,7 +21,7 @@ pub layers-plain : (h : History) (e : Entry) (keys : Buffers) → IsPlain e → 
 layers-plain h e keys p a = rw (all_frames-plain h e p, at-plain h e p) a
 
 pub keys_shown-plain : (h : History) (e : Entry) → IsPlain e → keys_shown (e ∷ h) ≡ keys_shown h
-keys_shown-plain h (Start cols rows mode term entries t frame) p = absurd (let w : [] ≡ (t, frame) ∷ [] = sym p.no_frame in cc)
+keys_shown-plain h (Start cols rows mode term faces entries t frame) p = absurd (let w : [] ≡ (t, frame) ∷ [] = sym p.no_frame in cc)
 keys_shown-plain h (Feed bs t frame) p = absurd (let w : [] ≡ (t, frame) ∷ [] = sym p.no_frame in cc)
 keys_shown-plain h (Size v c r t frame) p = absurd (let w : [] ≡ (t, frame) ∷ [] = sym p.no_frame in cc)
 keys_shown-plain h (Join v role first) p = refl

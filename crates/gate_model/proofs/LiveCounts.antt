@@ -140,7 +140,7 @@ next_live g (Write viewer acts) l n = plain_live g (Write viewer acts) l (λ v. 
 next_live g (Take count) l n = plain_live g (Take count) l (λ v. stays (is_live g v)) refl refl
 next_live g (Leave viewer) l n = leave_live g viewer l n
 next_live g (Close cause) l n = plain_live g (Close cause) l (λ v. stays (is_live g v)) refl refl
-next_live g (Start cols rows mode term entries stamp frame) l n = absurd n
+next_live g (Start cols rows mode term faces entries stamp frame) l n = absurd n
 
 live_of : (h : History) → Legal h → Live h
 live_of [] l = absurd l

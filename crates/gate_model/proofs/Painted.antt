@@ -11,8 +11,9 @@ use Rattle.gate_model.specs.terminal.Effects.{effect}
 use Rattle.gate_model.specs.terminal.Resizing.{resized, saved_within}
 use Rattle.gate_model.specs.terminal.Screens.{Happening, Does, Turns, AreColoured, after_all, happens, shown}
 use Rattle.gate_model.specs.terminal.Sizes.{Cut, ScreenSize, size_after}
+use Rattle.gate_model.specs.declared.faces.Faces.{Faces}
 use Rattle.gate_model.specs.terminal.Terminal.{Saved, Terminal, opening_screen}
-use Rattle.gate_model.specs.session.History.{History, at, bytes, columns, rows, cuts, first_size, size_now}
+use Rattle.gate_model.specs.session.History.{History, at, bytes, columns, faces, rows, cuts, first_size, size_now}
 use Rattle.gate_model.specs.session.Steps.{Legal}
 use Rattle.gate_model.proofs.Added.{IsNext, next}
 use Rattle.gate_model.proofs.CellsKept.{resized_kept}
@@ -34,11 +35,11 @@ after_all_painted t [] p = p
 after_all_painted t (Does c ∷ hs) p = after_all_painted (effect c t) hs ((effect-keeps c t).painted p)
 after_all_painted t (Turns s ∷ hs) p = after_all_painted (resized s.columns s.rows t) hs (resized_painted s.columns s.rows t p)
 
-pub opened-painted : (c r : ℕ) → IsPainted (opening_screen c r)
-opened-painted c r = record { cells = All-replicate Coloured (r * c) blank is_plain; pen = plain_pen; saved = tt }
+pub opened-painted : (faces : Faces) (c r : ℕ) → IsPainted (opening_screen faces c r)
+opened-painted faces c r = record { cells = All-replicate Coloured (r * c) blank is_plain; pen = plain_pen; saved = tt }
 
 pub painted-at : (h : History) → IsPainted (at h)
-painted-at h = after_all_painted (opening_screen (columns h) (rows h)) (happens (bytes h) (cuts h)) (opened-painted (columns h) (rows h))
+painted-at h = after_all_painted (opening_screen (faces h) (columns h) (rows h)) (happens (bytes h) (cuts h)) (opened-painted (faces h) (columns h) (rows h))
 
 pub coloured-at : (h : History) → AreColoured (shown (at h)).keys
 coloured-at h = coloured-shown (at h) (painted-at h).cells
@@ -61,7 +62,7 @@ next_in_force g (Write viewer acts) n s = s
 next_in_force g (Take count) n s = s
 next_in_force g (Leave viewer) n s = s
 next_in_force g (Close cause) n s = s
-next_in_force g (Start cols lines mode term entries stamp frame) n s = absurd n
+next_in_force g (Start cols lines mode term faces entries stamp frame) n s = absurd n
 
 pub size-in-force : (h : History) → Legal h → IsInForce h
 size-in-force [] l = absurd l

@@ -64,7 +64,7 @@ fine_next g (Write viewer acts) n = tt
 fine_next g (Take count) n = tt
 fine_next g (Leave viewer) n = tt
 fine_next g (Close cause) n = tt
-fine_next g (Start cols rows mode term entries stamp frame) n = absurd n
+fine_next g (Start cols rows mode term faces entries stamp frame) n = absurd n
 
 fine_frames : (h : History) → Legal h → AreFine (frames h)
 fine_frames [] l = absurd l
@@ -79,7 +79,7 @@ readable_farewell Worn = (omega arith, tt)
 
 readable_closing : (h : History) → AreReadable (closing h)
 readable_closing [] = tt
-readable_closing (Start cols rows mode term entries stamp frame ∷ g) = readable_closing g
+readable_closing (Start cols rows mode term faces entries stamp frame ∷ g) = readable_closing g
 readable_closing (Feed bytes stamp frame ∷ g) = readable_closing g
 readable_closing (Size viewer cols rows stamp frame ∷ g) = readable_closing g
 readable_closing (Join viewer role first ∷ g) = readable_closing g
@@ -99,7 +99,7 @@ by_how g viewer (Fresh is) l u = u.1.in_range
 
 -- what the entry gives a viewer
 pub given_readable : (g : History) (e : Entry) (v : ℕ) → Legal g → IsNext g e → AreReadable (given g (delivered g v) v e)
-given_readable g (Start cols rows mode term entries stamp frame) v l n = absurd n
+given_readable g (Start cols rows mode term faces entries stamp frame) v l n = absurd n
 given_readable g (Feed bytes stamp frame) v l n = tt
 given_readable g (Size viewer cols rows stamp frame) v l n = tt
 given_readable g (Join viewer role first) v l n = readable_both (if viewer == v then first else []) [] (chosen (viewer == v) first n.shape.in_range) tt

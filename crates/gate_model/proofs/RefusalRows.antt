@@ -1,6 +1,7 @@
 -- Worked refusals: a session of at most three entries with its owner.
 use Rattle.std.proofs.Common.{◌≡◌, [], ◌∷◌, refl}
 use Rattle.std.specs.Prelude.{map, Some, None, Ok, Err}
+use Rattle.gate_model.specs.declared.faces.Faces.TheVariants.{Ascii}
 use Rattle.gate_model.specs.declared.cause.Cause.TheVariants.{Stopped}
 use Rattle.gate_model.specs.declared.how.How.TheVariants.{Suffix}
 use Rattle.gate_model.specs.declared.sharing.Role.TheVariants.{Control, View}
@@ -19,7 +20,7 @@ use Rattle.gate_model.specs.session.Refusals.{feed_refusal, join_refusal, read_s
 use Rattle.gate_model.specs.session.Calls.{lacked}
 
 abbrev opened : History
-opened = Start 2 1 Nobody [] 3 1 (Sync 1 ∷ []) ∷ []
+opened = Start 2 1 Nobody [] Ascii 3 1 (Sync 1 ∷ []) ∷ []
 
 abbrev with_owner : History
 with_owner = Join 1 Control (Sync 1 ∷ []) ∷ opened

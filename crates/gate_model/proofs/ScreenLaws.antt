@@ -335,9 +335,9 @@ coloured-shown t c = pick t.modes.visible
     at : ℕ
     at = place t.x t.y t.grid
 
-    are : AreColoured (map key_of t.grid.cells)
-    are = All-map IsColoured key_of t.grid.cells c
+    are : AreColoured (map (key_of t.faces) t.grid.cells)
+    are = All-map IsColoured (key_of t.faces) t.grid.cells c
 
-    pick : (b : Bool) → AreColoured (if b then exchanged_at (place t.x t.y t.grid) (map key_of t.grid.cells) else map key_of t.grid.cells)
+    pick : (b : Bool) → AreColoured (if b then exchanged_at (place t.x t.y t.grid) (map (key_of t.faces) t.grid.cells) else map (key_of t.faces) t.grid.cells)
     pick false = are
-    pick true = let k = coloured-key_at (map key_of t.grid.cells) at are in All-set IsColoured (map key_of t.grid.cells) at (exchanged (key_at (map key_of t.grid.cells) at)) (k.1, k.0) are
+    pick true = let k = coloured-key_at (map (key_of t.faces) t.grid.cells) at are in All-set IsColoured (map (key_of t.faces) t.grid.cells) at (exchanged (key_at (map (key_of t.faces) t.grid.cells) at)) (k.1, k.0) are

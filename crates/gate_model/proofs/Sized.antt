@@ -5,7 +5,7 @@ use Rattle.gate_model.specs.declared.entry.Entry.TheVariants.{Start, Feed, Size,
 use Rattle.gate_model.specs.declared.control.Control.{Control}
 use Rattle.gate_model.specs.telnet.TelnetTokens.{tokens}
 use Rattle.gate_model.specs.terminal.Screens.{completed, functions, screen}
-use Rattle.gate_model.specs.terminal.Sizes.{ScreenSize}
+use Rattle.gate_model.specs.terminal.Sizes.{Opening, ScreenSize}
 use Rattle.gate_model.specs.terminal.Terminal.{Terminal, opening_screen}
 use Rattle.gate_model.specs.session.History.{History, at, bytes, size_now}
 use Rattle.gate_model.specs.session.Steps.{Legal}
@@ -21,8 +21,8 @@ pub record IsSized (h : History) : Type 0 where
 
 plain_sized : (g : History) (e : Entry) → IsPlain e → IsSized g → IsSized (e ∷ g)
 plain_sized g e p s = record {
-  cols = ap (λ (t : Terminal). t.grid.cols) (at-plain g e p) ∙ (s.cols ∙ sym (ap (λ (z : ScreenSize). z.columns) (p.no_start g).1.1.1));
-  rows = ap (λ (t : Terminal). t.grid.rows) (at-plain g e p) ∙ (s.rows ∙ sym (ap (λ (z : ScreenSize). z.rows) (p.no_start g).1.1.1));
+  cols = ap (λ (t : Terminal). t.grid.cols) (at-plain g e p) ∙ (s.cols ∙ sym (ap (λ (z : ScreenSize). z.columns) (p.no_start g).1.1.1.0));
+  rows = ap (λ (t : Terminal). t.grid.rows) (at-plain g e p) ∙ (s.rows ∙ sym (ap (λ (z : ScreenSize). z.rows) (p.no_start g).1.1.1.0));
 }
 
 next_sized : (g : History) (e : Entry) → IsNext g e → IsSized g → IsSized (e ∷ g)
@@ -38,16 +38,16 @@ next_sized g (Write viewer acts) n s = plain_sized g (Write viewer acts) (plain-
 next_sized g (Take count) n s = plain_sized g (Take count) (plain-take count) s
 next_sized g (Leave viewer) n s = plain_sized g (Leave viewer) (plain-leave viewer) s
 next_sized g (Close cause) n s = plain_sized g (Close cause) (plain-close cause) s
-next_sized g (Start cols lines mode term entries stamp frame) n s = absurd n
+next_sized g (Start cols lines mode term faces entries stamp frame) n s = absurd n
 
-first_sized : (s : ScreenSize) (bs : List ℕ) → ((screen s bs []).grid.cols ≡ s.columns) × ((screen s bs []).grid.rows ≡ s.rows)
+first_sized : (s : Opening) (bs : List ℕ) → ((screen s bs []).grid.cols ≡ s.size.columns) × ((screen s bs []).grid.rows ≡ s.size.rows)
 first_sized s bs =
-    let t = opening_screen s.columns s.rows in
+    let t = opening_screen s.faces s.size.columns s.size.rows in
     let is = after_all-does t (functions (tokens bs)) in
     let k = after_controls-keeps t (functions (tokens bs)) in
     (ap (λ (u : Terminal). u.grid.cols) is ∙ k.columns, ap (λ (u : Terminal). u.grid.rows) is ∙ k.rows)
 
 pub sized_of : (h : History) → Legal h → IsSized h
 sized_of [] l = absurd l
-sized_of (e ∷ []) l = subst (λ (x : Entry). IsSized (x ∷ [])) (sym l.2.4) (let f = first_sized record { columns = l.0.cols; rows = l.0.rows } [] in record { cols = f.0; rows = f.1 })
+sized_of (e ∷ []) l = subst (λ (x : Entry). IsSized (x ∷ [])) (sym l.2.4) (let f = first_sized record { size = record { columns = l.0.cols; rows = l.0.rows }; faces = l.0.faces } [] in record { cols = f.0; rows = f.1 })
 sized_of (e ∷ f ∷ g) l = next_sized (f ∷ g) e (next e f g l) (sized_of (f ∷ g) l.0)

@@ -1,6 +1,7 @@
 -- Worked facts of what waits for a viewer's acknowledgement: a session of its owner and a recorder.
 use Rattle.std.proofs.Common.{◌≡◌, ℕ, ◌+◌, zero, suc, [], ◌∷◌, refl}
 use Rattle.std.specs.Prelude.{map, Some, None, Ok, Err}
+use Rattle.gate_model.specs.declared.faces.Faces.TheVariants.{Ascii}
 use Rattle.gate_model.specs.declared.act.Act.TheVariants.{Sync as sync_act, Nop}
 use Rattle.gate_model.specs.declared.cause.Cause.TheVariants.{Stopped}
 use Rattle.gate_model.specs.declared.how.How.TheVariants.{Suffix, Fresh as Picture}
@@ -15,7 +16,7 @@ use Rattle.gate_model.specs.session.Refusals.{read_stop}
 use Rattle.gate_model.specs.session.Waiting.{awaited, waiting}
 
 abbrev opened : History
-opened = Join 2 Keep (Sync 1 ∷ []) ∷ Join 1 Control (Sync 1 ∷ []) ∷ Start 2 1 Nobody [] 99 1 (Sync 1 ∷ []) ∷ []
+opened = Join 2 Keep (Sync 1 ∷ []) ∷ Join 1 Control (Sync 1 ∷ []) ∷ Start 2 1 Nobody [] Ascii 99 1 (Sync 1 ∷ []) ∷ []
 
 -- two frames, which both were given
 abbrev read_all : History

@@ -76,7 +76,7 @@ quiet_begins cs front t (inr q) b = farewell_begins q.0 t front b.0 (sym q.1 ∙
 
 closing_is_quiet : (h : History) → IsQuiet (closing h)
 closing_is_quiet [] = inl refl
-closing_is_quiet (Start cols rows mode term entries stamp frame ∷ g) = closing_is_quiet g
+closing_is_quiet (Start cols rows mode term faces entries stamp frame ∷ g) = closing_is_quiet g
 closing_is_quiet (Feed bytes stamp frame ∷ g) = closing_is_quiet g
 closing_is_quiet (Size viewer cols rows stamp frame ∷ g) = closing_is_quiet g
 closing_is_quiet (Join viewer role first ∷ g) = closing_is_quiet g
@@ -306,7 +306,7 @@ newest_next g (Write viewer acts) n there = there
 newest_next g (Take count) n there = there
 newest_next g (Leave viewer) n there = there
 newest_next g (Close cause) n there = there
-newest_next g (Start cols rows mode term entries stamp frame) n there = absurd n
+newest_next g (Start cols rows mode term faces entries stamp frame) n there = absurd n
 
 newest_there : (h : History) → Legal h → has_entry_at h (newest h) ≡ true
 newest_there [] l = absurd l
@@ -333,7 +333,7 @@ no_frame : (e : Entry) → framed e ≡ [] → stamp_of e ≡ None → AddsNoFra
 no_frame e f s = record { framed_is = f; stamp_is = s }
 
 next_course : (g : History) (e : Entry) → Course g → Legal g → Facts (e ∷ g) → AllGrowing g → IsNext g e → IsRestoring g e → Course (e ∷ g)
-next_course g (Start cols rows mode term entries stamp frame) c l f d s r = absurd s
+next_course g (Start cols rows mode term faces entries stamp frame) c l f d s r = absurd s
 next_course g (Feed bytes stamp frame) c l f d s r = frame_course g (Feed bytes stamp frame) _ _ stamp frame c record { framed_is = refl; stamp_is = refl; rises = omega (arith, s.is_next); shape = s.shape } f (λ v. refl)
 next_course g (Size viewer cols rows stamp frame) c l f d s r = frame_course g (Size viewer cols rows stamp frame) _ _ stamp frame c record { framed_is = refl; stamp_is = refl; rises = omega (arith, s.is_next); shape = s.shape } f (λ v. refl)
 next_course g (Join viewer role first) c l f d s r = plain_course g (Join viewer role first) c (no_frame (Join viewer role first) refl refl) f d (newest_there g l) (join_gives g viewer role first s r)
@@ -346,7 +346,7 @@ next_course g (Close cause) c l f d s r = plain_course g (Close cause) c (no_fra
 first_course : (e : Entry) (setup : Setup) (now : ℕ) → StartStep setup now e → Course (e ∷ [])
 first_course e setup now s =
     let f = facts_of (e ∷ []) (setup, now, s) in
-    let start : Entry = Start setup.cols setup.rows setup.mode setup.term setup.entries (next_stamp 0 now) s.1 in
+    let start : Entry = Start setup.cols setup.rows setup.mode setup.term setup.faces setup.entries (next_stamp 0 now) s.1 in
     let facts : Facts (start ∷ []) = subst (λ (x : Entry). Facts (x ∷ [])) s.4 f in
     subst (λ (x : Entry). Course (x ∷ [])) (sym s.4) (frame_course [] start setup.cols setup.rows (next_stamp 0 now) s.1 no_course record { framed_is = refl; stamp_is = refl; rises = omega arith; shape = s.2 } facts (λ v. refl))
 

@@ -14,8 +14,10 @@ use Rattle.gate_model.specs.picture.Pictures.{picture}
 use Rattle.gate_model.specs.terminal.Parameters.{default}
 use Rattle.gate_model.specs.terminal.Pens.{pen_ink, styled}
 use Rattle.gate_model.specs.terminal.Printing.{printed_often, width_of}
-use Rattle.gate_model.specs.terminal.Sizes.{sized}
-use Rattle.gate_model.specs.terminal.Screens.{key_of, screen, shown}
+use Rattle.gate_model.specs.picture.Letters.{number_of}
+use Rattle.gate_model.specs.declared.faces.Faces.TheVariants.{Ascii, More}
+use Rattle.gate_model.specs.terminal.Sizes.{in_ascii}
+use Rattle.gate_model.specs.terminal.Screens.{key_of, screen, shown, whole_face}
 use Rattle.gate_model.specs.terminal.Terminal.{Terminal, plain}
 
 pub grey : Colour
@@ -46,17 +48,17 @@ pub bold : (pen_ink (record plain { bold = true }) ≡ 15) × (pen_ink (record p
 bold = (refl, refl, refl)
 
 -- a wide character has its halves in two cells, and the cursor stands behind it
-pub wide : let s = shown (screen (sized 4 1) (0xE4 ∷ 0xBD ∷ 0xA0 ∷ []) []) in (picture s 1 2 ≡ grey) × (picture s 5 4 ≡ black) × (picture s 13 4 ≡ grey) × (picture s 16 0 ≡ grey)
+pub wide : let s = shown (screen (in_ascii 4 1) (0xE4 ∷ 0xBD ∷ 0xA0 ∷ []) []) in (picture s 1 2 ≡ grey) × (picture s 5 4 ≡ black) × (picture s 13 4 ≡ grey) × (picture s 16 0 ≡ grey)
 unfolding computing read colour_of picture lit grey black width_of unicode_width
 wide = (refl, refl, refl, refl)
 
 -- a half whose other half was overwritten becomes a space
-pub half_overwritten : picture (shown (screen (sized 4 1) (0xE4 ∷ 0xBD ∷ 0xA0 ∷ 0x0D ∷ 0x41 ∷ []) [])) 9 2 ≡ grey
+pub half_overwritten : picture (shown (screen (in_ascii 4 1) (0xE4 ∷ 0xBD ∷ 0xA0 ∷ 0x0D ∷ 0x41 ∷ []) [])) 9 2 ≡ grey
 unfolding computing read colour_of picture lit grey width_of unicode_width
 half_overwritten = refl
 
 -- a paper of the 256
-pub indexed_paper : picture (shown (screen (sized 2 1) (0x1B ∷ 0x5B ∷ 0x34 ∷ 0x38 ∷ 0x3B ∷ 0x35 ∷ 0x3B ∷ 0x31 ∷ 0x39 ∷ 0x36 ∷ 0x6D ∷ 0x41 ∷ []) [])) 0 0 ≡ record { red = 255; green = 0; blue = 0 }
+pub indexed_paper : picture (shown (screen (in_ascii 2 1) (0x1B ∷ 0x5B ∷ 0x34 ∷ 0x38 ∷ 0x3B ∷ 0x35 ∷ 0x3B ∷ 0x31 ∷ 0x39 ∷ 0x36 ∷ 0x6D ∷ 0x41 ∷ []) [])) 0 0 ≡ record { red = 255; green = 0; blue = 0 }
 unfolding computing read colour_of picture lit width_of unicode_width
 indexed_paper = refl
 
@@ -71,38 +73,45 @@ abbrev seen : Terminal → Seen
 seen t = record { text = map (λ c. c.ch) t.grid.cells; halves = map (λ c. c.half) t.grid.cells; x = t.x }
 
 -- at the last column: to the next line where the wrap mode is on, and a column back where it is off
-at_the_end : (seen (screen (sized 2 2) (0x41 ∷ 0xE4 ∷ 0xBD ∷ 0xA0 ∷ []) []) ≡ record { text = 0x41 ∷ 0x20 ∷ 0x4F60 ∷ 0x4F60 ∷ []; halves = Whole ∷ Whole ∷ Left ∷ Right ∷ []; x = 1 })
-    × (seen (screen (sized 3 1) (0x1B ∷ 0x5B ∷ 0x3F ∷ 0x37 ∷ 0x6C ∷ 0x41 ∷ 0x42 ∷ 0xE4 ∷ 0xBD ∷ 0xA0 ∷ []) []) ≡ record { text = 0x41 ∷ 0x4F60 ∷ 0x4F60 ∷ []; halves = Whole ∷ Left ∷ Right ∷ []; x = 2 })
+at_the_end : (seen (screen (in_ascii 2 2) (0x41 ∷ 0xE4 ∷ 0xBD ∷ 0xA0 ∷ []) []) ≡ record { text = 0x41 ∷ 0x20 ∷ 0x4F60 ∷ 0x4F60 ∷ []; halves = Whole ∷ Whole ∷ Left ∷ Right ∷ []; x = 1 })
+    × (seen (screen (in_ascii 3 1) (0x1B ∷ 0x5B ∷ 0x3F ∷ 0x37 ∷ 0x6C ∷ 0x41 ∷ 0x42 ∷ 0xE4 ∷ 0xBD ∷ 0xA0 ∷ []) []) ≡ record { text = 0x41 ∷ 0x4F60 ∷ 0x4F60 ∷ []; halves = Whole ∷ Left ∷ Right ∷ []; x = 2 })
 unfolding computing read width_of unicode_width
 at_the_end = (refl, refl)
 
 -- on one column it is U+FFFD; a character of no column, U+0301, has no effect
-no_room : (seen (screen (sized 1 1) (0xE4 ∷ 0xBD ∷ 0xA0 ∷ []) []) ≡ record { text = 0xFFFD ∷ []; halves = Whole ∷ []; x = 0 })
-    × (seen (screen (sized 2 1) (0x41 ∷ 0xCC ∷ 0x81 ∷ []) []) ≡ record { text = 0x41 ∷ 0x20 ∷ []; halves = Whole ∷ Whole ∷ []; x = 1 })
+no_room : (seen (screen (in_ascii 1 1) (0xE4 ∷ 0xBD ∷ 0xA0 ∷ []) []) ≡ record { text = 0xFFFD ∷ []; halves = Whole ∷ []; x = 0 })
+    × (seen (screen (in_ascii 2 1) (0x41 ∷ 0xCC ∷ 0x81 ∷ []) []) ≡ record { text = 0x41 ∷ 0x20 ∷ []; halves = Whole ∷ Whole ∷ []; x = 1 })
 unfolding computing read width_of unicode_width
 no_room = (refl, refl)
 
 -- in insert mode two cells come free
-inserted : seen (screen (sized 4 1) (0x41 ∷ 0x42 ∷ 0x0D ∷ 0x1B ∷ 0x5B ∷ 0x34 ∷ 0x68 ∷ 0xE4 ∷ 0xBD ∷ 0xA0 ∷ []) []) ≡ record { text = 0x4F60 ∷ 0x4F60 ∷ 0x41 ∷ 0x42 ∷ []; halves = Left ∷ Right ∷ Whole ∷ Whole ∷ []; x = 2 }
+inserted : seen (screen (in_ascii 4 1) (0x41 ∷ 0x42 ∷ 0x0D ∷ 0x1B ∷ 0x5B ∷ 0x34 ∷ 0x68 ∷ 0xE4 ∷ 0xBD ∷ 0xA0 ∷ []) []) ≡ record { text = 0x4F60 ∷ 0x4F60 ∷ 0x41 ∷ 0x42 ∷ []; halves = Left ∷ Right ∷ Whole ∷ Whole ∷ []; x = 2 }
 unfolding computing read width_of unicode_width
 inserted = refl
 
 -- DCH 2 at the second column of two equal wide characters joins a half of each; ICH there parts a character
-joined : (seen (screen (sized 4 1) (0xE4 ∷ 0xBD ∷ 0xA0 ∷ 0xE4 ∷ 0xBD ∷ 0xA0 ∷ 0x1B ∷ 0x5B ∷ 0x32 ∷ 0x47 ∷ 0x1B ∷ 0x5B ∷ 0x32 ∷ 0x50 ∷ []) []) ≡ record { text = 0x4F60 ∷ 0x4F60 ∷ 0x20 ∷ 0x20 ∷ []; halves = Left ∷ Right ∷ Whole ∷ Whole ∷ []; x = 1 })
-    × (seen (screen (sized 4 1) (0xE4 ∷ 0xBD ∷ 0xA0 ∷ 0x42 ∷ 0x1B ∷ 0x5B ∷ 0x32 ∷ 0x47 ∷ 0x1B ∷ 0x5B ∷ 0x40 ∷ []) []) ≡ record { text = 0x20 ∷ 0x20 ∷ 0x20 ∷ 0x42 ∷ []; halves = Whole ∷ Whole ∷ Whole ∷ Whole ∷ []; x = 1 })
+joined : (seen (screen (in_ascii 4 1) (0xE4 ∷ 0xBD ∷ 0xA0 ∷ 0xE4 ∷ 0xBD ∷ 0xA0 ∷ 0x1B ∷ 0x5B ∷ 0x32 ∷ 0x47 ∷ 0x1B ∷ 0x5B ∷ 0x32 ∷ 0x50 ∷ []) []) ≡ record { text = 0x4F60 ∷ 0x4F60 ∷ 0x20 ∷ 0x20 ∷ []; halves = Left ∷ Right ∷ Whole ∷ Whole ∷ []; x = 1 })
+    × (seen (screen (in_ascii 4 1) (0xE4 ∷ 0xBD ∷ 0xA0 ∷ 0x42 ∷ 0x1B ∷ 0x5B ∷ 0x32 ∷ 0x47 ∷ 0x1B ∷ 0x5B ∷ 0x40 ∷ []) []) ≡ record { text = 0x20 ∷ 0x20 ∷ 0x20 ∷ 0x42 ∷ []; halves = Whole ∷ Whole ∷ Whole ∷ Whole ∷ []; x = 1 })
 unfolding computing read width_of unicode_width
 joined = (refl, refl)
 
 -- the halves of two characters that differ aren't a pair: U+4F60 and U+597D, and DCH 2 at the second column
-apart : seen (screen (sized 4 1) (0xE4 ∷ 0xBD ∷ 0xA0 ∷ 0xE5 ∷ 0xA5 ∷ 0xBD ∷ 0x1B ∷ 0x5B ∷ 0x32 ∷ 0x47 ∷ 0x1B ∷ 0x5B ∷ 0x32 ∷ 0x50 ∷ []) []) ≡ record { text = 0x20 ∷ 0x20 ∷ 0x20 ∷ 0x20 ∷ []; halves = Whole ∷ Whole ∷ Whole ∷ Whole ∷ []; x = 1 }
+apart : seen (screen (in_ascii 4 1) (0xE4 ∷ 0xBD ∷ 0xA0 ∷ 0xE5 ∷ 0xA5 ∷ 0xBD ∷ 0x1B ∷ 0x5B ∷ 0x32 ∷ 0x47 ∷ 0x1B ∷ 0x5B ∷ 0x32 ∷ 0x50 ∷ []) []) ≡ record { text = 0x20 ∷ 0x20 ∷ 0x20 ∷ 0x20 ∷ []; halves = Whole ∷ Whole ∷ Whole ∷ Whole ∷ []; x = 1 }
 unfolding computing read width_of unicode_width
 apart = refl
 
 -- REP repeats a wide character as a wide one
-repeated : seen (screen (sized 4 1) (0xE4 ∷ 0xBD ∷ 0xA0 ∷ 0x1B ∷ 0x5B ∷ 0x62 ∷ []) []) ≡ record { text = 0x4F60 ∷ 0x4F60 ∷ 0x4F60 ∷ 0x4F60 ∷ []; halves = Left ∷ Right ∷ Left ∷ Right ∷ []; x = 3 }
+repeated : seen (screen (in_ascii 4 1) (0xE4 ∷ 0xBD ∷ 0xA0 ∷ 0x1B ∷ 0x5B ∷ 0x62 ∷ []) []) ≡ record { text = 0x4F60 ∷ 0x4F60 ∷ 0x4F60 ∷ 0x4F60 ∷ []; halves = Left ∷ Right ∷ Left ∷ Right ∷ []; x = 3 }
 unfolding computing read printed_often width_of unicode_width
 repeated = refl
 
+-- the face of a character by the set: line drawing, a letter with a mark, a sign, a space that doesn't break, and a
+-- character that no set has
+by_set : (map (whole_face Ascii) (0x41 ∷ 0x2500 ∷ 0x259F ∷ 0xE9 ∷ 0x20AC ∷ 0xA0 ∷ 0x3B1 ∷ []) ≡ 0x41 ∷ 0xFFFD ∷ 0xFFFD ∷ 0xFFFD ∷ 0xFFFD ∷ 0xFFFD ∷ 0xFFFD ∷ [])
+    × (map (whole_face More) (0x41 ∷ 0x2500 ∷ 0x259F ∷ 0xE9 ∷ 0x20AC ∷ 0xA0 ∷ 0x3B1 ∷ []) ≡ 0x41 ∷ 0x2500 ∷ 0x259F ∷ 0xE9 ∷ 0x20AC ∷ 0x20 ∷ 0xFFFD ∷ [])
+unfolding number_of
+by_set = (refl, refl)
+
 -- the half decides on the face, not the character: a whole U+E000 is a box
-faces : let cell : Cell = record { ch = 0xE000; ink = 7; paper = 0; under = false; half = Whole } in ((key_of cell).face ≡ 0xFFFD) × ((key_of (record cell { half = Left })).face ≡ 0xE000) × ((key_of (record cell { half = Right })).face ≡ 0xE001)
+faces : let cell : Cell = record { ch = 0xE000; ink = 7; paper = 0; under = false; half = Whole } in ((key_of Ascii cell).face ≡ 0xFFFD) × ((key_of Ascii (record cell { half = Left })).face ≡ 0xE000) × ((key_of Ascii (record cell { half = Right })).face ≡ 0xE001)
 faces = (refl, refl, refl)

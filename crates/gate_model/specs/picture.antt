@@ -2,6 +2,8 @@
 pub mod KeyGrid
 pub mod Palette
 pub mod Font
+pub mod Letters
+pub mod Lines
 pub mod Glyphs
 pub mod Pictures
 pub mod Layers

@@ -1,15 +1,16 @@
-use crate::{Acts, Bytes, Cause, How, Instrs, Role, Share, Text};
+use crate::{Acts, Bytes, Cause, Faces, How, Instrs, Role, Share, Text};
 
 /// One event of a session. A session's history is the list of its entries; it begins with `Start`.
 #[derive(Drop)]
 pub enum Entry {
-    /// The session opened, with its size in cells, its share mode, its terminal type, the most
-    /// entries that it may have, and its first frame.
+    /// The session opened, with its size in cells, its share mode, its terminal type, the faces
+    /// of its screen, the most entries that it may have, and its first frame.
     Start {
         cols: u16,
         rows: u16,
         mode: Share,
         term: Text,
+        faces: Faces,
         entries: u64,
         stamp: u64,
         frame: Instrs,

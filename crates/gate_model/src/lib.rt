@@ -5,7 +5,7 @@
 //! A history is the list of a session's entries. *True history*, the definition that the headline
 //! cites, says of a history that whatever any viewer was given up to a sync draws exactly the
 //! picture of the screen that the history up to that sync defines (`specs/session/Truth.antt`). No function
-//! here waits, and none but the table of `statuses` computes. Limits stand in `limits`.
+//! here waits, and none but the tables of `statuses` and `more_faces` compute. Limits stand in `limits`.
 #![tactic(auto)]
 
 mod act;
@@ -20,6 +20,7 @@ mod colour;
 mod control;
 mod entry;
 mod event;
+mod faces;
 mod feed_refusal;
 mod forbidden;
 mod how;
@@ -32,6 +33,7 @@ pub mod laws;
 pub mod limits;
 mod memory;
 mod mods;
+pub mod more_faces;
 mod no_viewer;
 mod read_answer;
 mod read_refusal;
@@ -60,6 +62,7 @@ pub use colour::Colour;
 pub use control::{Control, Params};
 pub use entry::Entry;
 pub use event::Event;
+pub use faces::Faces;
 pub use feed_refusal::FeedRefusal;
 pub use forbidden::Forbidden;
 pub use how::How;

@@ -1,2 +1,3 @@
 pub mod GlyphTests
 pub mod GlyphRects
+mod BarTable

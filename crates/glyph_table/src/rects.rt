@@ -1,14 +1,16 @@
-ghost use Rattle.std.specs.Prelude.{◌≡◌, ◌+◌, ◌-◌, ◌*◌, ◌<◌, ◌≤◌, ℕ, List, [], ◌∷◌, ◌++◌, Bool, length, slice_index, All};
+ghost use Rattle.std.specs.Prelude.{◌≡◌, ◌+◌, ◌-◌, ◌*◌, ◌<◌, ◌≤◌, ℕ, List, [], ◌∷◌, ◌++◌, Bool, length, slice_index, All, IsTrue, map};
 ghost use Rattle.std.specs.List.{list_any, AllPairs};
 ghost use Rattle.glyph_table.specs.declared.patch.Patch.{Patch};
 ghost use Rattle.gate_model.specs.picture.Glyphs.{lit};
-ghost use Rattle.glyph_table.specs.GlyphRects.{IsApart, IsInside, column_rects, covers, has_run, rects, run_end, run_rects};
+ghost use Rattle.gate_model.specs.picture.Lines.{bars, has_bars};
+ghost use Rattle.glyph_table.specs.GlyphRects.{IsApart, IsInside, bar_patch, column_rects, columns_rects, covers, has_run, rects, run_end, run_rects};
 
 use crate::Patch;
+use crate::bars::{bar_at, bar_patch, has_bars, start_of};
 use crate::tables::columns_of;
 use std::marker::Model;
 
-/// The most rectangles of a glyph: four runs in each of five columns, and the underline.
+/// The most rectangles of a glyph: four runs in each of five columns, and the underline. No face has so many bars.
 const MOST: usize = 21;
 
 /// Rectangles of a glyph, at most 21; contracts see the list.
@@ -59,10 +61,9 @@ impl Rects {
     fn add_column(&mut self, columns: [u8; 5], i: usize, under: bool)
         requires room { length self.old + 4 ≤ 21 }
         requires inside { i < 5 }
-        requires seven_bits { slice_index columns i < 128 }
         ensures { self.new ≡ self.old ++ column_rects i under columns (slice_index columns i) }
     {
-        let mut left = columns[i];
+        let mut left = u16::from(columns[i]);
         while left != 0 {
             let first = left.trailing_zeros() as u8;
             let carried = left + (1 << first);
@@ -79,19 +80,41 @@ impl Rects {
         requires room { length self.old + length (run_rects i under columns first end) ≤ 21 }
         requires inside { i < 5 }
         requires some { first < end }
-        requires seven_bits { end ≤ 7 }
+        requires eight_bits { end ≤ 8 }
         ensures { self.new ≡ self.old ++ run_rects i under columns first end }
     {
         if 1 <= i && has_run(columns[i - 1], first, end) {
             return;
         }
-        let cut = u8::from(under && end == 7);
+        let cut = u8::from(under && end == 8);
         self.add(Patch {
             x: i as u8 + 1,
-            y: 2 + 2 * first,
+            y: 2 * first,
             width: (run_end(columns, i, first, end) - i) as u8,
             height: 2 * (end - first) - cut,
         });
+    }
+
+    // The rectangles of five columns.
+    fn add_columns(&mut self, columns: [u8; 5], under: bool)
+        requires { self.old ≡ [] }
+        ensures { self.new ≡ columns_rects 5 under columns }
+    {
+        for i in 0..5 {
+            self.add_column(columns, i, under);
+        }
+    }
+
+    // The bars of a face that is made of them.
+    fn add_bars(&mut self, face: char, under: bool)
+        requires none { self.old ≡ [] }
+        requires bars { IsTrue (has_bars face) }
+        ensures { self.new ≡ map (bar_patch under) (bars face) }
+    {
+        let n = face as usize - 0x2500;
+        for i in start_of(n)..start_of(n + 1) {
+            self.add(bar_patch(bar_at(i), under));
+        }
     }
 
     /// The rectangles, lent.
@@ -105,7 +128,7 @@ impl Rects {
 // Whether a column has just this run: its bits are set, and neither the one before nor the one behind.
 fn has_run(column: u8, first: u8, end: u8) -> bool
     requires some { first < end }
-    requires seven_bits { end ≤ 7 }
+    requires eight_bits { end ≤ 8 }
     ensures { result ≡ has_run first end column }
 {
     let length = end - first;
@@ -118,7 +141,7 @@ fn has_run(column: u8, first: u8, end: u8) -> bool
 fn run_end(columns: [u8; 5], i: usize, first: u8, end: u8) -> usize
     requires inside { i < 5 }
     requires some { first < end }
-    requires seven_bits { end ≤ 7 }
+    requires eight_bits { end ≤ 8 }
     ensures ends { result ≡ run_end (5 - i) first end columns i }
     ensures behind { i ≤ result }
     ensures few { result ≤ 5 }
@@ -141,9 +164,10 @@ pub fn rects_of(face: char, under: bool) -> Rects
     ensures inside { All IsInside result }
 {
     let mut rects = Rects::new();
-    let columns = columns_of(face);
-    for i in 0..5 {
-        rects.add_column(columns, i, under);
+    if has_bars(face) {
+        rects.add_bars(face, under);
+    } else {
+        rects.add_columns(columns_of(face), under);
     }
     if under {
         rects.add(Patch {

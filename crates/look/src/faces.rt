@@ -7,6 +7,7 @@ ghost use Rattle.canvas.specs.declared.dot.Dot.TheVariants.{Painted};
 ghost use Rattle.look.specs.Faces.{HasPixel, ShowsFace};
 
 use canvas::{Canvas, Dot};
+use gate_model::more_faces::number_of;
 use gate_model::{Colour, NoMemory};
 use glyph_table::lit;
 use std::alloc::Global;
@@ -22,6 +23,12 @@ const RIGHT: char = '\u{e001}';
 /// What stands for a cell that shows no glyph: a block of dots.
 const UNKNOWN: char = '\u{2592}';
 
+const BLACK: Colour = Colour {
+    red: 0,
+    green: 0,
+    blue: 0,
+};
+
 // The two colours of a cell.
 #[derive(Clone, Copy)]
 struct Pair {
@@ -30,9 +37,10 @@ struct Pair {
 }
 
 /// The face that a cell of layer 0 shows: the cell is exactly its glyph, underlined or not, in two colours.
-/// None where it is the glyph of no face. A cell of one colour shows a space. Columns and rows are counted
-/// from 0, and are below 2^16.
-pub fn face_at(canvas: &Canvas, column: u32, row: u32) -> Option<char>
+/// None where it is the glyph of no face of ASCII, and of none of the others that are given. A cell of one
+/// colour shows a space, and where two faces are each other's glyph in exchanged colours, the one on black is
+/// told. Columns and rows are counted from 0, and are below 2^16.
+pub fn face_at(canvas: &Canvas, others: &[char], column: u32, row: u32) -> Option<char>
     requires column { column < 65536 }
     requires row { row < 65536 }
     ensures { (m : Layers) → Stands canvas.now m → IfSome result (ShowsFace (m visible) column row) }
@@ -44,21 +52,57 @@ pub fn face_at(canvas: &Canvas, column: u32, row: u32) -> Option<char>
             return Some(face);
         }
     }
-    box_at(canvas, column, row, pair)
+    if let Some(face) = face_among(canvas, &[BOX, LEFT, RIGHT], column, row, pair) {
+        return Some(face);
+    }
+    let pair = on_black(pair);
+    if let Some(face) = face_among(canvas, others, column, row, pair) {
+        return Some(face);
+    }
+    face_among(canvas, others, column, row, exchanged(pair))
 }
 
-// The face outside the font that the cell shows, if it shows one.
-fn box_at(canvas: &Canvas, column: u32, row: u32, pair: Pair) -> Option<char>
+// The first of some faces that the cell shows in these colours, if it shows one.
+fn face_among(canvas: &Canvas, faces: &[char], column: u32, row: u32, pair: Pair) -> Option<char>
     requires column { column < 65536 }
     requires row { row < 65536 }
     ensures { (m : Layers) → Stands canvas.now m → IfSome result (ShowsFace (m visible) column row) }
 {
-    for face in [BOX, LEFT, RIGHT] {
-        if is_face(canvas, column, row, face, pair) {
-            return Some(face);
+    for face in faces {
+        if is_face(canvas, column, row, *face, pair) {
+            return Some(*face);
         }
     }
     None
+}
+
+// The colours exchanged.
+fn exchanged(pair: Pair) -> Pair {
+    Pair {
+        ink: pair.paper,
+        paper: pair.ink,
+    }
+}
+
+// The colours so that the paper is black, where one of them is. Line drawing and blocks may have ink in the corner.
+fn on_black(pair: Pair) -> Pair {
+    if pair.ink == BLACK {
+        return exchanged(pair);
+    }
+    pair
+}
+
+// The faces beyond ASCII, but for those of characters that take two cells.
+fn faces_beyond_ascii(alloc: Global) -> Result<Vec<char>, NoMemory> {
+    let mut faces = Vec::new(alloc);
+    for code in 0xa1..0x10000 {
+        if let Some(face) = char::from_u32(code) {
+            if matches!(face, '\u{2500}'..='\u{259f}') || number_of(face).is_some() {
+                faces.push(face)?;
+            }
+        }
+    }
+    Ok(faces)
 }
 
 // The colours that a glyph in this cell would have: its paper is the corner's, where no glyph is lit.
@@ -143,21 +187,28 @@ fn has_line(
 /// error is want of memory.
 pub fn text_of(alloc: Global, canvas: &Canvas) -> Result<Vec<u8>, NoMemory> {
     let (width, height) = canvas.layer_size(0);
+    let faces = faces_beyond_ascii(alloc)?;
     let mut text = String::new(alloc);
     for row in 0..(height / 16).min(65536) {
-        put_row(&mut text, canvas, row, (width / 8).min(65536))?;
+        put_row(&mut text, canvas, &faces, row, (width / 8).min(65536))?;
     }
     Ok(text.into_bytes())
 }
 
 // Appends a row of so many columns.
-fn put_row(text: &mut String, canvas: &Canvas, row: u32, columns: u32) -> Result<(), NoMemory>
+fn put_row(
+    text: &mut String,
+    canvas: &Canvas,
+    faces: &[char],
+    row: u32,
+    columns: u32,
+) -> Result<(), NoMemory>
     requires row { row < 65536 }
     requires columns { columns ≤ 65536 }
 {
     let mut blanks: u32 = 0;
     for column in 0..columns {
-        match face_at(canvas, column, row).unwrap_or(UNKNOWN) {
+        match face_at(canvas, faces, column, row).unwrap_or(UNKNOWN) {
             ' ' | RIGHT => blanks += 1,
             face => {
                 put_blanks(text, blanks)?;

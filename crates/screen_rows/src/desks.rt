@@ -6,7 +6,7 @@ ghost use Rattle.gate_model.specs.session.Calls.{MeetsCondition};
 
 use anyhow::{Context, Result, bail};
 use desk_core::{Answer, Desk, Event, JoinRefusal, NoMemory, Setup};
-use gate_model::{Act, Acts, Asked, Bytes, Cause, Role, Share, Text};
+use gate_model::{Act, Acts, Asked, Bytes, Cause, Faces, Role, Share, Text};
 use row_words::{asked_of, bytes_of, first_word, push_escaped, push_hexadecimal, share_of, size};
 use std::alloc::Global;
 
@@ -79,6 +79,7 @@ fn open(alloc: Global, mode: Share, entries: u64) -> Result<Desk, NoMemory>
         rows: 24,
         mode,
         term,
+        faces: Faces::Ascii,
         entries,
     };
     Desk::start(alloc, setup, 0)

@@ -9,6 +9,7 @@
 
 mod canvases;
 mod desks;
+mod glyphs;
 mod grids;
 mod screens;
 mod topics;

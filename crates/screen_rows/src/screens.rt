@@ -6,17 +6,24 @@ ghost use Rattle.gate_model.specs.terminal.Controls.{HasFewParameters};
 
 use anyhow::{Context, Result, bail};
 use ecma_parser::Parser;
-use gate_model::{Control, Shown};
+use gate_model::{Control, Faces, Shown};
 use row_words::{bytes_of, push_escaped, size};
 use std::alloc::Global;
 use vt_screen::Screen;
 
 // A screen of the start.
 fn open(alloc: Global, cols: u16, rows: u16) -> Result<Screen> {
+    open_with(alloc, Faces::Ascii, cols, rows)
+}
+
+// .. with a set of faces.
+fn open_with(alloc: Global, faces: Faces, cols: u16, rows: u16) -> Result<Screen> {
     if !is_size(cols, rows) {
         bail!("no size");
     }
-    Screen::new(alloc, cols, rows).ok().context("no memory")
+    Screen::with_faces(alloc, faces, cols, rows)
+        .ok()
+        .context("no memory")
 }
 
 fn is_size(cols: u16, rows: u16) -> bool
@@ -66,6 +73,14 @@ pub fn seen(alloc: Global, input: &str) -> Result<String> {
     let (cols, rows, bytes) = size(input)?;
     let bytes = bytes_of(alloc, bytes)?;
     let mut screen = open(alloc, cols, rows)?;
+    seen_after(&mut screen, alloc, &bytes)
+}
+
+/// The same on a screen with the larger set of faces.
+pub fn seen_with_more(alloc: Global, input: &str) -> Result<String> {
+    let (cols, rows, bytes) = size(input)?;
+    let bytes = bytes_of(alloc, bytes)?;
+    let mut screen = open_with(alloc, Faces::More, cols, rows)?;
     seen_after(&mut screen, alloc, &bytes)
 }
 

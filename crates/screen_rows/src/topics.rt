@@ -1,6 +1,6 @@
 //! Which calls are made for the rows of a file.
 
-use crate::{canvases, desks, grids, screens, views};
+use crate::{canvases, desks, glyphs, grids, screens, views};
 use anyhow::{Result, bail};
 use std::alloc::Global;
 
@@ -20,6 +20,9 @@ pub fn value(alloc: Global, topic: &str, input: &str) -> Result<String> {
         "sames" => canvases::same(alloc, input),
         "desks" => desks::answers(alloc, input),
         "views" => views::compared(alloc, input),
+        "glyphs" => glyphs::picture(alloc, input),
+        "alphabets" => glyphs::alphabet(alloc, input),
+        "faces" => screens::seen_with_more(alloc, input),
         "desk_roles" => desks::roles(alloc, input),
         _ => bail!("no such topic"),
     }

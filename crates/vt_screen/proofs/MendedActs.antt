@@ -18,6 +18,7 @@ use Rattle.gate_model.specs.terminal.Editing.{characters_deleted, characters_era
 use Rattle.gate_model.specs.terminal.Effects.{acted, code_effect, cursor_effect, editing_effect, effect, escape_effect, private_effect, reset, sequence_effect}
 use Rattle.gate_model.specs.terminal.MendLaws.{AreMended, AreMendedBeside, AreMendedBut}
 use Rattle.gate_model.specs.terminal.Scrolling.{are_margins, is_within, line_feed, lines_deleted, lines_inserted, reverse_line_feed, scrolled_down, scrolled_up, with_margins}
+use Rattle.gate_model.specs.declared.faces.Faces.{Faces}
 use Rattle.gate_model.specs.terminal.Terminal.{Terminal, opening_screen}
 use Rattle.gate_model.proofs.Mending.{all-are-mended, mended-stay, wholes-are-mended}
 use Rattle.gate_model.proofs.MendedEdits.{erased-mends, moved-mend, scrolled-mend}
@@ -206,8 +207,8 @@ code_left code t f m = (code_mended code t f record { grid = m }).grid
 pub escape_left : (last : ℕ) (t : Terminal) → IsFit t → AreMended t.grid → AreMended (acted (Esc last) t).grid
 escape_left last t f m = (escape_mended last t f record { grid = m }).grid
 
-pub opened_left : (t : Terminal) (cols rows : ℕ) → t ≡ opening_screen cols rows → AreMended t.grid
-opened_left t cols rows is = subst (λ (u : Terminal). AreMended u.grid) (sym is)
+pub opened_left : (t : Terminal) (faces : Faces) (cols rows : ℕ) → t ≡ opening_screen faces cols rows → AreMended t.grid
+opened_left t faces cols rows is = subst (λ (u : Terminal). AreMended u.grid) (sym is)
     (wholes-are-mended (blank_grid cols rows) (All-replicate (λ (cell : Cell). cell.half ≡ Whole) (rows * cols) blank refl))
 
 -- ---- what was done, and then mended

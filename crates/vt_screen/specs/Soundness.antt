@@ -19,6 +19,7 @@ state_of s = record {
   saved = s.saved;
   last = s.last;
   modes = s.modes;
+  faces = s.faces;
   shift = s.shift;
 }
 

@@ -5,12 +5,12 @@ ghost use Rattle.gate_model.specs.terminal.Screens.{shown};
 ghost use Rattle.gate_model.specs.terminal.Terminal.{opening_screen};
 
 use crate::state::State;
-use gate_model::{NoMemory, Shown};
+use gate_model::{Faces, NoMemory, Shown};
 use std::alloc::Global;
 use std::marker::Model;
 
 /// The screen of a terminal, which contracts see as the state `Terminal`: its cells, its cursor, its margins, its tab
-/// stops, its pen and its modes. No half of a character that takes two places stands without its other half.
+/// stops, its pen, its modes and its faces. No half of a character that takes two places stands without its other half.
 #[derive(Drop)]
 pub struct Screen {
     pub(crate) state: State,
@@ -28,13 +28,24 @@ impl Model for Screen {
 }
 
 impl Screen {
-    /// The state of the start, for 1 to 512 columns and 1 to 256 rows (this project's own rule). Refused
-    /// for want of memory alone.
+    ghost use Rattle.gate_model.specs.declared.faces.Faces.TheVariants.{Ascii};
+
+    /// The state of the start, with the faces of ASCII alone, for 1 to 512 columns and 1 to 256 rows (this
+    /// project's own rule). Refused for want of memory alone.
     pub fn new(alloc: Global, cols: u16, rows: u16) -> Result<Screen, NoMemory>
         requires { IsScreenSize cols rows }
-        ensures { IfOk result (λ s. s ≡ opening_screen cols rows) }
+        ensures { IfOk result (λ s. s ≡ opening_screen Ascii cols rows) }
     {
-        let state = State::new(alloc, cols, rows)?;
+        Screen::with_faces(alloc, Faces::Ascii, cols, rows)
+    }
+
+    /// The state of the start, with these faces, for 1 to 512 columns and 1 to 256 rows (this project's own
+    /// rule). Refused for want of memory alone.
+    pub fn with_faces(alloc: Global, faces: Faces, cols: u16, rows: u16) -> Result<Screen, NoMemory>
+        requires { IsScreenSize cols rows }
+        ensures { IfOk result (λ s. s ≡ opening_screen faces cols rows) }
+    {
+        let state = State::new(alloc, faces, cols, rows)?;
         Ok(Screen { state })
     }
 

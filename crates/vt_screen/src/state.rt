@@ -9,7 +9,7 @@ use crate::modes::Modes;
 use crate::pen::Pen;
 use crate::saved::Saved;
 use crate::scrolled::Scrolled;
-use gate_model::NoMemory;
+use gate_model::{Faces, NoMemory};
 use screen_grid::Grid;
 use std::alloc::Global;
 use std::marker::Model;
@@ -32,6 +32,7 @@ pub(crate) struct State {
     pub(crate) saved: Option<Saved>,
     pub(crate) last: Option<char>,
     pub(crate) modes: Modes,
+    pub(crate) faces: Faces,
     pub(crate) shift: Scrolled,
 }
 
@@ -48,10 +49,10 @@ impl Model for State {
 }
 
 impl State {
-    // The state of the start, for 1 to 512 columns and 1 to 256 rows. Refused for want of memory alone.
-    pub(crate) fn new(alloc: Global, cols: u16, rows: u16) -> Result<State, NoMemory>
+    // The state of the start, with these faces and 1 to 512 columns and 1 to 256 rows. Refused for want of memory alone.
+    pub(crate) fn new(alloc: Global, faces: Faces, cols: u16, rows: u16) -> Result<State, NoMemory>
         requires { IsScreenSize cols rows }
-        ensures { IfOk result (λ s. s ≡ opening_screen cols rows) }
+        ensures { IfOk result (λ s. s ≡ opening_screen faces cols rows) }
     {
         let grid = Grid::new(alloc, cols, rows)?;
         let stops = TabStops::new(alloc, cols)?;
@@ -69,6 +70,7 @@ impl State {
             saved: None,
             last: None,
             modes: Modes::first(),
+            faces,
             shift: Scrolled::none(),
         })
     }
@@ -93,6 +95,7 @@ impl State {
             saved: self.saved,
             last: self.last,
             modes: self.modes,
+            faces: self.faces,
             shift: self.shift.copy(),
         })
     }

@@ -26,7 +26,7 @@ impl Desk {
     {
         let stamp = next_stamp(0, now);
         let book = Book::new(alloc)?;
-        let host = Host::new(alloc, setup.cols, setup.rows)?;
+        let host = Host::new(alloc, setup.faces, setup.cols, setup.rows)?;
         let first = Drawing::first(alloc, &host.screen, stamp)?;
         let frames = Frames::first(alloc, first.frame.as_slice(), stamp)?;
         let log = Log::opened(&setup, stamp, &first.frame);

@@ -45,7 +45,7 @@ picture_cost size = 3 + 40 * (size.columns * size.rows + most_buffers)
 -- the keys that the screens at Start, the Sizes and the Feeds showed, each once, the oldest first
 abbrev pub keys_shown : History → List Key
 keys_shown [] = []
-keys_shown (Start cols rows mode term entries stamp frame ∷ g) = new_keys [] (shown (at (Start cols rows mode term entries stamp frame ∷ g))).keys
+keys_shown (Start cols rows mode term faces entries stamp frame ∷ g) = new_keys [] (shown (at (Start cols rows mode term faces entries stamp frame ∷ g))).keys
 keys_shown (Feed bytes stamp frame ∷ g) = keys_shown g ++ new_keys (keys_shown g) (shown (at (Feed bytes stamp frame ∷ g))).keys
 keys_shown (Size viewer cols rows stamp frame ∷ g) = keys_shown g ++ new_keys (keys_shown g) (shown (at (Size viewer cols rows stamp frame ∷ g))).keys
 keys_shown (e ∷ g) = keys_shown g

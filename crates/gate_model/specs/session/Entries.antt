@@ -11,14 +11,14 @@ fed e = []
 
 -- the frame of a Start, a Feed or a Size, with its stamp
 abbrev pub framed : Entry → List (ℕ × List Instr)
-framed (Start cols rows mode term entries stamp frame) = (stamp, frame) ∷ []
+framed (Start cols rows mode term faces entries stamp frame) = (stamp, frame) ∷ []
 framed (Feed bytes stamp frame) = (stamp, frame) ∷ []
 framed (Size viewer cols rows stamp frame) = (stamp, frame) ∷ []
 framed e = []
 
 -- the stamp of a Start, a Feed or a Size
 abbrev pub stamp_of : Entry → Option ℕ
-stamp_of (Start cols rows mode term entries stamp frame) = Some stamp
+stamp_of (Start cols rows mode term faces entries stamp frame) = Some stamp
 stamp_of (Feed bytes stamp frame) = Some stamp
 stamp_of (Size viewer cols rows stamp frame) = Some stamp
 stamp_of e = None

@@ -3,12 +3,14 @@ use Rattle.std.specs.Prelude.{ℕ, ◌+◌, max, min, List, [], ◌∷◌, ◌++
 use Rattle.std.specs.List.{list_any}
 use Rattle.gate_model.specs.declared.entry.Entry.{Entry}
 use Rattle.gate_model.specs.declared.entry.Entry.TheVariants.{Start, Feed, Size}
+use Rattle.gate_model.specs.declared.faces.Faces.{Faces}
+use Rattle.gate_model.specs.declared.faces.Faces.TheVariants.{Ascii}
 use Rattle.gate_model.specs.declared.instr.Instr.{Instr}
 use Rattle.gate_model.specs.declared.sharing.Share.{Share}
 use Rattle.gate_model.specs.declared.sharing.Share.TheVariants.{Nobody}
 use Rattle.gate_model.specs.Limits.{most_clock}
 use Rattle.gate_model.specs.terminal.Terminal.{Terminal}
-use Rattle.gate_model.specs.terminal.Sizes.{ScreenSize, Cut, sized}
+use Rattle.gate_model.specs.terminal.Sizes.{ScreenSize, Opening, Cut, sized}
 use Rattle.gate_model.specs.terminal.Screens.{screen}
 use Rattle.gate_model.specs.session.Entries.{fed, framed, stamp_of, is_join, is_close}
 
@@ -19,42 +21,51 @@ History = List Entry
 abbrev pub next_stamp : ℕ → ℕ → ℕ
 next_stamp last now = max (last + 1) (min now most_clock)
 
--- what Start says: the columns, the rows, the share mode, the terminal type and the most entries of the
--- session
+-- what Start says: the columns, the rows, the share mode, the terminal type, the faces of the screen and the most
+-- entries of the session
 abbrev pub columns : History → ℕ
 columns [] = 0
-columns (Start cols lines mode term entries stamp frame ∷ g) = cols
+columns (Start cols lines mode term faces entries stamp frame ∷ g) = cols
 columns (e ∷ g) = columns g
 
 abbrev pub rows : History → ℕ
 rows [] = 0
-rows (Start cols lines mode term entries stamp frame ∷ g) = lines
+rows (Start cols lines mode term faces entries stamp frame ∷ g) = lines
 rows (e ∷ g) = rows g
 
 abbrev pub share_mode : History → Share
 share_mode [] = Nobody
-share_mode (Start cols lines mode term entries stamp frame ∷ g) = mode
+share_mode (Start cols lines mode term faces entries stamp frame ∷ g) = mode
 share_mode (e ∷ g) = share_mode g
 
 abbrev pub terminal_type : History → List ℕ
 terminal_type [] = []
-terminal_type (Start cols lines mode term entries stamp frame ∷ g) = term
+terminal_type (Start cols lines mode term faces entries stamp frame ∷ g) = term
 terminal_type (e ∷ g) = terminal_type g
+
+abbrev pub faces : History → Faces
+faces [] = Ascii
+faces (Start cols lines mode term set entries stamp frame ∷ g) = set
+faces (e ∷ g) = faces g
 
 abbrev pub capacity : History → ℕ
 capacity [] = 0
-capacity (Start cols lines mode term entries stamp frame ∷ g) = entries
+capacity (Start cols lines mode term faces entries stamp frame ∷ g) = entries
 capacity (e ∷ g) = capacity g
 
 -- the size of the start
 abbrev pub first_size : History → ScreenSize
 first_size h = sized (columns h) (rows h)
 
+-- how its screen begins
+abbrev pub opening : History → Opening
+opening h = record { size = first_size h; faces = faces h }
+
 -- the size in force: of the frames, of what the host is told, and of what it is answered. It is the last Size's, or
 -- Start's
 abbrev pub size_now : History → ScreenSize
 size_now [] = sized 0 0
-size_now (Start cols lines mode term entries stamp frame ∷ g) = sized cols lines
+size_now (Start cols lines mode term faces entries stamp frame ∷ g) = sized cols lines
 size_now (Size viewer cols lines stamp frame ∷ g) = sized cols lines
 size_now (e ∷ g) = size_now g
 
@@ -71,7 +82,7 @@ cuts (e ∷ g) = cuts g
 
 -- the screen that the history leaves
 abbrev pub at : History → Terminal
-at h = screen (first_size h) (bytes h) (cuts h)
+at h = screen (opening h) (bytes h) (cuts h)
 
 -- the last stamp
 abbrev pub newest : History → ℕ
@@ -86,7 +97,7 @@ frames (e ∷ g) = frames g ++ framed e
 -- the frame of the last Start, Feed or Size
 abbrev pub newest_frame : History → List Instr
 newest_frame [] = []
-newest_frame (Start cols lines mode term entries stamp frame ∷ g) = frame
+newest_frame (Start cols lines mode term faces entries stamp frame ∷ g) = frame
 newest_frame (Feed bytes stamp frame ∷ g) = frame
 newest_frame (Size viewer cols lines stamp frame ∷ g) = frame
 newest_frame (e ∷ g) = newest_frame g

@@ -8,7 +8,7 @@ use Rattle.gate_model.specs.declared.mods.Mods.{Mods}
 use Rattle.gate_model.specs.keys.Encoding.{encoding}
 use Rattle.gate_model.specs.keys.Modifiers.{mods_after}
 use Rattle.gate_model.specs.session.Entries.{taken_by}
-use Rattle.gate_model.specs.session.History.{History, at, bytes, cuts, first_size, terminal_type}
+use Rattle.gate_model.specs.session.History.{History, at, bytes, cuts, opening, terminal_type}
 use Rattle.gate_model.specs.terminal.Replies.{replies}
 use Rattle.gate_model.specs.telnet.OptionAnswers.{all_off, switches_from, size_text}
 use Rattle.gate_model.specs.session.Rights.{may, mods}
@@ -24,7 +24,7 @@ typed cursor_mode held (a ∷ acts) = typed cursor_mode held acts
 
 -- what bytes are answered in the session
 abbrev pub answered : History → List ℕ → List ℕ
-answered h bytes = replies (first_size h) (terminal_type h) bytes (cuts h)
+answered h bytes = replies (opening h) (terminal_type h) bytes (cuts h)
 
 -- the host is told each size: it asked for it, and the option is on
 abbrev pub is_told : History → Bool

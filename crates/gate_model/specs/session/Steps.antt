@@ -33,7 +33,7 @@ pub record IsSetup (setup : Setup) : Type 0 where
 abbrev pub StartStep : Setup → ℕ → Entry → Type 0
 StartStep setup now entry = let stamp = next_stamp 0 now in
     IsSetup setup × (frame : List Instr) × Shape setup.cols setup.rows frame stamp × OpensScreen frame
-    × (entry ≡ Start setup.cols setup.rows setup.mode setup.term setup.entries stamp frame)
+    × (entry ≡ Start setup.cols setup.rows setup.mode setup.term setup.faces setup.entries stamp frame)
 
 -- the first entry is added by some start, and each other one by some call after the entries before it
 abbrev pub Legal : History → Type 0

@@ -18,7 +18,7 @@ use Rattle.gate_model.specs.terminal.Modes.{modes_set, names_mode}
 
 -- RIS (ESC c): the state of the start; the lines that were scrolled stay counted
 abbrev pub reset : Terminal → Terminal
-reset t = record (opening_screen t.grid.cols t.grid.rows) { shift = t.shift }
+reset t = record (opening_screen t.faces t.grid.cols t.grid.rows) { shift = t.shift }
 
 -- BS, HT, LF, VT, FF and CR
 abbrev pub code_effect : ℕ → Terminal → Terminal

@@ -8,7 +8,7 @@ use Rattle.gate_model.specs.telnet.OptionAnswers.{all_off, option_answer, option
 use Rattle.gate_model.specs.terminal.Reports.{report}
 use Rattle.gate_model.specs.terminal.Resizing.{resized}
 use Rattle.gate_model.specs.terminal.Screens.{Happening, Does, Turns, after_controls, functions, happens, screen}
-use Rattle.gate_model.specs.terminal.Sizes.{ScreenSize, Cut, AreWithin, cuts_below, size_after}
+use Rattle.gate_model.specs.terminal.Sizes.{ScreenSize, Opening, Cut, AreWithin, cuts_below, size_after}
 use Rattle.gate_model.specs.telnet.TelnetTokens.{tokens, doubled}
 use Rattle.gate_model.specs.terminal.Terminal.{Terminal, opening_screen}
 
@@ -24,8 +24,8 @@ reports_of t (Does c ∷ hs) = report c t ++ reports_of (effect c t) hs
 reports_of t (Turns s ∷ hs) = reports_of (resized s.columns s.rows t) hs
 
 -- the reports of bytes and changes of size, from the start
-abbrev pub reports : ScreenSize → List ℕ → List Cut → List ℕ
-reports size bytes cuts = reports_of (opening_screen size.columns size.rows) (happens bytes cuts)
+abbrev pub reports : Opening → List ℕ → List Cut → List ℕ
+reports start bytes cuts = reports_of (opening_screen start.faces start.size.columns start.size.rows) (happens bytes cuts)
 
 -- what is new in a list past an older one
 abbrev pub past : List ℕ → List ℕ → List ℕ
@@ -35,23 +35,23 @@ past old new = drop (length old) new
 
 -- what the last byte is answered: what the option answers of all bytes have past those of the bytes before
 -- it, and then the same of the reports; with the changes of size that are given
-abbrev pub reply_given : ScreenSize → List Cut → List ℕ → List ℕ → ℕ → List ℕ
-reply_given size cuts term before b =
+abbrev pub reply_given : Opening → List Cut → List ℕ → List ℕ → ℕ → List ℕ
+reply_given start cuts term before b =
     let now = before ++ b ∷ [] in
-    past (option_answers term (sized_tokens size before cuts)) (option_answers term (sized_tokens size now cuts))
-    ++ doubled (past (reports size before cuts) (reports size now cuts))
+    past (option_answers term (sized_tokens start.size before cuts)) (option_answers term (sized_tokens start.size now cuts))
+    ++ doubled (past (reports start before cuts) (reports start now cuts))
 
 -- .. with those whose numbers are below that byte's, counted from 1
-abbrev pub reply_after : ScreenSize → List Cut → List ℕ → List ℕ → ℕ → List ℕ
-reply_after size cuts term before b = reply_given size (cuts_below (length (before ++ b ∷ [])) cuts) term before b
+abbrev pub reply_after : Opening → List Cut → List ℕ → List ℕ → ℕ → List ℕ
+reply_after start cuts term before b = reply_given start (cuts_below (length (before ++ b ∷ [])) cuts) term before b
 
-abbrev pub replies_from : ScreenSize → List Cut → List ℕ → List ℕ → List ℕ → List ℕ
-replies_from size cuts term before [] = []
-replies_from size cuts term before (b ∷ bytes) = reply_after size cuts term before b ++ replies_from size cuts term (before ++ b ∷ []) bytes
+abbrev pub replies_from : Opening → List Cut → List ℕ → List ℕ → List ℕ → List ℕ
+replies_from start cuts term before [] = []
+replies_from start cuts term before (b ∷ bytes) = reply_after start cuts term before b ++ replies_from start cuts term (before ++ b ∷ []) bytes
 
--- what bytes are answered, for a screen that has this size first and is changed so, and this terminal type
-abbrev pub replies : ScreenSize → List ℕ → List ℕ → List Cut → List ℕ
-replies size term bytes cuts = replies_from size cuts term [] bytes
+-- what bytes are answered, for a screen that begins and is changed so, and this terminal type
+abbrev pub replies : Opening → List ℕ → List ℕ → List Cut → List ℕ
+replies start term bytes cuts = replies_from start cuts term [] bytes
 
 -- ---- token by token, while the size stays
 
@@ -70,9 +70,9 @@ replies_on size term t before (tok ∷ toks) =
 -- what bytes that come after all changes of size are answered goes on from the screen before them, token by token, with
 -- the size in force
 abbrev pub RepliesGoOn : Type 0
-RepliesGoOn = (size : ScreenSize) (term bytes more : List ℕ) (cuts : List Cut) (given : List Token) → AreWithin (length bytes) cuts → tokens (bytes ++ more) ≡ tokens bytes ++ given
-    → replies size term (bytes ++ more) cuts ≡ replies size term bytes cuts ++ replies_on (size_after size cuts) term (screen size bytes cuts) (tokens bytes) given
+RepliesGoOn = (start : Opening) (term bytes more : List ℕ) (cuts : List Cut) (given : List Token) → AreWithin (length bytes) cuts → tokens (bytes ++ more) ≡ tokens bytes ++ given
+    → replies start term (bytes ++ more) cuts ≡ replies start term bytes cuts ++ replies_on (size_after start.size cuts) term (screen start bytes cuts) (tokens bytes) given
 
 -- a change after all bytes answers nothing
 abbrev pub RepliesStay : Type 0
-RepliesStay = (size : ScreenSize) (term bytes : List ℕ) (cuts : List Cut) (to : ScreenSize) → replies size term bytes (cuts ++ record { after = length bytes; size = to } ∷ []) ≡ replies size term bytes cuts
+RepliesStay = (start : Opening) (term bytes : List ℕ) (cuts : List Cut) (to : ScreenSize) → replies start term bytes (cuts ++ record { after = length bytes; size = to } ∷ []) ≡ replies start term bytes cuts

@@ -5,7 +5,7 @@ use Rattle.gate_model.specs.terminal.Printing.{IsPrintable, width_of}
 use Rattle.gate_model.specs.terminal.Replies.{reports_from}
 use Rattle.gate_model.specs.terminal.Resizing.{resized}
 use Rattle.gate_model.specs.terminal.Screens.{after_controls, completed, screen}
-use Rattle.gate_model.specs.terminal.Sizes.{ScreenSize, Cut, AreWithin}
+use Rattle.gate_model.specs.terminal.Sizes.{ScreenSize, Opening, Cut, AreWithin}
 use Rattle.gate_model.specs.terminal.Terminal.{Terminal}
 
 -- the screen, with so many more lines counted as scrolled
@@ -22,11 +22,11 @@ ScrollsAreNotReported = (n : ℕ) (t : Terminal) (cs : List Control) → reports
 
 -- bytes that come after all changes of size go on from the screen before them
 abbrev pub ScreensGoOn : Type 0
-ScreensGoOn = (size : ScreenSize) (bytes more : List ℕ) (cuts : List Cut) → AreWithin (length bytes) cuts → screen size (bytes ++ more) cuts ≡ after_controls (screen size bytes cuts) (completed bytes more)
+ScreensGoOn = (start : Opening) (bytes more : List ℕ) (cuts : List Cut) → AreWithin (length bytes) cuts → screen start (bytes ++ more) cuts ≡ after_controls (screen start bytes cuts) (completed bytes more)
 
 -- a change after all bytes gives that screen its size
 abbrev pub ScreensTurn : Type 0
-ScreensTurn = (size : ScreenSize) (bytes : List ℕ) (cuts : List Cut) (to : ScreenSize) → screen size bytes (cuts ++ record { after = length bytes; size = to } ∷ []) ≡ resized to.columns to.rows (screen size bytes cuts)
+ScreensTurn = (start : Opening) (bytes : List ℕ) (cuts : List Cut) (to : ScreenSize) → screen start bytes (cuts ++ record { after = length bytes; size = to } ∷ []) ≡ resized to.columns to.rows (screen start bytes cuts)
 
 -- printable ASCII takes one column, and so does U+FFFD
 abbrev pub AsciiIsNarrow : Type 0

@@ -1,10 +1,12 @@
 -- The screen that a session's bytes and its changes of size leave, and what it shows.
-use Rattle.std.specs.Prelude.{ℕ, List, [], ◌∷◌, ◌++◌, length, take, drop, map, flat_map, ◌&&◌, nat_le, if◌then◌else◌, slice_set, ◌<◌, All}
+use Rattle.std.specs.Prelude.{ℕ, List, [], ◌∷◌, ◌++◌, length, take, drop, map, flat_map, ◌==◌, if◌then◌else◌, slice_set, ◌<◌, All}
 use Rattle.gate_model.specs.declared.cell.Cell.{Cell}
 use Rattle.gate_model.specs.declared.cell.Half.{Half}
 use Rattle.gate_model.specs.declared.cell.Half.TheVariants.{Whole, Left, Right}
 use Rattle.gate_model.specs.declared.key.Key.{Key}
-use Rattle.gate_model.specs.picture.Glyphs.{left_face, right_face}
+use Rattle.gate_model.specs.declared.faces.Faces.{Faces}
+use Rattle.gate_model.specs.declared.faces.Faces.TheVariants.{Ascii, More}
+use Rattle.gate_model.specs.picture.Glyphs.{is_ascii, is_more, left_face, right_face}
 use Rattle.gate_model.specs.declared.control.Control.{Control}
 use Rattle.gate_model.specs.declared.token.Token.{Token}
 use Rattle.gate_model.specs.declared.token.Token.TheVariants.{Byte, Do, Dont, Will, Wont, Sub, Single}
@@ -16,7 +18,7 @@ use Rattle.gate_model.specs.picture.KeyGrid.{KeyGrid}
 use Rattle.gate_model.specs.picture.Pictures.{key_at}
 use Rattle.gate_model.specs.telnet.TelnetTokens.{tokens}
 use Rattle.gate_model.specs.terminal.Resizing.{resized}
-use Rattle.gate_model.specs.terminal.Sizes.{ScreenSize, Cut}
+use Rattle.gate_model.specs.terminal.Sizes.{ScreenSize, Opening, Cut}
 use Rattle.gate_model.specs.terminal.Terminal.{Terminal, opening_screen}
 
 -- the data bytes among Telnet tokens
@@ -70,23 +72,28 @@ after_all t (Does c ∷ hs) = after_all (effect c t) hs
 after_all t (Turns s ∷ hs) = after_all (resized s.columns s.rows t) hs
 
 -- the screen that bytes of a Telnet host and changes of size leave from the start
-abbrev pub screen : ScreenSize → List ℕ → List Cut → Terminal
-screen size bytes cuts = after_all (opening_screen size.columns size.rows) (happens bytes cuts)
+abbrev pub screen : Opening → List ℕ → List Cut → Terminal
+screen start bytes cuts = after_all (opening_screen start.faces start.size.columns start.size.rows) (happens bytes cuts)
 
 -- ---- what it shows
 
--- the face of a whole character: itself from U+0020 to U+007E, U+FFFD otherwise
-abbrev pub whole_face : ℕ → ℕ
-whole_face c = if nat_le 32 c && nat_le c 126 then c else 65533
+-- the face of a whole character of the other set: itself where that has it, a space for U+00A0, and U+FFFD otherwise
+abbrev pub more_face : ℕ → ℕ
+more_face c = if is_more c then c else (if c == 0xA0 then 32 else 0xFFFD)
+
+-- the face of a whole character: itself from U+0020 to U+007E; of every other one it is U+FFFD in the set of ASCII
+abbrev pub whole_face : Faces → ℕ → ℕ
+whole_face Ascii c = if is_ascii c then c else 0xFFFD
+whole_face More c = if is_ascii c then c else more_face c
 
 -- the face of a cell: the halves have their own
-abbrev pub face_of : Half → ℕ → ℕ
-face_of Whole c = whole_face c
-face_of Left c = left_face
-face_of Right c = right_face
+abbrev pub face_of : Faces → Half → ℕ → ℕ
+face_of faces Whole c = whole_face faces c
+face_of faces Left c = left_face
+face_of faces Right c = right_face
 
-abbrev pub key_of : Cell → Key
-key_of c = record { face = face_of c.half c.ch; under = c.under; ink = c.ink; paper = c.paper }
+abbrev pub key_of : Faces → Cell → Key
+key_of faces c = record { face = face_of faces c.half c.ch; under = c.under; ink = c.ink; paper = c.paper }
 
 -- ink and paper are indexes of the palette
 abbrev pub IsColoured : Key → Type 0
@@ -105,7 +112,7 @@ exchanged_at place keys = slice_set keys place (exchanged (key_at keys place))
 
 -- the key of each place, exchanged under a visible cursor
 abbrev pub shown : Terminal → KeyGrid
-shown t = let keys = map key_of t.grid.cells in record {
+shown t = let keys = map (key_of t.faces) t.grid.cells in record {
   cols = t.grid.cols;
   rows = t.grid.rows;
   keys = if t.modes.visible then exchanged_at (place t.x t.y t.grid) keys else keys;

@@ -1,6 +1,8 @@
 -- Sizes of a screen, and where they change among the bytes of its host (this project's own).
 use Rattle.std.specs.Prelude.{ℕ, ◌≤◌, List, [], ◌∷◌, All, filter, nat_lt}
 use Rattle.gate_model.specs.Limits.{most_columns, most_rows}
+use Rattle.gate_model.specs.declared.faces.Faces.{Faces}
+use Rattle.gate_model.specs.declared.faces.Faces.TheVariants.{Ascii}
 
 -- a size of the screen
 pub record ScreenSize : Type 0 where
@@ -9,6 +11,15 @@ pub record ScreenSize : Type 0 where
 
 abbrev pub sized : ℕ → ℕ → ScreenSize
 sized columns rows = record { columns = columns; rows = rows }
+
+-- how a screen begins: its size, which may change, and its faces, which don't
+pub record Opening : Type 0 where
+  pub size : ScreenSize
+  pub faces : Faces
+
+-- with the faces of ASCII alone
+abbrev pub in_ascii : ℕ → ℕ → Opening
+in_ascii columns rows = record { size = sized columns rows; faces = Ascii }
 
 -- a screen has 1 to 512 columns and 1 to 256 rows
 pub record IsScreenSize (cols rows : ℕ) : Type 0 where

@@ -1,6 +1,7 @@
 -- The state of a screen and its start (this project's own, after ECMA-48). Places are counted from 0.
 use Rattle.std.specs.Prelude.{ℕ, ◌-◌, ◌%◌, ◌<◌, List, map, ◌&&◌, ◌==◌, nat_lt, Bool, true, false, Option, None}
 use Rattle.std.specs.List.{range_with_len}
+use Rattle.gate_model.specs.declared.faces.Faces.{Faces}
 use Rattle.gate_model.specs.terminal.Cells.{CellGrid, blank_grid}
 
 -- how characters are printed: an ink and a paper of the palette, or none
@@ -29,8 +30,8 @@ pub record Modes : Type 0 where
 
 -- `pending` says that the last column was just printed and the next character wraps. `top` and
 -- `bottom` are the margins, both included; `stops` tells of each column whether a tab stop is there;
--- `last` is the last printed character; `shift` is the number of lines that the whole screen has
--- scrolled up.
+-- `last` is the last printed character; `faces` says which characters have faces of their own, and
+-- nothing changes it; `shift` is the number of lines that the whole screen has scrolled up.
 pub record Terminal : Type 0 where
   pub grid : CellGrid
   pub x : ℕ
@@ -43,6 +44,7 @@ pub record Terminal : Type 0 where
   pub saved : Option Saved
   pub last : Option ℕ
   pub modes : Modes
+  pub faces : Faces
   pub shift : ℕ
 
 -- there is a tab stop at every eighth column but the first
@@ -57,8 +59,8 @@ first_modes = record { cursor_keys = false; wrap = true; visible = true; insert 
 
 -- every cell is blank, the cursor is at the first place, the margins are the whole screen, the pen is
 -- plain, and nothing is saved or printed
-abbrev pub opening_screen : ℕ → ℕ → Terminal
-opening_screen columns rows = record {
+abbrev pub opening_screen : Faces → ℕ → ℕ → Terminal
+opening_screen faces columns rows = record {
   grid = blank_grid columns rows;
   x = 0;
   y = 0;
@@ -70,6 +72,7 @@ opening_screen columns rows = record {
   saved = None;
   last = None;
   modes = first_modes;
+  faces = faces;
   shift = 0;
 }
 

@@ -1,29 +1,24 @@
-use Rattle.std.proofs.Common.{ap, length, sym, ◌∙◌, arith}
-use Rattle.glyph_table.proofs.GlyphRects.{columns_few, column_below, columns_none, columns_added, ends_underlined, ends_plain, rects_cover, rects_apart, rects_few, rects_inside}
+use Rattle.std.proofs.Common.{◌≡◌, ◌<◌, ◌≤◌, ap, length, sym, ◌∙◌, arith}
+use Rattle.glyph_table.specs.GlyphRects.{columns_rects, rects, with_underline}
+use Rattle.glyph_table.proofs.GlyphRects.{columns_few, of_columns, of_bars, bars_few, ends_underlined, ends_plain, rects_cover, rects_apart, rects_few, rects_inside, length-bars}
 use Rattle.glyph_table.proofs.rects.rects_of.Goals as goal
-
-pub add_column-requires-clause-room : goal.add_column-requires-clause-room
-add_column-requires-clause-room c =
-    omega (arith, ap length c.loop-i.invariant, columns_few c.loop-i.i c.args.under c.columns_of-columns.result)
-
-pub add_column-requires-clause-seven_bits : goal.add_column-requires-clause-seven_bits
-add_column-requires-clause-seven_bits c = rw c.columns_of-columns.ensures (column_below c.args.face c.loop-i.i (omega arith))
-
-pub loop-i-init : goal.loop-i-init
-loop-i-init c = c.new-rects.ensures ∙ sym (columns_none c.args.under c.columns_of-columns.result)
-
-pub loop-i-preserved : goal.loop-i-preserved
-loop-i-preserved c = columns_added c.loop-i.rects c.add_column.new.self c.loop-i.i c.args.under c.columns_of-columns.result c.loop-i.invariant c.add_column.ensures
+use Rattle.glyph_table.proofs.rects.rects_of.Goals.{then-has_bars, else-has_bars}
 
 pub add-requires : goal.add-requires
-add-requires c =
-    omega (arith, ap length c.loop-i.invariant, columns_few c.loop-i.i c.args.under c.columns_of-columns.result)
+add-requires c = elim c.if-has_bars.branch [
+  | then-has_bars w ↦ omega (arith, ap length (w.rects-is ∙ w.add_bars.ensures), length-bars c.args.face c.args.under, bars_few c.args.face (sym c.has_bars.ensures ∙ w.if-has_bars.true))
+  | else-has_bars w ↦ omega (arith, ap length (w.rects-is ∙ w.add_columns.ensures), columns_few 5 c.args.under w.columns_of.result)
+]
 
 pub returns-then-under : goal.returns-then-under
 returns-then-under c =
     let face = c.args.face in
     let under = c.args.under in
-    let e = ends_underlined face c.loop-i.i under c.columns_of-columns.result c.loop-i.rects c.add.new.self c.if-under.true c.columns_of-columns.ensures (omega arith) c.loop-i.invariant c.add.ensures in
+    let first : with_underline under c.if-has_bars.rects ≡ rects face under = elim c.if-has_bars.branch [
+      | then-has_bars w ↦ of_bars face under c.if-has_bars.rects (sym c.has_bars.ensures ∙ w.if-has_bars.true) (w.rects-is ∙ w.add_bars.ensures)
+      | else-has_bars w ↦ of_columns face under c.if-has_bars.rects (sym c.has_bars.ensures ∙ w.if-has_bars.false) (w.rects-is ∙ (w.add_columns.ensures ∙ ap (columns_rects 5 under) w.columns_of.ensures))
+    ] in
+    let e = ends_underlined face under c.if-has_bars.rects c.add.new.self c.if-under.true first c.add.ensures in
     record {
       listed = e;
       cover = λ x y in_x in_y. rw e (rects_cover face under x y in_x in_y);
@@ -36,7 +31,11 @@ pub returns-else-under : goal.returns-else-under
 returns-else-under c =
     let face = c.args.face in
     let under = c.args.under in
-    let e = ends_plain face c.loop-i.i under c.columns_of-columns.result c.loop-i.rects c.if-under.false c.columns_of-columns.ensures (omega arith) c.loop-i.invariant in
+    let first : with_underline under c.if-has_bars.rects ≡ rects face under = elim c.if-has_bars.branch [
+      | then-has_bars w ↦ of_bars face under c.if-has_bars.rects (sym c.has_bars.ensures ∙ w.if-has_bars.true) (w.rects-is ∙ w.add_bars.ensures)
+      | else-has_bars w ↦ of_columns face under c.if-has_bars.rects (sym c.has_bars.ensures ∙ w.if-has_bars.false) (w.rects-is ∙ (w.add_columns.ensures ∙ ap (columns_rects 5 under) w.columns_of.ensures))
+    ] in
+    let e = ends_plain face under c.if-has_bars.rects c.if-under.false first in
     record {
       listed = e;
       cover = λ x y in_x in_y. rw e (rects_cover face under x y in_x in_y);

@@ -12,6 +12,11 @@ add_run-requires-clause-some c =
     let s = step c.loop-left.left (omega arith) c.loop-left.invariant.fits in
     rw s.shift s.some
 
+pub add_run-requires-clause-eight_bits : goal.add_run-requires-clause-eight_bits
+add_run-requires-clause-eight_bits c =
+    let s = step c.loop-left.left (omega arith) c.loop-left.invariant.fits in
+    rw s.shift s.eight
+
 pub loop-left-smaller : goal.loop-left-smaller
 loop-left-smaller c =
     let s = step c.loop-left.left (omega arith) c.loop-left.invariant.fits in

@@ -4,7 +4,7 @@ use Rattle.glyph_table.proofs.rects.Rects.add_column.Given as goal
 
 abbrev pub invariant-loop-left : goal.invariant-loop-left
 invariant-loop-left l = record {
-  fits : l.left < 128;
+  fits : l.left < 256;
   joined : l.self ++ column_rects l.i l.under l.columns l.left ≡ l.fn.self ++ column_rects l.i l.under l.columns (slice_index l.columns l.i);
 }
 

@@ -9,4 +9,4 @@ pub loop-y-preserved : goal.loop-y-preserved
 loop-y-preserved c =
     let g = c.args.self.now.grid in
     let y = c.loop-y.y in
-    c.in_ok-push_row.ensures ∙ ap (λ (ks : List Key). ks ++ map key_of (rest_of_row 0 y g)) c.loop-y.invariant ∙ sym (rows_more g y)
+    c.in_ok-push_row.ensures ∙ ap (λ (ks : List Key). ks ++ map (key_of c.args.self.now.faces) (rest_of_row 0 y g)) c.loop-y.invariant ∙ sym (rows_more c.args.self.now.faces g y)

@@ -4,4 +4,4 @@ use Rattle.vt_screen.proofs.state.State.keys.Given as goal
 
 -- the keys of the rows so far
 abbrev pub invariant-loop-y : goal.invariant-loop-y
-invariant-loop-y l = l.keys.items ≡ map key_of (take (l.y * l.self.grid.cols) l.self.grid.cells)
+invariant-loop-y l = l.keys.items ≡ map (key_of l.self.faces) (take (l.y * l.self.grid.cols) l.self.grid.cells)
