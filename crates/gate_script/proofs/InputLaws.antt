@@ -25,7 +25,7 @@ use Rattle.script_lines.specs.declared.order.Order.TheVariants.{Told as told, Un
 use Rattle.script_lines.specs.Lines.{draw_lines}
 use Rattle.script_lines.specs.Grammar.{ending, judged, total, starts, script_lines, lines_of, most_of, whole_lines, all_lines}
 use Rattle.gate_script.specs.Sinks.{Sinks}
-use Rattle.gate_script.specs.Running.{StoppedIn, HasDone, HasCut, LastEnds, AllDone, RunEnds, AtEndUnless, IsReady, IsReadyFor}
+use Rattle.gate_script.specs.Running.{StoppedIn, HasDone, HasCut, LastEnds, AllDone, RunEnds, AtEndUnless, IsReady, IsReadyFor, sight_of}
 use Rattle.script_lines.proofs.PieceLaws.{pieces_are_read, begun}
 use Rattle.gate_script.proofs.RunLaws.{stopped-later, all_done}
 
@@ -43,7 +43,7 @@ nothing-whole (Script entries) = refl
 
 -- all that was done so far
 pub done_so_far : (form : TextForm) (pieces : List (List ℕ)) (r : Run) (b n : Sinks) → HasDone form pieces r b n → AllDone (lines_of form pieces) b n
-done_so_far form pieces r b n had = all_done (lines_of form pieces) r b n had.at
+done_so_far form pieces r b n had = all_done (sight_of form) (lines_of form pieces) r b n had.at
 
 -- a call stopped for want of memory after these orders
 pub short_after : (orders all : List Order) (b n : Sinks) → AllDone orders b n → IsLater orders all → StoppedIn all NoMemory b n

@@ -55,6 +55,7 @@ use Rattle.gate_script.specs.Told.{worn_by}
 use Rattle.gate_script.specs.Plays.{AreTotals, Answers, Begins, Calls, Does, Play, Plays, Writes, acknowledgement, event_of, feeds, is_press, press, presses}
 use Rattle.gate_script.specs.Outcomes.{Answered, IsRefused, IsTooLong, Makes}
 use Rattle.gate_script.specs.Sinks.{Sinks}
+use Rattle.gate_script.specs.declared.sight.Sight.TheVariants.{Played}
 use Rattle.gate_script.specs.Running.{AllDone, At, Ends, Goes, RefusedOf, StandsAt, StoppedIn}
 use Rattle.gate_script.specs.Loading.{AreLoads, IsLevel, LoadAt, LoadEnds, LoadStopped, MayFollow, TotalsEnd, counted, is_some_list, kind_of, takes_behind}
 use Rattle.gate_script.proofs.OneFault.{line_adds}
@@ -485,7 +486,7 @@ module _ (orders : List Order) (line : Line) (l : Load) (b n n' : Sinks) (w : Lo
   follows_in = subst (λ (x : Bool). MayFollow x line) (sym w.at.opened ∙ loads_start orders w.loads) follows
 
   -- one line more was done
-  pub load_goes_on : (l' : Load) → (go : Goes (Untold line) orders w.at.play l'.run b n') → (before after : Level) → IsLevel before w.at.play.history → IsLevel after go.next.play.history → l'.totals ≡ counted l.totals (kind_of line) before after → LoadAt (Untold line ∷ orders) l' b n'
+  pub load_goes_on : (l' : Load) → (go : Goes Played (Untold line) orders w.at.play l'.run b n') → (before after : Level) → IsLevel before w.at.play.history → IsLevel after go.next.play.history → l'.totals ≡ counted l.totals (kind_of line) before after → LoadAt (Untold line ∷ orders) l' b n'
   load_goes_on l' go before after is is' totals_are = record {
     at = go.next;
     totals = subst (λ (t : Totals). AreTotals t go.next.play.history) (sym totals_are)
@@ -499,13 +500,13 @@ module _ (orders : List Order) (line : Line) (l : Load) (b n n' : Sinks) (w : Lo
 
 -- .. or want of memory, before it or behind it
 pub no_memory_before : (orders : List Order) (line : Line) (l : Load) (b n : Sinks) → LoadAt orders l b n → LoadStopped (Untold line ∷ orders) NoMemory b n
-no_memory_before orders line l b n w = none_done orders l.run b n w.at (Untold line ∷ [])
+no_memory_before orders line l b n w = none_done Played orders l.run b n w.at (Untold line ∷ [])
 
-pub no_memory_behind : (orders : List Order) (r : Run) (b n : Sinks) → At orders r b n → LoadStopped orders NoMemory b n
-no_memory_behind orders r b n at = none_done orders r b n at []
+pub no_memory_behind : (orders : List Order) (r : Run) (b n : Sinks) → At Played orders r b n → LoadStopped orders NoMemory b n
+no_memory_behind orders r b n at = none_done Played orders r b n at []
 
 pub no_memory_totals : (orders : List Order) (totals : Totals) (l : Load) (b n : Sinks) → LoadAt orders l b n → LoadStopped (Told (tell_totals totals) ∷ orders) NoMemory b n
-no_memory_totals orders totals l b n w = none_done orders l.run b n w.at (Told (tell_totals totals) ∷ [])
+no_memory_totals orders totals l b n w = none_done Played orders l.run b n w.at (Told (tell_totals totals) ∷ [])
 
 -- what stopped a load stopped more of it
 pub stopped_more : (orders all : List Order) (stop : Stop) (b n : Sinks) → IsLater orders all → LoadStopped orders stop b n → LoadStopped all stop b n
@@ -517,7 +518,7 @@ stopped_more orders all NoMemory b n more s = stopped-later orders all NoMemory 
 -- nothing was done yet
 pub load_new : (l : Load) (b : Sinks) → l.run.state.moment ≡ 0 → is_some l.run.state.session ≡ false → l.run.lines ≡ 0 → l.totals.feeds ≡ 0 → l.totals.keys ≡ 0 → l.totals.out ≡ 0 → LoadAt [] l b b
 load_new l b at_zero session lines no_feeds no_keys no_out =
-    let at = nothing_done l.run b at_zero session lines in
+    let at = nothing_done Played l.run b at_zero session lines in
     let h : at.play.history ≡ [] = ap (λ (p : Play). p.history) at.told.plays.0 in
     record {
       at = at;
@@ -588,7 +589,7 @@ pub totals_placed : (totals : Totals) (b : Bool) → b ≡ true → in_place b (
 totals_placed totals b e = rw e refl
 
 module _ (orders : List Order) (l : Load) (b n m : Sinks) (w : LoadAt orders l b n) where
-  pub totals_told : (r : Result (Unit {0}) Stop) (run' : Run) → l.run.lines < most_entries → Ends (Told (tell_totals l.totals) ∷ orders) r run' b m → OnOk r (Goes (Told (tell_totals l.totals)) orders w.at.play run' b m) → TotalsEnd orders l.totals w.at.play.history r b m
+  pub totals_told : (r : Result (Unit {0}) Stop) (run' : Run) → l.run.lines < most_entries → Ends Played (Told (tell_totals l.totals) ∷ orders) r run' b m → OnOk r (Goes Played (Told (tell_totals l.totals)) orders w.at.play run' b m) → TotalsEnd orders l.totals w.at.play.history r b m
   totals_told (Ok u) run' few ends goes = record { done = record { play = goes.next.play; told = goes.next.told; lawful = goes.next.lawful }; same = ap (λ (p : Play). p.history) goes.does.2.same }
   totals_told (Err stop) run' few ends goes = totals_stop l.totals orders stop b m w.loads (omega (arith, few, w.at.count)) ends
 

@@ -36,7 +36,7 @@ readable_farewell Worn = (omega arith, tt)
 
 readable_closing : (h : History) → AreReadable (closing h)
 readable_closing [] = tt
-readable_closing (Start cols rows mode term entries stamp frame ∷ g) = readable_closing g
+readable_closing (Start cols rows mode term faces entries stamp frame ∷ g) = readable_closing g
 readable_closing (Feed bytes stamp frame ∷ g) = readable_closing g
 readable_closing (Size viewer cols rows stamp frame ∷ g) = readable_closing g
 readable_closing (Join viewer role first ∷ g) = readable_closing g
@@ -118,4 +118,4 @@ pub start_same : (setup : Setup) (now : ℕ) (a b : Entry) (x y : List ℕ) → 
 start_same setup now a b x y one other e =
     let stamp : ℕ = next_stamp 0 now in
     let is : one.1 ≡ other.1 = line_same 0 one.1 other.1 x y one.2.in_range other.2.in_range (ap (λ (k : Entry). framing [] k ++ x) (sym one.4) ∙ (alone [] a b x y e ∙ ap (λ (k : Entry). framing [] k ++ y) other.4)) in
-    one.4 ∙ (ap (λ (l : List Instr). Start setup.cols setup.rows setup.mode setup.term setup.entries stamp l) is ∙ sym other.4)
+    one.4 ∙ (ap (λ (l : List Instr). Start setup.cols setup.rows setup.mode setup.term setup.faces setup.entries stamp l) is ∙ sym other.4)

@@ -20,6 +20,8 @@ use Rattle.gate_script.specs.declared.halt.Halt.TheVariants.{NoMemory as no_memo
 use Rattle.gate_script.specs.declared.reply.Reply.{Reply}
 use Rattle.gate_script.specs.declared.run.Run.{Run}
 use Rattle.gate_script.specs.declared.session.Session.{Session}
+use Rattle.gate_script.specs.declared.sight.Sight.{Sight}
+use Rattle.gate_script.specs.declared.sight.Sight.TheVariants.{Played, Unplayed}
 use Rattle.gate_script.specs.declared.state.State.{State}
 use Rattle.gate_script.specs.declared.stop.Stop.{Stop}
 use Rattle.gate_script.specs.declared.stop.Stop.TheVariants.{ReadFault, WriteFault, NoMemory, Refused}
@@ -36,7 +38,7 @@ use Rattle.script_lines.specs.declared.size.Size.{Size}
 use Rattle.desk_core.specs.Desk.{Stands}
 use Rattle.desk_core.specs.Laws.{DesksAreTrue, DesksAreWhole}
 use Rattle.gate_script.specs.Sinks.{Sinks, Gains, GainsFronts, HaveFailed, Wrote, held}
-use Rattle.gate_script.specs.Running.{AllDone, At, Ends, Goes, HasDone, IsOpen, LastEnds, LeavesOpen, LineEnds, LineIsDone, OrderDone, OrderEnds, PieceEnds, ShortOf, StandsAt, StoppedIn, Told, stop_of}
+use Rattle.gate_script.specs.Running.{AllDone, At, Ends, Goes, HasDone, IsOpen, LastEnds, LeavesOpen, LineEnds, LineIsDone, OrderDone, OrderEnds, PieceEnds, ShortOf, StandsAt, StoppedIn, Told, sight_of, stop_of}
 use Rattle.gate_script.proofs.TakenLaws.{printed, tells}
 
 -- ---- in memory
@@ -63,10 +65,10 @@ no_call (Press viewer keysym) call placed = cc
 no_call (Totals totals) call placed = cc
 
 -- what a session's call did
-pub called : (line : Line) (p : Play) (now : ℕ) (s n : Session) (r : Result (Unit {0}) Halt) (o o' : Reply) → StandsAt p now (Some s) → ((h : History) → IsAt s h → CallEnds line (play now h) r n o o') → LineEnds line p r record { moment = now; session = Some n; reply = o' } o o'
-called line p now s n r o o' at step = by r (subst (λ (q : Play). CallEnds line q r n o o') (ap (λ (t : ℕ). play t p.history) (sym at.0)) (step p.history at.1))
+pub called : (sight : Sight) (line : Line) (p : Play) (now : ℕ) (s n : Session) (r : Result (Unit {0}) Halt) (o o' : Reply) → StandsAt sight p now (Some s) → ((h : History) → IsAt sight s h → CallEnds sight line (play now h) r n o o') → LineEnds sight line p r record { moment = now; session = Some n; reply = o' } o o'
+called sight line p now s n r o o' at step = by r (subst (λ (q : Play). CallEnds sight line q r n o o') (ap (λ (t : ℕ). play t p.history) (sym at.0)) (step p.history at.1))
   where
-    by : (r : Result (Unit {0}) Halt) → CallEnds line p r n o o' → LineEnds line p r record { moment = now; session = Some n; reply = o' } o o'
+    by : (r : Result (Unit {0}) Halt) → CallEnds sight line p r n o o' → LineEnds sight line p r record { moment = now; session = Some n; reply = o' } o o'
     by (Ok u) d = record { after = play p.now d.history; answer = d.answer; framing = d.framing; does = d.does; stands = (at.0, d.at); appends = d.appends }
     by (Err halt) d = d
 
@@ -93,51 +95,51 @@ leaves_open (Press viewer keysym) s n (Ok u) call o = tt
 leaves_open (Totals totals) s n (Ok u) call o = tt
 
 -- the session has started
-pub has_started : (line : Line) (p : Play) (now : ℕ) (n : Session) (o o' : Reply) → p ≡ play now [] → LineDone line (play now []) n o o' → LineIsDone line p record { moment = now; session = Some n; reply = o' } o o'
-has_started line p now n o o' is d = subst (λ (q : Play). LineIsDone line q record { moment = now; session = Some n; reply = o' } o o') (sym is) (record { after = play now d.history; answer = d.answer; framing = d.framing; does = d.does; stands = (refl, d.at); appends = d.appends })
+pub has_started : (sight : Sight) (line : Line) (p : Play) (now : ℕ) (n : Session) (o o' : Reply) → p ≡ play now [] → LineDone sight line (play now []) n o o' → LineIsDone sight line p record { moment = now; session = Some n; reply = o' } o o'
+has_started sight line p now n o o' is d = subst (λ (q : Play). LineIsDone sight line q record { moment = now; session = Some n; reply = o' } o o') (sym is) (record { after = play now d.history; answer = d.answer; framing = d.framing; does = d.does; stands = (refl, d.at); appends = d.appends })
 
-pub not_started_yet : (line : Line) (p : Play) (now : ℕ) (r : Result Session Halt) (r' : Result (Unit {0}) Halt) (halt : Halt) (s : State) (o o' : Reply) → p ≡ play now [] → r ≡ Err halt → r' ≡ Err halt → StartEnds line (play now []) r o o' → LineEnds line p r' s o o'
-not_started_yet line p now r r' halt s o o' is failed failed' ends = rw (failed', is) (subst (λ (x : Result Session Halt). StartEnds line (play now []) x o o') failed ends)
+pub not_started_yet : (sight : Sight) (line : Line) (p : Play) (now : ℕ) (r : Result Session Halt) (r' : Result (Unit {0}) Halt) (halt : Halt) (s : State) (o o' : Reply) → p ≡ play now [] → r ≡ Err halt → r' ≡ Err halt → StartEnds sight line (play now []) r o o' → LineEnds sight line p r' s o o'
+not_started_yet sight line p now r r' halt s o o' is failed failed' ends = rw (failed', is) (subst (λ (x : Result Session Halt). StartEnds sight line (play now []) x o o') failed ends)
 
 -- nothing but the moment has changed
-pub now_is : (p : Play) (now old : ℕ) (session : Option Session) → StandsAt p old session → StandsAt (play now p.history) now session
-now_is p now old None is = ap (λ (q : Play). play now q.history) is
-now_is p now old (Some s) at = (refl, at.1)
+pub now_is : (sight : Sight) (p : Play) (now old : ℕ) (session : Option Session) → StandsAt sight p old session → StandsAt sight (play now p.history) now session
+now_is sight p now old None is = ap (λ (q : Play). play now q.history) is
+now_is sight p now old (Some s) at = (refl, at.1)
 
 -- the moment was set
-pub moment_set : (now old : ℕ) (p : Play) (session : Option Session) (r : Result (Unit {0}) Halt) (o o' : Reply) → StandsAt p old session → Adds r o o' (answer_line (codes "now") (now ∷ [])) [] → LineEnds (moment now) p r record { moment = now; session = session; reply = o' } o o'
-moment_set now old p session (Ok u) o o' at adds = record { after = play now p.history; answer = answer_line (codes "now") (now ∷ []); framing = []; does = record { same = refl; answered = refl; framed = refl }; stands = now_is p now old session at; appends = adds }
-moment_set now old p session (Err no_memory) o o' at adds = tt
-moment_set now old p session (Err OutsideGrammar) o o' at adds = absurd adds
-moment_set now old p session (Err (is_worn entries)) o o' at adds = absurd adds
+pub moment_set : (sight : Sight) (now old : ℕ) (p : Play) (session : Option Session) (r : Result (Unit {0}) Halt) (o o' : Reply) → StandsAt sight p old session → Adds r o o' (answer_line (codes "now") (now ∷ [])) [] → LineEnds sight (moment now) p r record { moment = now; session = session; reply = o' } o o'
+moment_set sight now old p session (Ok u) o o' at adds = record { after = play now p.history; answer = answer_line (codes "now") (now ∷ []); framing = []; does = record { same = refl; answered = refl; framed = refl }; stands = now_is sight p now old session at; appends = adds }
+moment_set sight now old p session (Err no_memory) o o' at adds = tt
+moment_set sight now old p session (Err OutsideGrammar) o o' at adds = absurd adds
+moment_set sight now old p session (Err (is_worn entries)) o o' at adds = absurd adds
 
 -- a line without effect
-pub nothing_told : (p : Play) (now : ℕ) (session : Option Session) (o : Reply) → StandsAt p now session → LineIsDone Blank p record { moment = now; session = session; reply = o } o o
-nothing_told p now session o at = record { after = p; answer = []; framing = []; does = record { same = refl; answered = refl; framed = refl }; stands = at; appends = record { answered = sym (append-nil o.answer.items); framed = sym (append-nil o.frame.items) } }
+pub nothing_told : (sight : Sight) (p : Play) (now : ℕ) (session : Option Session) (o : Reply) → StandsAt sight p now session → LineIsDone sight Blank p record { moment = now; session = session; reply = o } o o
+nothing_told sight p now session o at = record { after = p; answer = []; framing = []; does = record { same = refl; answered = refl; framed = refl }; stands = at; appends = record { answered = sym (append-nil o.answer.items); framed = sym (append-nil o.frame.items) } }
 
 -- `start` comes once
 pub once : (opened : Bool) (size : Size) (mode : Share) (entries : ℕ) → in_place opened (Start size mode entries) ≡ Start size mode entries → opened ≡ false
 once true size mode entries placed = let w : Bad ≡ Start size mode entries = placed in cc
 once false size mode entries placed = refl
 
-pub not_yet : (p : Play) (now : ℕ) (session : Option Session) → is_some session ≡ false → StandsAt p now session → p ≡ play now []
-not_yet p now None none is = is
-not_yet p now (Some s) none at = absurd (let w : true ≡ false = none in cc)
+pub not_yet : (sight : Sight) (p : Play) (now : ℕ) (session : Option Session) → is_some session ≡ false → StandsAt sight p now session → p ≡ play now []
+not_yet sight p now None none is = is
+not_yet sight p now (Some s) none at = absurd (let w : true ≡ false = none in cc)
 
 -- an order was done, by its line
-pub order_told_line : (line : Line) (p : Play) (s : State) (o : Reply) (r : Result (Unit {0}) Halt) → o.answer.items ≡ [] → o.frame.items ≡ [] → LineEnds line p r s o s.reply → OrderEnds (told line) p r s
-order_told_line line p s o (Ok u) none none' d = record { after = d.after; answer = d.answer; framing = d.framing; does = d.does; stands = d.stands; answer_is = d.appends.answered ∙ ap (λ (l : List ℕ). l ++ d.answer) none; frame_is = d.appends.framed ∙ ap (λ (l : List ℕ). l ++ d.framing) none' }
-order_told_line line p s o (Err halt) none none' d = d
+pub order_told_line : (sight : Sight) (line : Line) (p : Play) (s : State) (o : Reply) (r : Result (Unit {0}) Halt) → o.answer.items ≡ [] → o.frame.items ≡ [] → LineEnds sight line p r s o s.reply → OrderEnds sight (told line) p r s
+order_told_line sight line p s o (Ok u) none none' d = record { after = d.after; answer = d.answer; framing = d.framing; does = d.does; stands = d.stands; answer_is = d.appends.answered ∙ ap (λ (l : List ℕ). l ++ d.answer) none; frame_is = d.appends.framed ∙ ap (λ (l : List ℕ). l ++ d.framing) none' }
+order_told_line sight line p s o (Err halt) none none' d = d
 
-pub order_untold_line : (line : Line) (p : Play) (s s' : State) (o : Reply) → o.frame.items ≡ [] → s'.moment ≡ s.moment → s'.session ≡ s.session → s'.reply.answer.items ≡ [] → s'.reply.frame.items ≡ s.reply.frame.items → LineIsDone line p s o s.reply → OrderDone (untold line) p s'
-order_untold_line line p s s' o none at same cleared kept d = record { after = d.after; answer = d.answer; framing = d.framing; does = d.does; stands = rw (at, same) d.stands; answer_is = cleared; frame_is = kept ∙ (d.appends.framed ∙ ap (λ (l : List ℕ). l ++ d.framing) none) }
+pub order_untold_line : (sight : Sight) (line : Line) (p : Play) (s s' : State) (o : Reply) → o.frame.items ≡ [] → s'.moment ≡ s.moment → s'.session ≡ s.session → s'.reply.answer.items ≡ [] → s'.reply.frame.items ≡ s.reply.frame.items → LineIsDone sight line p s o s.reply → OrderDone sight (untold line) p s'
+order_untold_line sight line p s s' o none at same cleared kept d = record { after = d.after; answer = d.answer; framing = d.framing; does = d.does; stands = rw (at, same) d.stands; answer_is = cleared; frame_is = kept ∙ (d.appends.framed ∙ ap (λ (l : List ℕ). l ++ d.framing) none) }
 
 -- ---- with the sinks
 
 -- a history that a run stands for is legal, true and whole, by the laws about desks
-pub lawful_at : DesksAreTrue → DesksAreWhole → (p : Play) (now : ℕ) (o : Option Session) → StandsAt p now o → IsLawful p.history
-lawful_at is_true is_whole p now None is = subst (λ (q : Play). IsLawful q.history) (sym is) tt
-lawful_at is_true is_whole p now (Some s) at = by p.history at.1.stands
+pub lawful_at : DesksAreTrue → DesksAreWhole → (sight : Sight) (p : Play) (now : ℕ) (o : Option Session) → StandsAt sight p now o → IsLawful p.history
+lawful_at is_true is_whole sight p now None is = subst (λ (q : Play). IsLawful q.history) (sym is) tt
+lawful_at is_true is_whole sight p now (Some s) at = by p.history at.1.stands
   where
     by : (h : History) → Stands s.desk h → IsLawful h
     by [] stands = tt
@@ -242,7 +244,7 @@ module _ (order : Order) (orders : List Order) (p : Play) (b n : Sinks) (t : Tol
     failed = failed-earlier b n n' t.gains.later_answers t.gains.later_frames w.failed;
   }
 
-module _ (orders : List Order) (r : Run) (b n : Sinks) (at : At orders r b n) where
+module _ (sight : Sight) (orders : List Order) (r : Run) (b n : Sinks) (at : At sight orders r b n) where
   -- all was done
   pub all_done : AllDone orders b n
   all_done = record { play = at.play; told = at.told; lawful = at.lawful }
@@ -258,14 +260,14 @@ module _ (orders : List Order) (r : Run) (b n : Sinks) (at : At orders r b n) wh
   none_done more = record { orders = orders; first = (more, refl); done = record { play = at.play; told = at.told; lawful = at.lawful } }
 
   -- it was done, and what it tells was written, or fronts of that
-  pub order_told : DesksAreTrue → DesksAreWhole → (order : Order) (r' : Run) (n' : Sinks) → OrderDone order at.play r'.state → is_some r'.state.session ≡ (starts order || is_some r.state.session) → r'.lines ≡ r.lines + 1 → (result : Result (Unit {0}) Stop)
-      → Wrote result n n' r'.state.reply.answer.items r'.state.reply.frame.items → Ends (order ∷ orders) result r' b n'
+  pub order_told : DesksAreTrue → DesksAreWhole → (order : Order) (r' : Run) (n' : Sinks) → OrderDone sight order at.play r'.state → is_some r'.state.session ≡ (starts order || is_some r.state.session) → r'.lines ≡ r.lines + 1 → (result : Result (Unit {0}) Stop)
+      → Wrote result n n' r'.state.reply.answer.items r'.state.reply.frame.items → Ends sight (order ∷ orders) result r' b n'
   order_told is_true is_whole order r' n' d opened count result w = by result (subst (λ (f : List ℕ). Wrote result n n' (told_by order d.answer) f) d.frame_is (subst (λ (a : List ℕ). Wrote result n n' a r'.state.reply.frame.items) d.answer_is w))
     where
       lawful_after : IsLawful d.after.history
-      lawful_after = lawful_at is_true is_whole d.after r'.state.moment r'.state.session d.stands
+      lawful_after = lawful_at is_true is_whole sight d.after r'.state.moment r'.state.session d.stands
 
-      by : (result : Result (Unit {0}) Stop) → Wrote result n n' (told_by order d.answer) d.framing → Ends (order ∷ orders) result r' b n'
+      by : (result : Result (Unit {0}) Stop) → Wrote result n n' (told_by order d.answer) d.framing → Ends sight (order ∷ orders) result r' b n'
       by (Ok u) w = record {
         play = d.after;
         told = told-more order orders at.play b n at.told d.after d.answer d.framing n' d.does w;
@@ -280,15 +282,15 @@ module _ (orders : List Order) (r : Run) (b n : Sinks) (at : At orders r b n) wh
       by (Err (Refused refused)) w = absurd w
 
   -- .. and the run goes on from the play before
-  pub order_goes : (is_true : DesksAreTrue) (is_whole : DesksAreWhole) (order : Order) (r' : Run) (n' : Sinks) (d : OrderDone order at.play r'.state) (opened : is_some r'.state.session ≡ (starts order || is_some r.state.session)) (count : r'.lines ≡ r.lines + 1) (result : Result (Unit {0}) Stop)
-      → Wrote result n n' r'.state.reply.answer.items r'.state.reply.frame.items → OnOk result (Goes order orders at.play r' b n')
+  pub order_goes : (is_true : DesksAreTrue) (is_whole : DesksAreWhole) (order : Order) (r' : Run) (n' : Sinks) (d : OrderDone sight order at.play r'.state) (opened : is_some r'.state.session ≡ (starts order || is_some r.state.session)) (count : r'.lines ≡ r.lines + 1) (result : Result (Unit {0}) Stop)
+      → Wrote result n n' r'.state.reply.answer.items r'.state.reply.frame.items → OnOk result (Goes sight order orders at.play r' b n')
   order_goes is_true is_whole order r' n' d opened count (Ok u) w =
       let wrote = subst (λ (f : List ℕ). Wrote (Ok u) n n' (told_by order d.answer) f) d.frame_is (subst (λ (a : List ℕ). Wrote (Ok u) n n' a r'.state.reply.frame.items) d.answer_is w) in
       record {
         next = record {
           play = d.after;
           told = told-more order orders at.play b n at.told d.after d.answer d.framing n' d.does wrote;
-          lawful = lawful_at is_true is_whole d.after r'.state.moment r'.state.session d.stands;
+          lawful = lawful_at is_true is_whole sight d.after r'.state.moment r'.state.session d.stands;
           stands = d.stands;
           opened = ap (λ (x : Bool). starts order || x) at.opened ∙ sym opened;
           count = omega (arith, count, at.count);
@@ -324,8 +326,8 @@ stopped-later orders all (Refused refused) b n more s = record { orders = s.orde
 stopped-later orders all ReadFault b n more s = absurd s
 
 -- nothing was done yet
-pub nothing_done : (r : Run) (b : Sinks) → r.state.moment ≡ 0 → is_some r.state.session ≡ false → r.lines ≡ 0 → At [] r b b
-nothing_done r b at none count = record {
+pub nothing_done : (sight : Sight) (r : Run) (b : Sinks) → r.state.moment ≡ 0 → is_some r.state.session ≡ false → r.lines ≡ 0 → At sight [] r b b
+nothing_done sight r b at none count = record {
   play = play 0 [];
   told = record { answers = []; framings = []; bytes = []; plays = (refl, refl, refl, refl); gains = record { answered = sym (gained-none b.wrote); framed = sym (gained-none b.framed); later_answers = omega arith; later_frames = omega arith } };
   lawful = tt;
@@ -334,13 +336,13 @@ nothing_done r b at none count = record {
   count = count;
 }
   where
-    by : (o : Option Session) → is_some o ≡ false → StandsAt (play 0 []) r.state.moment o
+    by : (o : Option Session) → is_some o ≡ false → StandsAt sight (play 0 []) r.state.moment o
     by None e = ap (λ (now : ℕ). play now []) (sym at)
     by (Some s) e = absurd (let w : true ≡ false = e in cc)
 
 -- the run stands there still when more bytes were read
-pub still_at : (orders : List Order) (r r' : Run) (b n : Sinks) → r'.state ≡ r.state → r'.lines ≡ r.lines → At orders r b n → At orders r' b n
-still_at orders r r' b n same count at = record { play = at.play; told = at.told; lawful = at.lawful; stands = rw same at.stands; opened = rw same at.opened; count = count ∙ at.count }
+pub still_at : (sight : Sight) (orders : List Order) (r r' : Run) (b n : Sinks) → r'.state ≡ r.state → r'.lines ≡ r.lines → At sight orders r b n → At sight orders r' b n
+still_at sight orders r r' b n same count at = record { play = at.play; told = at.told; lawful = at.lawful; stands = rw same at.stands; opened = rw same at.opened; count = count ∙ at.count }
 
 -- the orders of one more piece of `draw`
 pub draw_more : (form : TextForm) (size : Size) (pieces : List (List ℕ)) (piece : List ℕ) → form ≡ Draw size → untold (Acknowledge 1) ∷ untold (Read 1) ∷ told (Server piece) ∷ lines_of form pieces ≡ lines_of form (piece ∷ pieces)
@@ -355,6 +357,18 @@ script_more (Script e) entries pieces piece opened read is opens at = let same :
     is_of : Script e ≡ Script entries → e ≡ entries
     is_of q = cc
 script_more (Draw size) entries pieces piece opened read is opens at = absurd (let w : Draw size ≡ Script entries = is in cc)
+
+-- `draw` never asks what viewers see, and a script may
+pub draw_sight : (form : TextForm) (size : Size) → form ≡ Draw size → sight_of form ≡ Unplayed
+draw_sight (Draw s) size is = refl
+draw_sight (Script entries) size is = absurd (let w : Script entries ≡ Draw size = is in cc)
+
+pub script_sight : (form : TextForm) (entries : ℕ) → form ≡ Script entries → sight_of form ≡ Played
+script_sight (Script e) entries is = refl
+script_sight (Draw size) entries is = absurd (let w : Draw size ≡ Script entries = is in cc)
+
+pub at_sight : (one other : Sight) (orders : List Order) (r : Run) (b n : Sinks) → one ≡ other → At one orders r b n → At other orders r b n
+at_sight one other orders r b n is at = subst (λ (s : Sight). At s orders r b n) is at
 
 pub draw_begins : (form : TextForm) (size : Size) → form ≡ Draw size → told (Join Owner) ∷ told (Start size Nobody most_entries) ∷ [] ≡ lines_of form []
 draw_begins (Draw s) size is = let same : s ≡ size = is_of is in rw (sym same) refl
@@ -380,13 +394,13 @@ pub piece_stops : (form : TextForm) (pieces : List (List ℕ)) (orders : List Or
 piece_stops form pieces orders r b n result stop is failed s = subst (λ (x : Result (Unit {0}) Stop). PieceEnds form pieces x r b n) (sym failed) (subst (λ (os : List Order). StoppedIn os stop b n) is s)
 
 -- what a call did, its piece did
-pub piece_ends : (form : TextForm) (pieces : List (List ℕ)) (orders : List Order) (r : Run) (b n : Sinks) (result : Result (Unit {0}) Stop) → orders ≡ lines_of form pieces → r.read ≡ total pieces → Ends orders result r b n → PieceEnds form pieces result r b n
-piece_ends form pieces orders r b n (Ok u) is read e = record { at = subst (λ (os : List Order). At os r b n) is e; read = read }
+pub piece_ends : (form : TextForm) (pieces : List (List ℕ)) (orders : List Order) (r : Run) (b n : Sinks) (result : Result (Unit {0}) Stop) → orders ≡ lines_of form pieces → r.read ≡ total pieces → Ends (sight_of form) orders result r b n → PieceEnds form pieces result r b n
+piece_ends form pieces orders r b n (Ok u) is read e = record { at = subst (λ (os : List Order). At (sight_of form) os r b n) is e; read = read }
 piece_ends form pieces orders r b n (Err stop) is read e = subst (λ (os : List Order). StoppedIn os stop b n) is e
 
 -- its bytes were read
-pub piece_read : (form : TextForm) (pieces : List (List ℕ)) (piece : List ℕ) (orders : List Order) (r r' : Run) (b n : Sinks) → orders ≡ lines_of form (piece ∷ pieces) → r'.state ≡ r.state → r'.lines ≡ r.lines → r'.read ≡ total pieces + length piece → At orders r b n → HasDone form (piece ∷ pieces) r' b n
-piece_read form pieces piece orders r r' b n is same count read at = record { at = still_at (lines_of form (piece ∷ pieces)) r r' b n same count (subst (λ (os : List Order). At os r b n) is at); read = read }
+pub piece_read : (form : TextForm) (pieces : List (List ℕ)) (piece : List ℕ) (orders : List Order) (r r' : Run) (b n : Sinks) → orders ≡ lines_of form (piece ∷ pieces) → r'.state ≡ r.state → r'.lines ≡ r.lines → r'.read ≡ total pieces + length piece → At (sight_of form) orders r b n → HasDone form (piece ∷ pieces) r' b n
+piece_read form pieces piece orders r r' b n is same count read at = record { at = still_at (sight_of form) (lines_of form (piece ∷ pieces)) r r' b n same count (subst (λ (os : List Order). At (sight_of form) os r b n) is at); read = read }
 
 -- an open session has started, so its calls stand in place
 pub placed : (o : Option Session) (line : Line) → IsOpen o → in_place true line ≡ line → in_place (is_some o) line ≡ line
@@ -394,6 +408,6 @@ placed None line n is = absurd n
 placed (Some s) line n is = is
 
 -- the last order was done, or the call stopped in it
-pub last_ends : (orders : List Order) (r : Run) (b n : Sinks) (result : Result (Unit {0}) Stop) → Ends orders result r b n → LastEnds orders result b n
-last_ends orders r b n (Ok u) e = all_done orders r b n e
-last_ends orders r b n (Err stop) e = e
+pub last_ends : (sight : Sight) (orders : List Order) (r : Run) (b n : Sinks) (result : Result (Unit {0}) Stop) → Ends sight orders result r b n → LastEnds orders result b n
+last_ends sight orders r b n (Ok u) e = all_done sight orders r b n e
+last_ends sight orders r b n (Err stop) e = e

@@ -12,15 +12,17 @@ use Rattle.gate_model.specs.session.Calls.{Step}
 use Rattle.gate_model.specs.session.History.{History}
 use Rattle.desk_core.specs.Desk.{DeskState, IsKept, Stands}
 use Rattle.script_lines.specs.declared.line.Line.{Line}
-use Rattle.script_lines.specs.declared.line.Line.TheVariants.{Blank, Bad, At, Start, Server, Join, Read, Acknowledge}
+use Rattle.script_lines.specs.declared.line.Line.TheVariants.{Blank, Bad, At, Start, Server, Join, Read, Pixel, Same, Acknowledge, Totals}
 use Rattle.gate_script.specs.declared.halt.Halt.{Halt}
 use Rattle.gate_script.specs.declared.halt.Halt.TheVariants.{NoMemory, OutsideGrammar, Worn}
 use Rattle.gate_script.specs.declared.reply.Reply.{Reply}
 use Rattle.gate_script.specs.declared.session.Session.{Session}
+use Rattle.gate_script.specs.declared.sight.Sight.{Sight}
+use Rattle.gate_script.specs.declared.sight.Sight.TheVariants.{Played, Unplayed}
 use Rattle.gate_script.specs.Told.{frames_line, worn_by}
 use Rattle.gate_script.specs.Plays.{Play, Does, Writes}
 use Rattle.gate_script.specs.Outcomes.{Answered, IsTooLong}
-use Rattle.gate_script.specs.Seeing.{AreShown}
+use Rattle.gate_script.specs.Seeing.{AreSeen}
 
 -- an answer and lines of the frames were appended
 pub record Appends (old new : Reply) (answer framing : List ℕ) : Type 0 where
@@ -39,21 +41,21 @@ read_shown viewer text (Frames count stamp closed) = frames_line viewer text
 read_shown viewer text (Fresh stamp closed) = frames_line viewer text
 read_shown viewer text answer = []
 
--- the session stands for the history: its desk does, and its canvases show it
-pub record IsAt (s : Session) (h : History) : Type 0 where
+-- the session stands for the history: its desk does, and its canvases show it where what viewers see is played
+pub record IsAt (sight : Sight) (s : Session) (h : History) : Type 0 where
   pub stands : Stands s.desk h
-  pub shown : AreShown s.canvases.items h
+  pub shown : AreSeen sight s.canvases.items h
 
 abbrev pub play : ℕ → History → Play
 play now h = record { now = now; history = h }
 
 -- the line was done by the session, which told it
-pub record LineDone (line : Line) (p : Play) (s : Session) (old new : Reply) : Type 0 where
+pub record LineDone (sight : Sight) (line : Line) (p : Play) (s : Session) (old new : Reply) : Type 0 where
   pub history : History
   pub answer : List ℕ
   pub framing : List ℕ
   pub does : Does line p (play p.now history) answer framing
-  pub at : IsAt s history
+  pub at : IsAt sight s history
   pub appends : Appends old new answer framing
 
 -- why the line wasn't done: want of memory, it is outside the grammar, or the session is full
@@ -63,30 +65,30 @@ Halts line p OutsideGrammar = (line ≡ Bad) ⊎ IsTooLong line
 Halts line p (Worn entries) = (result : Answer) × Answered line p result × (worn_by result ≡ Some entries)
 
 -- how a session's call ends
-abbrev pub CallEnds : Line → Play → Result (Unit {0}) Halt → Session → Reply → Reply → Type 0
-CallEnds line p (Ok done) s old new = LineDone line p s old new
-CallEnds line p (Err halt) s old new = Halts line p halt
+abbrev pub CallEnds : Sight → Line → Play → Result (Unit {0}) Halt → Session → Reply → Reply → Type 0
+CallEnds sight line p (Ok done) s old new = LineDone sight line p s old new
+CallEnds sight line p (Err halt) s old new = Halts line p halt
 
 -- how the opening of a session ends
-abbrev pub StartEnds : Line → Play → Result Session Halt → Reply → Reply → Type 0
-StartEnds line p (Ok s) old new = LineDone line p s old new
-StartEnds line p (Err halt) old new = Halts line p halt
+abbrev pub StartEnds : Sight → Line → Play → Result Session Halt → Reply → Reply → Type 0
+StartEnds sight line p (Ok s) old new = LineDone sight line p s old new
+StartEnds sight line p (Err halt) old new = Halts line p halt
 
 -- acts were written, or refused
-pub record ActsDone (viewer : ℕ) (acts : List Act) (passed : ℕ) (p : Play) (s : Session) (old new : Reply) : Type 0 where
+pub record ActsDone (sight : Sight) (viewer : ℕ) (acts : List Act) (passed : ℕ) (p : Play) (s : Session) (old new : Reply) : Type 0 where
   pub history : History
   pub answer : List ℕ
   pub framing : List ℕ
   pub writes : Writes viewer acts passed p (play p.now history) answer framing
-  pub at : IsAt s history
+  pub at : IsAt sight s history
   pub appends : Appends old new answer framing
 
 -- how a write of acts ends
-abbrev pub WriteEnds : ℕ → List Act → ℕ → Play → Result (Unit {0}) Halt → Session → Reply → Reply → Type 0
-WriteEnds viewer acts passed p (Ok done) s old new = ActsDone viewer acts passed p s old new
-WriteEnds viewer acts passed p (Err NoMemory) s old new = Unit {0}
-WriteEnds viewer acts passed p (Err OutsideGrammar) s old new = ⊥
-WriteEnds viewer acts passed p (Err (Worn entries)) s old new = Step p.history (write_acts viewer acts) (was_written (Err (write_worn entries))) []
+abbrev pub WriteEnds : Sight → ℕ → List Act → ℕ → Play → Result (Unit {0}) Halt → Session → Reply → Reply → Type 0
+WriteEnds sight viewer acts passed p (Ok done) s old new = ActsDone sight viewer acts passed p s old new
+WriteEnds sight viewer acts passed p (Err NoMemory) s old new = Unit {0}
+WriteEnds sight viewer acts passed p (Err OutsideGrammar) s old new = ⊥
+WriteEnds sight viewer acts passed p (Err (Worn entries)) s old new = Step p.history (write_acts viewer acts) (was_written (Err (write_worn entries))) []
 
 -- a line that a session does
 abbrev pub IsCall : Line → Type 0
@@ -95,6 +97,14 @@ IsCall Bad = ⊥
 IsCall (At now) = ⊥
 IsCall (Start size mode entries) = ⊥
 IsCall line = Unit {0}
+
+-- a line that asks what viewers see is done where it is played
+abbrev pub MaySee : Sight → Line → Type 0
+MaySee Played line = Unit {0}
+MaySee Unplayed (Pixel viewer x y) = ⊥
+MaySee Unplayed (Same one other) = ⊥
+MaySee Unplayed (Totals totals) = ⊥
+MaySee Unplayed line = Unit {0}
 
 -- a desk whose session is open, with no more entries than a session may have
 pub record IsOpenDesk (d : DeskState) : Type 0 where

@@ -16,6 +16,7 @@ use Rattle.gate_script.specs.declared.kind.Kind.{Kind}
 use Rattle.gate_script.specs.declared.kind.Kind.TheVariants.{Feed, Press, Take, Other}
 use Rattle.gate_script.specs.declared.level.Level.{Level}
 use Rattle.gate_script.specs.declared.load.Load.{Load}
+use Rattle.gate_script.specs.declared.sight.Sight.TheVariants.{Played}
 use Rattle.gate_script.specs.declared.stop.Stop.{Stop}
 use Rattle.gate_script.specs.declared.stop.Stop.TheVariants.{Refused}
 use Rattle.gate_script.specs.Plays.{AreTotals, feeds, presses}
@@ -58,7 +59,7 @@ AreLoads (order ∷ orders) = MayFollow (is_some_list orders) (line_in order) ×
 
 -- the run has done the orders, and the totals are those of the history
 pub record LoadAt (orders : List Order) (l : Load) (began now : Sinks) : Type 0 where
-  pub at : At orders l.run began now
+  pub at : At Played orders l.run began now
   pub totals : AreTotals l.totals at.play.history
   pub loads : AreLoads orders
 

@@ -8,6 +8,7 @@ use Rattle.gate_model.specs.declared.cause.Cause.TheVariants.{Stopped}
 use Rattle.gate_model.specs.declared.entry.Entry.{Entry}
 use Rattle.gate_model.specs.declared.event.Event.{Event}
 use Rattle.gate_model.specs.declared.event.Event.TheVariants.{Feed as feed, Join as join_in, Read as read_as, Write as write_acts, Resize as resize_to, Take as take_most, Leave as leave_as, Close as close_for}
+use Rattle.gate_model.specs.declared.faces.Faces.TheVariants.{Ascii}
 use Rattle.gate_model.specs.declared.setup.Setup.{Setup}
 use Rattle.gate_model.specs.declared.sharing.Share.{Share}
 use Rattle.gate_model.specs.declared.act.Act.{Act}
@@ -49,7 +50,7 @@ opening = record { now = 0; history = [] }
 
 -- the setup of a session: its terminal type is `linux`
 abbrev pub setup_of : Size → Share → ℕ → Setup
-setup_of size mode entries = record { cols = size.cols; rows = size.rows; mode = mode; term = codes "linux"; entries = entries }
+setup_of size mode entries = record { cols = size.cols; rows = size.rows; mode = mode; term = codes "linux"; faces = Ascii; entries = entries }
 
 -- a session was started
 pub record Begins (setup : Setup) (p q : Play) (a f : List ℕ) : Type 0 where

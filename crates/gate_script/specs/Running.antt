@@ -23,6 +23,8 @@ use Rattle.gate_script.specs.declared.reply.Reply.{Reply}
 use Rattle.gate_script.specs.declared.stop.Stop.{Stop}
 use Rattle.gate_script.specs.declared.stop.Stop.TheVariants.{ReadFault, WriteFault, NoMemory, Refused}
 use Rattle.gate_script.specs.declared.session.Session.{Session}
+use Rattle.gate_script.specs.declared.sight.Sight.{Sight}
+use Rattle.gate_script.specs.declared.sight.Sight.TheVariants.{Played, Unplayed}
 use Rattle.gate_script.specs.declared.state.State.{State}
 use Rattle.gate_script.specs.declared.run.Run.{Run}
 use Rattle.gate_script.specs.Plays.{Play, Does, Plays, IsLawful, Tells}
@@ -32,37 +34,42 @@ use Rattle.gate_script.specs.Sinks.{Sinks, Gains, HaveFailed}
 
 -- ---- in memory
 
+-- the lines of `draw` never ask what viewers see
+abbrev pub sight_of : TextForm → Sight
+sight_of (Draw size) = Unplayed
+sight_of (Script entries) = Played
+
 -- the session stands for the play's history, if it has started, at the play's moment
-abbrev pub StandsAt : Play → ℕ → Option Session → Type 0
-StandsAt p now None = p ≡ play now []
-StandsAt p now (Some session) = (p.now ≡ now) × IsAt session p.history
+abbrev pub StandsAt : Sight → Play → ℕ → Option Session → Type 0
+StandsAt sight p now None = p ≡ play now []
+StandsAt sight p now (Some session) = (p.now ≡ now) × IsAt sight session p.history
 
 -- a line was done, and what it tells was appended
-pub record LineIsDone (line : Line) (p : Play) (s : State) (old new : Reply) : Type 0 where
+pub record LineIsDone (sight : Sight) (line : Line) (p : Play) (s : State) (old new : Reply) : Type 0 where
   pub after : Play
   pub answer : List ℕ
   pub framing : List ℕ
   pub does : Does line p after answer framing
-  pub stands : StandsAt after s.moment s.session
+  pub stands : StandsAt sight after s.moment s.session
   pub appends : Appends old new answer framing
 
-abbrev pub LineEnds : Line → Play → Result (Unit {0}) Halt → State → Reply → Reply → Type 0
-LineEnds line p (Ok done) s old new = LineIsDone line p s old new
-LineEnds line p (Err halt) s old new = Halts line p halt
+abbrev pub LineEnds : Sight → Line → Play → Result (Unit {0}) Halt → State → Reply → Reply → Type 0
+LineEnds sight line p (Ok done) s old new = LineIsDone sight line p s old new
+LineEnds sight line p (Err halt) s old new = Halts line p halt
 
 -- an order was done, and the reply is what it tells
-pub record OrderDone (order : Order) (p : Play) (s : State) : Type 0 where
+pub record OrderDone (sight : Sight) (order : Order) (p : Play) (s : State) : Type 0 where
   pub after : Play
   pub answer : List ℕ
   pub framing : List ℕ
   pub does : Does (line_in order) p after answer framing
-  pub stands : StandsAt after s.moment s.session
+  pub stands : StandsAt sight after s.moment s.session
   pub answer_is : s.reply.answer.items ≡ told_by order answer
   pub frame_is : s.reply.frame.items ≡ framing
 
-abbrev pub OrderEnds : Order → Play → Result (Unit {0}) Halt → State → Type 0
-OrderEnds order p (Ok done) s = OrderDone order p s
-OrderEnds order p (Err halt) s = Halts (line_in order) p halt
+abbrev pub OrderEnds : Sight → Order → Play → Result (Unit {0}) Halt → State → Type 0
+OrderEnds sight order p (Ok done) s = OrderDone sight order p s
+OrderEnds sight order p (Err halt) s = Halts (line_in order) p halt
 
 -- the session has started, and is open
 abbrev pub IsOpen : Option Session → Type 0
@@ -97,17 +104,17 @@ pub record Told (orders : List Order) (p : Play) (began now : Sinks) : Type 0 wh
   pub gains : Gains began now answers framings
 
 -- besides, the run stands there, and the history is legal, true and whole
-pub record At (orders : List Order) (r : Run) (began now : Sinks) : Type 0 where
+pub record At (sight : Sight) (orders : List Order) (r : Run) (began now : Sinks) : Type 0 where
   pub play : Play
   pub told : Told orders play began now
   pub lawful : IsLawful play.history
-  pub stands : StandsAt play r.state.moment r.state.session
+  pub stands : StandsAt sight play r.state.moment r.state.session
   pub opened : list_any starts orders ≡ is_some r.state.session
   pub count : r.lines ≡ length orders
 
 -- the order was done after this play, and the run stands behind it
-pub record Goes (order : Order) (orders : List Order) (p : Play) (r : Run) (began now : Sinks) : Type 0 where
-  pub next : At (order ∷ orders) r began now
+pub record Goes (sight : Sight) (order : Order) (orders : List Order) (p : Play) (r : Run) (began now : Sinks) : Type 0 where
+  pub next : At sight (order ∷ orders) r began now
   pub answer : List ℕ
   pub framing : List ℕ
   pub does : Does (line_in order) p next.play answer framing
@@ -162,15 +169,15 @@ stop_of OutsideGrammar number = Refused (BadLine number)
 stop_of (is_worn entries) number = Refused (Worn entries)
 
 -- all the orders were done, or the call stopped in them
-abbrev pub Ends : List Order → Result (Unit {0}) Stop → Run → Sinks → Sinks → Type 0
-Ends all (Ok done) r began now = At all r began now
-Ends all (Err stop) r began now = StoppedIn all stop began now
+abbrev pub Ends : Sight → List Order → Result (Unit {0}) Stop → Run → Sinks → Sinks → Type 0
+Ends sight all (Ok done) r began now = At sight all r began now
+Ends sight all (Err stop) r began now = StoppedIn all stop began now
 
 -- ---- the pieces of the input
 
 -- the run has done the orders of these pieces, the newest first
 pub record HasDone (form : TextForm) (pieces : List (List ℕ)) (r : Run) (began now : Sinks) : Type 0 where
-  pub at : At (lines_of form pieces) r began now
+  pub at : At (sight_of form) (lines_of form pieces) r began now
   pub read : r.read ≡ total pieces
 
 -- `draw` has started, and what a run keeps is small, so that its numbers fit and its input ends

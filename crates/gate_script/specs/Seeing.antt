@@ -1,15 +1,17 @@
 -- The canvases on which a session plays what each viewer is given (this project's own). Viewer 1's stands
 -- first, and the place of one that has left is empty.
-use Rattle.std.specs.Prelude.{◌≡◌, ◌≢◌, ℕ, ◌-◌, ◌<◌, ◌==◌, Bool, true, false, ◌&&◌, List, length, slice_index_or, if◌then◌else◌, Option, None, IfSome}
+use Rattle.std.specs.Prelude.{◌≡◌, ◌≢◌, ℕ, ◌-◌, ◌<◌, ◌==◌, Bool, true, false, ◌&&◌, List, [], ◌∷◌, ◌++◌, length, slice_index_or, if◌then◌else◌, Option, Some, None, IfSome}
 use Rattle.std.specs.Option.{is_some}
 use Rattle.gate_model.specs.declared.instr.Instr.{Instr}
 use Rattle.gate_model.specs.session.History.{History, joined}
-use Rattle.gate_model.specs.picture.Layers.{Layers, Same, draw}
+use Rattle.gate_model.specs.picture.Layers.{Layers, Same, draw, nothing}
 use Rattle.gate_model.specs.session.Rights.{is_live}
 use Rattle.gate_model.specs.text.Text.{texts}
 use Rattle.canvas.specs.Kept.{KeptLayer}
 use Rattle.canvas.specs.Standing.{Stands}
 use Rattle.gate_model.specs.picture.Shape.{AreReadable}
+use Rattle.gate_script.specs.declared.sight.Sight.{Sight}
+use Rattle.gate_script.specs.declared.sight.Sight.TheVariants.{Played}
 use Rattle.gate_script.specs.Plays.{seen}
 
 abbrev pub Canvases : Type 0
@@ -25,6 +27,16 @@ pub record AreShown (canvases : Canvases) (h : History) : Type 0 where
   pub count : length canvases ≡ joined h
   pub there : (v : ℕ) → is_some (canvas_at canvases v) ≡ is_live h v
   pub shows : (v : ℕ) → IfSome (canvas_at canvases v) (λ canvas. Stands canvas (seen h v))
+
+-- so it is where what viewers see is played; where it isn't, nothing is said of canvases
+abbrev pub AreSeen : Sight → Canvases → History → Type 0
+AreSeen sight canvases h = sight ≡ Played → AreShown canvases h
+
+-- a canvas was added on which the text was played
+pub record AddsCanvas (old new : Canvases) (text : List ℕ) : Type 0 where
+  pub canvas : List KeptLayer
+  pub plays : (is : List Instr) → AreReadable is → text ≡ texts is → Stands canvas (draw nothing is)
+  pub grown : new ≡ old ++ Some canvas ∷ []
 
 -- at most the place of this viewer has changed
 pub record KeepOthers (old new : Canvases) (viewer : ℕ) : Type 0 where

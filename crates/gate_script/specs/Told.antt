@@ -137,7 +137,7 @@ worn_by answer = None
 
 -- the frame that an entry after g made, or what it gave a viewer
 abbrev pub framing : History → Entry → List ℕ
-framing g (Start cols rows mode term entries stamp frame) = frames_line 0 (texts frame)
+framing g (Start cols rows mode term faces entries stamp frame) = frames_line 0 (texts frame)
 framing g (Feed bytes stamp frame) = frames_line 0 (texts frame)
 framing g (Size viewer cols rows stamp frame) = frames_line 0 (texts frame)
 framing g (Join viewer role first) = frames_line viewer (texts first)

@@ -27,6 +27,7 @@ mod reply;
 mod run;
 mod seeing;
 mod session;
+mod sight;
 mod state;
 mod stop;
 

@@ -8,6 +8,7 @@ ghost use Rattle.script_lines.specs.Grammar.{is_start};
 ghost use Rattle.script_lines.specs.Lines.{IsInRange};
 ghost use Rattle.load_lines.specs.Words.{drawn};
 ghost use Rattle.load_lines.specs.Rounds.{IsRoundLine, load_begins, takes_done, untold};
+ghost use Rattle.gate_script.specs.declared.sight.Sight.{Sight as Sights};
 ghost use Rattle.gate_script.specs.Plays.{Play};
 ghost use Rattle.gate_script.specs.Sinks.{Sinks, held};
 ghost use Rattle.gate_script.specs.Running.{StandsAt};
@@ -16,6 +17,7 @@ ghost use Rattle.gate_script.specs.Loading.{IsLevel, LoadAt, LoadEnds, LoadRunEn
 use crate::kind::Kind;
 use crate::level::Level;
 use crate::run::Run;
+use crate::sight::Sight;
 use crate::stop::Stop;
 use gate_model::{Asked, Share};
 use gate_outside::Sink;
@@ -110,8 +112,9 @@ impl Load {
         if self.run.lines >= MOST_ENTRIES {
             return Err(Stop::NoMemory);
         }
-        let totals = Line::Totals(self.totals);
-        self.run.order(alloc, Order::Told(totals), answers, frames)
+        let totals = Order::Told(Line::Totals(self.totals));
+        self.run
+            .order(alloc, totals, Sight::Played, answers, frames)
     }
 
     // Starts the session, 80 by 24, with share mode View, and its owner joins.
@@ -190,7 +193,9 @@ impl Load {
         }
         let kind = kind_of(&line);
         let before = self.level();
-        self.run.order(alloc, Order::Untold(line), answers, frames)?;
+        let order = Order::Untold(line);
+        self.run
+            .order(alloc, order, Sight::Played, answers, frames)?;
         let after = self.level();
         match counted(self.totals, kind, before, after) {
             Some(totals) => {
@@ -203,7 +208,7 @@ impl Load {
 
     // What the session has come to, if it has started.
     fn level(&self) -> Level
-        ensures { (p : Play) → StandsAt p self.now.run.state.moment self.now.run.state.session → IsLevel result p.history }
+        ensures { (sight : Sights) (p : Play) → StandsAt sight p self.now.run.state.moment self.now.run.state.session → IsLevel result p.history }
     {
         match &self.run.state.session {
             Some(session) => Level {

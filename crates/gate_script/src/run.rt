@@ -6,6 +6,7 @@ ghost use Rattle.gate_script.specs.Running.{stop_of};
 
 use crate::halt::Halt;
 use crate::refused::Refused;
+use crate::sight::Sight;
 use crate::state::State;
 use crate::stop::Stop;
 use desk_core::laws::{desks_are_true, desks_are_whole};
@@ -34,6 +35,8 @@ impl Run {
     ghost use Rattle.script_lines.specs.Grammar.{ending, in_place, judged, lines_of, most_of, most_script, starts};
     ghost use Rattle.script_lines.specs.Lines.{IsInRange, line_in};
     ghost use Rattle.script_lines.specs.Words.{IsTextForm};
+    ghost use Rattle.gate_script.specs.declared.sight.Sight.TheVariants.{Played, Unplayed};
+    ghost use Rattle.gate_script.specs.Calls.{MaySee};
     ghost use Rattle.gate_script.specs.Sinks.{Sinks, Wrote, held};
     ghost use Rattle.gate_script.specs.Running.{At, Ends, Goes, HasDone, IsOpen, IsReady, KeepsOpen, LastEnds, LeavesOpen, PieceEnds};
 
@@ -58,16 +61,18 @@ impl Run {
         &mut self,
         alloc: Global,
         order: Order,
+        sight: Sight,
         answers: &mut A,
         frames: &mut F,
     ) -> Result<(), Stop>
         requires few { self.old.lines < 2 ^ 62 }
         requires placed { in_place (is_some self.old.state.session) (line_in order) ≡ line_in order }
         requires range { IsInRange (line_in order) }
-        ensures step { (orders : List Orders) (began : Sinks) → At orders self.old began (held (A.written answers.old) (A.faults answers.old) (F.written frames.old) (F.faults frames.old)) →
-            Ends (order ∷ orders) result self.new began (held (A.written answers.new) (A.faults answers.new) (F.written frames.new) (F.faults frames.new)) }
-        ensures goes_on { (orders : List Orders) (began : Sinks) → (at : At orders self.old began (held (A.written answers.old) (A.faults answers.old) (F.written frames.old) (F.faults frames.old))) →
-            OnOk result (Goes order orders at.play self.new began (held (A.written answers.new) (A.faults answers.new) (F.written frames.new) (F.faults frames.new))) }
+        requires sees { MaySee sight (line_in order) }
+        ensures step { (orders : List Orders) (began : Sinks) → At sight orders self.old began (held (A.written answers.old) (A.faults answers.old) (F.written frames.old) (F.faults frames.old)) →
+            Ends sight (order ∷ orders) result self.new began (held (A.written answers.new) (A.faults answers.new) (F.written frames.new) (F.faults frames.new)) }
+        ensures goes_on { (orders : List Orders) (began : Sinks) → (at : At sight orders self.old began (held (A.written answers.old) (A.faults answers.old) (F.written frames.old) (F.faults frames.old))) →
+            OnOk result (Goes sight order orders at.play self.new began (held (A.written answers.new) (A.faults answers.new) (F.written frames.new) (F.faults frames.new))) }
         ensures opened { OnOk result (is_some self.new.state.session ≡ (starts order || is_some self.old.state.session)) }
         ensures open { OnOk result (LeavesOpen (line_in order) self.old.state.session self.new.state.session) }
         ensures sound { OnOk result (line_in order ≢ Bad) }
@@ -79,7 +84,7 @@ impl Run {
         desks_are_true();
         desks_are_whole();
         let number = self.lines + 1;
-        match self.state.order(alloc, order) {
+        match self.state.order(alloc, order, sight) {
             Ok(()) => {
                 self.lines = number;
                 self.tell(answers, frames)
@@ -121,9 +126,9 @@ impl Run {
         match self.form {
             TextForm::Draw(size) => {
                 let start = Line::Start(size, Share::Nobody, MOST_ENTRIES);
-                self.order(alloc, Order::Told(start), answers, frames)?;
+                self.order(alloc, Order::Told(start), Sight::Unplayed, answers, frames)?;
                 let join = Line::Join(Asked::Owner);
-                self.order(alloc, Order::Told(join), answers, frames)
+                self.order(alloc, Order::Told(join), Sight::Unplayed, answers, frames)
             }
             TextForm::Script(_) => Ok(()),
         }
@@ -172,17 +177,20 @@ impl Run {
         requires count { self.old.lines < 2 ^ 61 }
         requires some { 1 ≤ length piece.now }
         requires few { length piece.now ≤ 65536 }
-        ensures step { (orders : List Orders) (began : Sinks) → At orders self.old began (held (A.written answers.old) (A.faults answers.old) (F.written frames.old) (F.faults frames.old)) →
-            Ends (Untold (Acknowledge 1) ∷ Untold (Read 1) ∷ Told (Server piece.now) ∷ orders) result self.new began (held (A.written answers.new) (A.faults answers.new) (F.written frames.new) (F.faults frames.new)) }
+        ensures step { (orders : List Orders) (began : Sinks) → At Unplayed orders self.old began (held (A.written answers.old) (A.faults answers.old) (F.written frames.old) (F.faults frames.old)) →
+            Ends Unplayed (Untold (Acknowledge 1) ∷ Untold (Read 1) ∷ Told (Server piece.now) ∷ orders) result self.new began (held (A.written answers.new) (A.faults answers.new) (F.written frames.new) (F.faults frames.new)) }
         ensures open { OnOk result (KeepsOpen 1 self.old.state.session self.new.state.session) }
         ensures lines { OnOk result (self.new.lines ≡ self.old.lines + 3) }
         ensures form { self.new.form ≡ self.old.form }
         ensures read { self.new.read ≡ self.old.read }
     {
         let bytes = Bytes::of(Vec::from_slice(alloc, piece)?);
-        self.order(alloc, Order::Told(Line::Server(bytes)), answers, frames)?;
-        self.order(alloc, Order::Untold(Line::Read(1)), answers, frames)?;
-        self.order(alloc, Order::Untold(Line::Acknowledge(1)), answers, frames)
+        let sight = Sight::Unplayed;
+        let fed = Order::Told(Line::Server(bytes));
+        self.order(alloc, fed, sight, answers, frames)?;
+        self.order(alloc, Order::Untold(Line::Read(1)), sight, answers, frames)?;
+        let acknowledged = Order::Untold(Line::Acknowledge(1));
+        self.order(alloc, acknowledged, sight, answers, frames)
     }
 
     // Does a script's line.
@@ -198,8 +206,8 @@ impl Run {
         requires count { self.old.lines < 2 ^ 61 }
         requires read { self.old.read ≤ most_script }
         requires few { length piece.now ≤ 262146 }
-        ensures step { (orders : List Orders) (began : Sinks) → At orders self.old began (held (A.written answers.old) (A.faults answers.old) (F.written frames.old) (F.faults frames.old)) →
-            Ends (Told (judged entries (is_some self.old.state.session) self.old.read piece.now) ∷ orders) result self.new began (held (A.written answers.new) (A.faults answers.new) (F.written frames.new) (F.faults frames.new)) }
+        ensures step { (orders : List Orders) (began : Sinks) → At Played orders self.old began (held (A.written answers.old) (A.faults answers.old) (F.written frames.old) (F.faults frames.old)) →
+            Ends Played (Told (judged entries (is_some self.old.state.session) self.old.read piece.now) ∷ orders) result self.new began (held (A.written answers.new) (A.faults answers.new) (F.written frames.new) (F.faults frames.new)) }
         ensures fits { OnOk result (self.old.read + length piece.now ≤ most_script) }
         ensures lines { OnOk result (self.new.lines ≡ self.old.lines + 1) }
         ensures form { self.new.form ≡ self.old.form }
@@ -207,7 +215,7 @@ impl Run {
     {
         let opened = self.state.session.is_some();
         let line = judged(alloc, entries, opened, self.read, piece)?;
-        self.order(alloc, Order::Told(line), answers, frames)
+        self.order(alloc, Order::Told(line), Sight::Played, answers, frames)
     }
 
     /// Does what comes after the last piece: `draw` tells the newest stamp.
@@ -222,7 +230,10 @@ impl Run {
             LastEnds (ending self.old.form (lines_of self.old.form pieces)) result began (held (A.written answers.new) (A.faults answers.new) (F.written frames.new) (F.faults frames.new)) }
     {
         match self.form {
-            TextForm::Draw(_) => self.order(alloc, Order::Told(Line::Done), answers, frames),
+            TextForm::Draw(_) => {
+                let done = Order::Told(Line::Done);
+                self.order(alloc, done, Sight::Unplayed, answers, frames)
+            }
             TextForm::Script(_) => Ok(()),
         }
     }

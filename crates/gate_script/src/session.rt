@@ -9,17 +9,18 @@ use crate::halt::Halt;
 use crate::playing::{play_text, played};
 use crate::reply::{Numbers, Reply};
 use crate::seeing::{agree_with_first, are_same, dot_of, pixel_sum};
+use crate::sight::Sight;
 use canvas::Canvas;
 use desk_core::{
     Desk, FeedRefusal, JoinRefusal, NoMemory, ReadRefusal, ResizeRefusal, Setup, WriteRefusal,
     Written,
 };
-use gate_model::{Act, Asked, Cause, Share, Text, statuses};
+use gate_model::{Act, Asked, Cause, Faces, Share, Text, statuses};
 use script_lines::{Line, Reading, Size, Totals, read_acts};
 use std::alloc::Global;
 
-/// A desk, a place for each viewer that joined, with the canvas of one that is there, and what a viewer
-/// is given.
+/// A desk, and what a viewer is given. Where what viewers see is played, there is a place for each viewer that
+/// joined, with the canvas of one that is there.
 #[derive(Drop)]
 pub(crate) struct Session {
     pub desk: Desk,
@@ -32,8 +33,10 @@ impl Session {
     ghost use Rattle.gate_model.specs.session.History.{History};
     ghost use Rattle.script_lines.specs.declared.line.Line.TheVariants.{Acknowledge, Close, Done, Join, Leave, Pixel, Press, Read, Resize, Same, Server, Start, Take, Totals as TellTotals, Write};
     ghost use Rattle.script_lines.specs.Lines.{IsInRange};
-    ghost use Rattle.gate_script.specs.Calls.{CallEnds, IsAt, IsCall, IsOpenDesk, LeavesOpen, StartEnds, StaysOpen, WriteEnds, play};
-    ghost use Rattle.gate_script.specs.Seeing.{PlaysOn, TakesAway};
+    ghost use Rattle.gate_script.specs.declared.sight.Sight.{Sight as Sights};
+    ghost use Rattle.gate_script.specs.declared.sight.Sight.TheVariants.{Played};
+    ghost use Rattle.gate_script.specs.Calls.{CallEnds, IsAt, IsCall, IsOpenDesk, LeavesOpen, MaySee, StartEnds, StaysOpen, WriteEnds, play};
+    ghost use Rattle.gate_script.specs.Seeing.{AddsCanvas, PlaysOn, TakesAway};
 
     /// Opens a session at the moment `now`, of at most `entries` entries, and tells that it has started.
     pub(crate) fn start(
@@ -47,7 +50,7 @@ impl Session {
         requires size { IsScreenSize size.cols size.rows }
         requires some { 1 ≤ entries }
         requires few { entries ≤ most_entries }
-        ensures step { StartEnds (Start size mode entries) (play now []) result reply.old reply.new }
+        ensures step { (sight : Sights) → StartEnds sight (Start size mode entries) (play now []) result reply.old reply.new }
         ensures open { IfOk result (λ s. IsOpenDesk s.desk) }
     {
         let setup = setup_of(alloc, size, mode, entries)?;
@@ -60,22 +63,24 @@ impl Session {
         })
     }
 
-    /// Does a line that isn't one of a run alone, at the moment `now`.
+    /// Does a line that isn't one of a run alone, at the moment `now`. One that asks what viewers see needs it played.
     pub(crate) fn call(
         &mut self,
         alloc: Global,
         line: Line,
         now: u64,
+        sight: Sight,
         reply: &mut Reply,
     ) -> Result<(), Halt>
         requires call { IsCall line }
         requires range { IsInRange line }
-        ensures step { (h : History) → IsAt self.old h → CallEnds line (play now h) result self.new reply.old reply.new }
+        requires sees { MaySee sight line }
+        ensures step { (h : History) → IsAt sight self.old h → CallEnds sight line (play now h) result self.new reply.old reply.new }
         ensures open { OnOk result (LeavesOpen line self.old.desk self.new.desk) }
     {
         match line {
             Line::Server(bytes) => self.server(alloc, bytes.as_slice(), now, reply),
-            Line::Join(asked) => self.join(alloc, asked, reply),
+            Line::Join(asked) => self.join(alloc, asked, sight, reply),
             Line::Read(viewer) => self.read(viewer, reply),
             Line::Write(viewer, text) => self.write(alloc, viewer, text.as_slice(), reply),
             Line::Resize(viewer, size) => self.resize(alloc, viewer, size, reply),
@@ -102,7 +107,7 @@ impl Session {
     ) -> Result<(), Halt>
         requires some { 1 ≤ length bytes.now }
         requires few { length bytes.now ≤ 65536 }
-        ensures step { (h : History) → IsAt self.old h → CallEnds (Server bytes.now) (play now h) result self.new reply.old reply.new }
+        ensures step { (sight : Sights) (h : History) → IsAt sight self.old h → CallEnds sight (Server bytes.now) (play now h) result self.new reply.old reply.new }
         ensures open { OnOk result (StaysOpen 1 self.old.desk self.new.desk) }
     {
         match self.desk.feed(alloc, bytes, now) {
@@ -114,17 +119,20 @@ impl Session {
     }
 
     // A viewer joins, and asks for this.
-    fn join(&mut self, alloc: Global, asked: Asked, reply: &mut Reply) -> Result<(), Halt>
-        ensures step { (h : History) (now : ℕ) → IsAt self.old h → CallEnds (Join asked) (play now h) result self.new reply.old reply.new }
+    fn join(
+        &mut self,
+        alloc: Global,
+        asked: Asked,
+        sight: Sight,
+        reply: &mut Reply,
+    ) -> Result<(), Halt>
+        ensures step { (h : History) (now : ℕ) → IsAt sight self.old h → CallEnds sight (Join asked) (play now h) result self.new reply.old reply.new }
         ensures open { OnOk result (StaysOpen 0 self.old.desk self.new.desk) }
     {
         self.given.clear();
         match self.desk.join(asked, &mut self.given) {
             Ok(joined) => {
-                let canvas = played(alloc, &self.given)?;
-                if self.canvases.push(Some(canvas)).is_err() {
-                    return Err(Halt::NoMemory);
-                }
+                self.add_canvas(alloc, sight)?;
                 let numbers = [u64::from(joined.viewer), joined.stamp];
                 reply.report(joined.viewer, &self.given, "joined", &numbers)
             }
@@ -136,9 +144,27 @@ impl Session {
         }
     }
 
+    // Adds the canvas of a viewer who has joined, where what viewers see is played.
+    fn add_canvas(&mut self, alloc: Global, sight: Sight) -> Result<(), NoMemory>
+        ensures adds { sight ≡ Played → OnOk result (AddsCanvas self.old.canvases.items self.new.canvases.items self.old.given.items) }
+        ensures desk { self.new.desk ≡ self.old.desk }
+        ensures given { self.new.given ≡ self.old.given }
+    {
+        match sight {
+            Sight::Played => {
+                let canvas = played(alloc, &self.given)?;
+                if self.canvases.push(Some(canvas)).is_err() {
+                    return Err(NoMemory);
+                }
+                Ok(())
+            }
+            Sight::Unplayed => Ok(()),
+        }
+    }
+
     // The viewer reads.
     fn read(&mut self, viewer: u32, reply: &mut Reply) -> Result<(), Halt>
-        ensures step { (h : History) (now : ℕ) → IsAt self.old h → CallEnds (Read viewer) (play now h) result self.new reply.old reply.new }
+        ensures step { (sight : Sights) (h : History) (now : ℕ) → IsAt sight self.old h → CallEnds sight (Read viewer) (play now h) result self.new reply.old reply.new }
         ensures open { OnOk result (StaysOpen 0 self.old.desk self.new.desk) }
     {
         self.given.clear();
@@ -176,7 +202,7 @@ impl Session {
         text: &[u8],
         reply: &mut Reply,
     ) -> Result<(), Halt>
-        ensures { (h : History) (now : ℕ) → IsAt self.old h → CallEnds (Write viewer text.now) (play now h) result self.new reply.old reply.new }
+        ensures { (sight : Sights) (h : History) (now : ℕ) → IsAt sight self.old h → CallEnds sight (Write viewer text.now) (play now h) result self.new reply.old reply.new }
     {
         match read_acts(alloc, text)? {
             Reading::Whole { acts, passed } => {
@@ -198,7 +224,7 @@ impl Session {
         reply: &mut Reply,
     ) -> Result<(), Halt>
         requires { IsWrite acts.now }
-        ensures step { (h : History) (now : ℕ) → IsAt self.old h → WriteEnds viewer acts.now passed (play now h) result self.new reply.old reply.new }
+        ensures step { (sight : Sights) (h : History) (now : ℕ) → IsAt sight self.old h → WriteEnds sight viewer acts.now passed (play now h) result self.new reply.old reply.new }
         ensures open { OnOk result (StaysOpen 0 self.old.desk self.new.desk) }
     {
         match self.desk.write(alloc, viewer, acts) {
@@ -215,7 +241,7 @@ impl Session {
 
     // The viewer acknowledges the newest stamp.
     fn acknowledge(&mut self, alloc: Global, viewer: u32, reply: &mut Reply) -> Result<(), Halt>
-        ensures step { (h : History) (now : ℕ) → IsAt self.old h → CallEnds (Acknowledge viewer) (play now h) result self.new reply.old reply.new }
+        ensures step { (sight : Sights) (h : History) (now : ℕ) → IsAt sight self.old h → CallEnds sight (Acknowledge viewer) (play now h) result self.new reply.old reply.new }
         ensures open { OnOk result (StaysOpen 0 self.old.desk self.new.desk) }
     {
         let acts = [Act::Sync {
@@ -232,7 +258,7 @@ impl Session {
         keysym: u32,
         reply: &mut Reply,
     ) -> Result<(), Halt>
-        ensures { (h : History) (now : ℕ) → IsAt self.old h → CallEnds (Press viewer keysym) (play now h) result self.new reply.old reply.new }
+        ensures { (sight : Sights) (h : History) (now : ℕ) → IsAt sight self.old h → CallEnds sight (Press viewer keysym) (play now h) result self.new reply.old reply.new }
     {
         let acts = [Act::Key {
             keysym,
@@ -250,7 +276,7 @@ impl Session {
         reply: &mut Reply,
     ) -> Result<(), Halt>
         requires { IsScreenSize size.cols size.rows }
-        ensures { (h : History) (now : ℕ) → IsAt self.old h → CallEnds (Resize viewer size) (play now h) result self.new reply.old reply.new }
+        ensures { (sight : Sights) (h : History) (now : ℕ) → IsAt sight self.old h → CallEnds sight (Resize viewer size) (play now h) result self.new reply.old reply.new }
     {
         match self.desk.resize(alloc, viewer, size.cols, size.rows) {
             Ok(stamp) => reply.report(0, self.desk.newest_frame(), "sized", &[stamp]),
@@ -265,7 +291,7 @@ impl Session {
 
     // Takes the next bytes that wait for the host, at most so many, and tells them.
     fn take(&mut self, alloc: Global, most: u32, reply: &mut Reply) -> Result<(), Halt>
-        ensures { (h : History) (now : ℕ) → IsAt self.old h → CallEnds (Take most) (play now h) result self.new reply.old reply.new }
+        ensures { (sight : Sights) (h : History) (now : ℕ) → IsAt sight self.old h → CallEnds sight (Take most) (play now h) result self.new reply.old reply.new }
     {
         // Bytes enough wait to fill the buffer.
         let count = self.desk.pending().min(u64::from(most));
@@ -276,7 +302,7 @@ impl Session {
 
     // The viewer leaves, and its canvas goes.
     fn leave(&mut self, viewer: u32, reply: &mut Reply) -> Result<(), Halt>
-        ensures { (h : History) (now : ℕ) → IsAt self.old h → CallEnds (Leave viewer) (play now h) result self.new reply.old reply.new }
+        ensures { (sight : Sights) (h : History) (now : ℕ) → IsAt sight self.old h → CallEnds sight (Leave viewer) (play now h) result self.new reply.old reply.new }
     {
         match self.desk.leave(viewer) {
             Ok(()) => {
@@ -300,7 +326,7 @@ impl Session {
 
     // The session is stopped: it is closed, and its viewers may still read what they lack.
     fn close(&mut self, reply: &mut Reply) -> Result<(), Halt>
-        ensures { (h : History) (now : ℕ) → IsAt self.old h → CallEnds Close (play now h) result self.new reply.old reply.new }
+        ensures { (sight : Sights) (h : History) (now : ℕ) → IsAt sight self.old h → CallEnds sight Close (play now h) result self.new reply.old reply.new }
     {
         match self.desk.close(Cause::Stopped) {
             Ok(()) => reply.say("closed", &[]),
@@ -310,7 +336,7 @@ impl Session {
 
     // Tells the pixel at `x` and `y` of what the viewer sees.
     fn pixel(&mut self, viewer: u32, x: u64, y: u64, reply: &mut Reply) -> Result<(), Halt>
-        ensures { (h : History) (now : ℕ) → IsAt self.old h → CallEnds (Pixel viewer x y) (play now h) result self.new reply.old reply.new }
+        ensures { (h : History) (now : ℕ) → IsAt Played self.old h → CallEnds Played (Pixel viewer x y) (play now h) result self.new reply.old reply.new }
     {
         match dot_of(&self.canvases, viewer, x, y) {
             Some(dot) => reply.say_dot(dot),
@@ -320,7 +346,7 @@ impl Session {
 
     // Tells whether two viewers see the same in every layer.
     fn same(&mut self, one: u32, other: u32, reply: &mut Reply) -> Result<(), Halt>
-        ensures { (h : History) (now : ℕ) → IsAt self.old h → CallEnds (Same one other) (play now h) result self.new reply.old reply.new }
+        ensures { (h : History) (now : ℕ) → IsAt Played self.old h → CallEnds Played (Same one other) (play now h) result self.new reply.old reply.new }
     {
         match are_same(&self.canvases, one, other) {
             Some(true) => reply.say("same", &[]),
@@ -331,14 +357,14 @@ impl Session {
 
     // Tells the newest stamp.
     fn done(&mut self, reply: &mut Reply) -> Result<(), Halt>
-        ensures { (h : History) (now : ℕ) → IsAt self.old h → CallEnds Done (play now h) result self.new reply.old reply.new }
+        ensures { (sight : Sights) (h : History) (now : ℕ) → IsAt sight self.old h → CallEnds sight Done (play now h) result self.new reply.old reply.new }
     {
         reply.say("done", &[self.desk.stamp()])
     }
 
     // Tells these totals, and what the session and its viewers have come to.
     fn totals(&mut self, totals: Totals, reply: &mut Reply) -> Result<(), Halt>
-        ensures { (h : History) (now : ℕ) → IsAt self.old h → CallEnds (TellTotals totals) (play now h) result self.new reply.old reply.new }
+        ensures { (h : History) (now : ℕ) → IsAt Played self.old h → CallEnds Played (TellTotals totals) (play now h) result self.new reply.old reply.new }
     {
         let numbers = Numbers {
             totals,
@@ -360,6 +386,7 @@ fn setup_of(alloc: Global, size: Size, mode: Share, entries: u64) -> Result<Setu
         rows: size.rows,
         mode,
         term,
+        faces: Faces::Ascii,
         entries,
     })
 }

@@ -5,13 +5,14 @@ ghost use Rattle.std.specs.Option.{is_some};
 ghost use Rattle.script_lines.specs.declared.line.Line.TheVariants.{Bad};
 ghost use Rattle.script_lines.specs.Lines.{IsInRange, line_in};
 ghost use Rattle.script_lines.specs.Grammar.{in_place, is_start, starts};
-ghost use Rattle.gate_script.specs.Calls.{IsCall};
+ghost use Rattle.gate_script.specs.Calls.{IsCall, MaySee};
 ghost use Rattle.gate_script.specs.Plays.{Play};
 ghost use Rattle.gate_script.specs.Running.{LeavesOpen, LineEnds, OrderEnds, StandsAt};
 
 use crate::halt::Halt;
 use crate::reply::Reply;
 use crate::session::Session;
+use crate::sight::Sight;
 use script_lines::{Line, Order};
 use std::alloc::Global;
 
@@ -37,19 +38,20 @@ impl State {
     }
 
     /// Does an order, and then the reply is what it tells.
-    pub(crate) fn order(&mut self, alloc: Global, order: Order) -> Result<(), Halt>
+    pub(crate) fn order(&mut self, alloc: Global, order: Order, sight: Sight) -> Result<(), Halt>
         requires placed { in_place (is_some self.old.session) (line_in order) ≡ line_in order }
         requires range { IsInRange (line_in order) }
-        ensures step { (p : Play) → StandsAt p self.old.moment self.old.session → OrderEnds order p result self.new }
+        requires sees { MaySee sight (line_in order) }
+        ensures step { (p : Play) → StandsAt sight p self.old.moment self.old.session → OrderEnds sight order p result self.new }
         ensures opened { OnOk result (is_some self.new.session ≡ (starts order || is_some self.old.session)) }
         ensures sound { OnOk result (line_in order ≢ Bad) }
         ensures open { OnOk result (LeavesOpen (line_in order) self.old.session self.new.session) }
     {
         self.reply.clear();
         match order {
-            Order::Told(line) => self.line(alloc, line),
+            Order::Told(line) => self.line(alloc, line, sight),
             Order::Untold(line) => {
-                self.line(alloc, line)?;
+                self.line(alloc, line, sight)?;
                 self.reply.answer.clear();
                 Ok(())
             }
@@ -57,10 +59,11 @@ impl State {
     }
 
     // Does a line, and tells of it.
-    fn line(&mut self, alloc: Global, line: Line) -> Result<(), Halt>
+    fn line(&mut self, alloc: Global, line: Line, sight: Sight) -> Result<(), Halt>
         requires placed { in_place (is_some self.old.session) line ≡ line }
         requires range { IsInRange line }
-        ensures step { (p : Play) → StandsAt p self.old.moment self.old.session → LineEnds line p result self.new self.old.reply self.new.reply }
+        requires sees { MaySee sight line }
+        ensures step { (p : Play) → StandsAt sight p self.old.moment self.old.session → LineEnds sight line p result self.new self.old.reply self.new.reply }
         ensures opened { OnOk result (is_some self.new.session ≡ (is_start line || is_some self.old.session)) }
         ensures sound { OnOk result (line ≢ Bad) }
         ensures open { OnOk result (LeavesOpen line self.old.session self.new.session) }
@@ -78,16 +81,17 @@ impl State {
                 self.session = Some(session);
                 Ok(())
             }
-            line => self.call(alloc, line),
+            line => self.call(alloc, line, sight),
         }
     }
 
     // Calls the session, which has started.
-    fn call(&mut self, alloc: Global, line: Line) -> Result<(), Halt>
+    fn call(&mut self, alloc: Global, line: Line, sight: Sight) -> Result<(), Halt>
         requires call { IsCall line }
         requires placed { in_place (is_some self.old.session) line ≡ line }
         requires range { IsInRange line }
-        ensures step { (p : Play) → StandsAt p self.old.moment self.old.session → LineEnds line p result self.new self.old.reply self.new.reply }
+        requires sees { MaySee sight line }
+        ensures step { (p : Play) → StandsAt sight p self.old.moment self.old.session → LineEnds sight line p result self.new self.old.reply self.new.reply }
         ensures opened { OnOk result (is_some self.new.session ≡ (is_start line || is_some self.old.session)) }
         ensures open { OnOk result (LeavesOpen line self.old.session self.new.session) }
     {
@@ -95,6 +99,6 @@ impl State {
         let Some(session) = &mut self.session else {
             unreachable!()
         };
-        session.call(alloc, line, now, &mut self.reply)
+        session.call(alloc, line, now, sight, &mut self.reply)
     }
 }

@@ -5,7 +5,7 @@ ghost use Rattle.gate_model.specs.session.Steps.{IsSetup};
 ghost use Rattle.shared_desk.specs.Hosts.{IsFresh};
 
 use anyhow::{Result, bail};
-use gate_model::{Asked, Bytes, Setup, Share, Text};
+use gate_model::{Asked, Bytes, Faces, Setup, Share, Text};
 use shared_desk::{AnyPass, Desk, HostPass, JoinRefusal, Place, ReaderPass, WriterPass, share};
 use std::alloc::Global;
 use std::marker::Brand;
@@ -45,6 +45,7 @@ fn setup(alloc: Global, screen: Screen) -> Result<Setup>
         rows,
         mode: Share::Control,
         term,
+        faces: Faces::Ascii,
         entries: 1 << 40,
     })
 }

@@ -6,13 +6,14 @@ use Rattle.script_lines.specs.declared.order.Order.TheVariants.{Untold}
 use Rattle.gate_script.specs.declared.kind.Kind.{Kind}
 use Rattle.gate_script.specs.declared.load.Load.{Load}
 use Rattle.gate_script.specs.declared.stop.Stop.{Stop}
+use Rattle.gate_script.specs.declared.sight.Sight.TheVariants.{Played}
 use Rattle.gate_script.specs.Loading.{LoadEnds, counted}
 use Rattle.gate_script.specs.Sinks.{held}
 use Rattle.gate_script.proofs.LoadLaws.{line_stops, load_goes_on, may_be_placed, no_memory_before, no_memory_behind}
 use Rattle.gate_script.proofs.load.Load.line.Goals as goal
 
 pub order-requires : goal.order-requires
-order-requires g c = record { few = omega (arith, c.if-self-ge-MOST_ENTRIES.false); placed = may_be_placed (is_some c.args.self.now.run.state.session) c.args.line c.requires.follows; range = c.requires.range }
+order-requires g c = record { few = omega (arith, c.if-self-ge-MOST_ENTRIES.false); placed = may_be_placed (is_some c.args.self.now.run.state.session) c.args.line c.requires.follows; range = c.requires.range; sees = tt }
 
 pub returns-then-self-ge-MOST_ENTRIES-clause-step : goal.returns-then-self-ge-MOST_ENTRIES-clause-step
 returns-then-self-ge-MOST_ENTRIES-clause-step g c = λ orders began w.
@@ -35,7 +36,7 @@ returns-in-Some-clause-step g c = λ orders began w.
     let n = held (g.A.Sink.written c.order.new.answers) (g.A.Sink.faults c.order.new.answers) (g.F.Sink.written c.order.new.frames) (g.F.Sink.faults c.order.new.frames) in
     let go = c.in_ok-order.ensures.goes_on orders began w.at in
     load_goes_on orders c.args.line c.args.self.now began b n w c.requires.follows (record { run = c.order.new.self; totals = c.in-Some.totals }) go c.level-before.result c.level-after.result
-    (c.level-before.ensures w.at.play w.at.stands) (c.level-after.ensures go.next.play go.next.stands)
+    (c.level-before.ensures Played w.at.play w.at.stands) (c.level-after.ensures Played go.next.play go.next.stands)
     (c.in-Some.ensures ∙ ap (λ (k : Kind). counted c.args.self.now.totals k c.level-before.result c.level-after.result) c.kind_of-kind.ensures)
 
 pub returns-in-None-clause-step : goal.returns-in-None-clause-step

@@ -5,6 +5,7 @@ use Rattle.std.proofs.lemmas.Result.{err_from_is_err_and}
 use Rattle.script_lines.specs.declared.line.Line.TheVariants.{Take}
 use Rattle.script_lines.specs.declared.order.Order.{Order}
 use Rattle.gate_script.specs.declared.stop.Stop.{Stop}
+use Rattle.gate_script.specs.declared.sight.Sight.TheVariants.{Played}
 use Rattle.gate_script.specs.Loading.{LoadAt, TakesEnd, takes_behind}
 use Rattle.gate_script.specs.Sinks.{held}
 use Rattle.gate_script.proofs.LoadLaws.{no_memory_behind, none_waits, one_take_more, round_follows}
@@ -13,7 +14,7 @@ use Rattle.gate_script.proofs.load.Load.take_all.Goals as goal
 pub returns-then-level-eq0-clause-step : goal.returns-then-level-eq0-clause-step
 returns-then-level-eq0-clause-step g c = λ orders began w.
     let s = c.loop-taken.invariant.done orders began w in
-    (c.loop-taken._taken, record { stands = s; all_taken = none_waits c.level.result s.at.play.history (c.level.ensures s.at.play s.at.stands) c.if-level-eq0.true })
+    (c.loop-taken._taken, record { stands = s; all_taken = none_waits c.level.result s.at.play.history (c.level.ensures Played s.at.play s.at.stands) c.if-level-eq0.true })
 
 pub line-requires-clause-follows : goal.line-requires-clause-follows
 line-requires-clause-follows g c = round_follows (is_some c.loop-taken.self.run.state.session) (Take 65536) c.loop-taken.invariant.opened tt

@@ -7,7 +7,7 @@ use Rattle.gate_script.proofs.LoadLaws.{no_memory_totals, totals_placed, totals_
 use Rattle.gate_script.proofs.load.Load.tell.Goals as goal
 
 pub order-requires : goal.order-requires
-order-requires g c = record { few = omega (arith, c.if-self-ge-MOST_ENTRIES.false); placed = totals_placed c.args.self.now.totals (is_some c.args.self.now.run.state.session) c.requires.open; range = tt }
+order-requires g c = record { few = omega (arith, c.if-self-ge-MOST_ENTRIES.false); placed = totals_placed c.args.self.now.totals (is_some c.args.self.now.run.state.session) c.requires.open; range = tt; sees = tt }
 
 pub returns-then-self-ge-MOST_ENTRIES : goal.returns-then-self-ge-MOST_ENTRIES
 returns-then-self-ge-MOST_ENTRIES g c = λ orders began w.

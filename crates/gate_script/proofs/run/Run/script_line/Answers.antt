@@ -6,6 +6,7 @@ use Rattle.script_lines.specs.declared.order.Order.TheVariants.{Told}
 use Rattle.script_lines.specs.Grammar.{judged}
 use Rattle.gate_script.specs.declared.stop.Stop.{Stop}
 use Rattle.gate_script.specs.declared.stop.Stop.TheVariants.{NoMemory}
+use Rattle.gate_script.specs.declared.sight.Sight.TheVariants.{Played}
 use Rattle.gate_script.specs.Sinks.{held}
 use Rattle.gate_script.specs.Running.{Ends}
 use Rattle.gate_script.proofs.RunLaws.{none_done}
@@ -16,4 +17,4 @@ returns-in_err-line-clause-step g c = λ orders began at.
     let p = err_from_is_err_and c.from_residual.result c.from_residual.ensures.1 in
     let e : c.from_residual.result ≡ Err NoMemory = p.1 ∙ ap (λ (s : Stop). Err s) p.2 in
     let order = Told (judged c.args.entries (is_some c.args.self.now.state.session) c.args.self.now.read c.args.piece.now) in
-    subst (λ (x : Result (Unit {0}) Stop). Ends (order ∷ orders) x c.args.self.now began (held (g.A.Sink.written c.args.answers.now) (g.A.Sink.faults c.args.answers.now) (g.F.Sink.written c.args.frames.now) (g.F.Sink.faults c.args.frames.now))) (sym e) (none_done orders c.args.self.now began (held (g.A.Sink.written c.args.answers.now) (g.A.Sink.faults c.args.answers.now) (g.F.Sink.written c.args.frames.now) (g.F.Sink.faults c.args.frames.now)) at (order ∷ []))
+    subst (λ (x : Result (Unit {0}) Stop). Ends Played (order ∷ orders) x c.args.self.now began (held (g.A.Sink.written c.args.answers.now) (g.A.Sink.faults c.args.answers.now) (g.F.Sink.written c.args.frames.now) (g.F.Sink.faults c.args.frames.now))) (sym e) (none_done Played orders c.args.self.now began (held (g.A.Sink.written c.args.answers.now) (g.A.Sink.faults c.args.answers.now) (g.F.Sink.written c.args.frames.now) (g.F.Sink.faults c.args.frames.now)) at (order ∷ []))

@@ -16,14 +16,14 @@ use Rattle.gate_script.proofs.SessionLaws.{read_refused, read_done, read_is_worn
 use Rattle.gate_script.proofs.session.Session.read.Goals as goal
 
 pub returns-in_err-play_given-in-Ok-clause-step : goal.returns-in_err-play_given-in-Ok-clause-step
-returns-in_err-play_given-in-Ok-clause-step c = λ h now at.
+returns-in_err-play_given-in-Ok-clause-step c = λ sight h now at.
     let p = err_from_is_err_and c.from_residual.result c.from_residual.ensures.1 in
     let e : c.from_residual.result ≡ Err NoMemory = p.1 ∙ ap (λ (s : Halt). Err s) p.2 in
     rw e tt
 
 pub returns-in_ok-play_given-in-Ok-clause-step : goal.returns-in_ok-play_given-in-Ok-clause-step
-returns-in_ok-play_given-in-Ok-clause-step c = λ h now at.
-    read_done now c.args.self.now c.args.reply.now c.say_read.new.self h at c.args.viewer c.in-Ok.answer
+returns-in_ok-play_given-in-Ok-clause-step c = λ sight h now at.
+    read_done sight now c.args.self.now c.args.reply.now c.say_read.new.self h at c.args.viewer c.in-Ok.answer
     record { desk = c.read.new.self; canvases = c.args.self.now.canvases; given = c.read.new.into } c.play_given.new.self c.clear.new.self.items c.deref.result.now
     (record {
       none = c.clear.ensures.items;
@@ -42,8 +42,8 @@ returns-in_ok-play_given-in-Ok-clause-open c = on_ok c.say_read.result (StaysOpe
     (λ o. read_open c.args.self.now.desk c.read.new.self o c.args.viewer c.in-Ok.answer c.clear.new.self.items c.read.new.into.items c.in-Ok.ensures.step c.in-Ok.ensures.unchanged) o)
 
 pub returns-in-Err-NoViewer-clause-step : goal.returns-in-Err-NoViewer-clause-step
-returns-in-Err-NoViewer-clause-step c = λ h now at.
-    read_refused now c.args.self.now c.args.reply.now c.refuse.new.self h at c.args.viewer NoViewer (refused_line not_found)
+returns-in-Err-NoViewer-clause-step c = λ sight h now at.
+    read_refused sight now c.args.self.now c.args.reply.now c.refuse.new.self h at c.args.viewer NoViewer (refused_line not_found)
     record { desk = c.read.new.self; canvases = c.args.self.now.canvases; given = c.read.new.into } c.clear.new.self.items c.read.new.into.items
     (subst (λ (e : ReadRefusal). Ended h (read_as c.args.viewer) (read_answer (Err e)) c.args.self.now.desk c.read.new.self c.clear.new.self.items c.read.new.into.items) c.in-Err-NoViewer.field-0-is (c.in-Err-NoViewer.ensures.step h at.stands)) refl c.in-Err-NoViewer.ensures.unchanged refl c.refuse.result c.refuse.ensures
 
@@ -51,5 +51,5 @@ pub returns-in-Err-NoViewer-clause-open : goal.returns-in-Err-NoViewer-clause-op
 returns-in-Err-NoViewer-clause-open c = stays c.refuse.result c.args.self.now.desk c.read.new.self c.in-Err-NoViewer.ensures.unchanged
 
 pub returns-in-Err-Worn-clause-step : goal.returns-in-Err-Worn-clause-step
-returns-in-Err-Worn-clause-step c = λ h now at.
-    read_is_worn now c.args.self.now c.args.reply.now c.args.reply.now h at c.args.viewer c.in-Err-Worn.entries c.read.new.self c.clear.new.self.items c.read.new.into.items (subst (λ (e : ReadRefusal). Ended h (read_as c.args.viewer) (read_answer (Err e)) c.args.self.now.desk c.read.new.self c.clear.new.self.items c.read.new.into.items) c.in-Err-Worn.field-0-is (c.in-Err-Worn.ensures.step h at.stands))
+returns-in-Err-Worn-clause-step c = λ sight h now at.
+    read_is_worn sight now c.args.self.now c.args.reply.now c.args.reply.now h at c.args.viewer c.in-Err-Worn.entries c.read.new.self c.clear.new.self.items c.read.new.into.items (subst (λ (e : ReadRefusal). Ended h (read_as c.args.viewer) (read_answer (Err e)) c.args.self.now.desk c.read.new.self c.clear.new.self.items c.read.new.into.items) c.in-Err-Worn.field-0-is (c.in-Err-Worn.ensures.step h at.stands))
