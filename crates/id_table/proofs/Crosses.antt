@@ -27,7 +27,7 @@ mutex_send T t = search (crosses, t) depth 10
 pub mutex_sync : (T : RattleType) → IsSend T → IsSync (mutex.the_row T)
 mutex_sync T t = search (crosses, t) depth 10
 
-table_send : (V : RattleType) → IsSend V → IsSend (table.the_row V)
+pub table_send : (V : RattleType) → IsSend V → IsSend (table.the_row V)
 table_send V v =
     let values = btree.the_field uuid.the_row V Heap.the_row uuid_ord.ghosts uuid_eq.ghosts uuid_partial.ghosts ghosts in
     declared_send (table.the_type V) (as_row_send values (maps.BTreeMap-send uuid.the_row V uuid_ord.ghosts uuid_eq.ghosts uuid_partial.ghosts (search (sendable, crosses) depth 20) v), tt)

@@ -1,0 +1,4 @@
+use Rattle.link_rows.proofs.desks.opened.Given as goal
+
+abbrev pub ghosts-share : goal.ghosts-share
+ghosts-share a = record { list = a.desk.past }

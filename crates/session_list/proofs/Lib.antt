@@ -1,0 +1,2 @@
+-- What threads share may go to other threads.
+pub mod Crosses

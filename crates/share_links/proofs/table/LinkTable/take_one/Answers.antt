@@ -1,0 +1,10 @@
+use Rattle.std.proofs.Common.{sym, ap, ◌∙◌, refl}
+use Rattle.std.specs.Option.{option_copied_mut}
+use Rattle.id_table.proofs.Apart.{from_some}
+use Rattle.share_links.proofs.table.LinkTable.take_one.Goals as goal
+
+pub returns-in-Some : goal.returns-in-Some
+returns-in-Some c =
+    let at = sym c.get_mut.ensures.value ∙ ap option_copied_mut c.in-Some.is in
+    let w = from_some _ _ _ c.in-Some.is (c.get_mut.follows.holds _) in
+    (c.in-Some.it.now, _, at, record { id = refl; control = refl; uses = refl; left_is = c.saturating_sub-it.ensures; revoked = refl }, (w.0, w.1))
