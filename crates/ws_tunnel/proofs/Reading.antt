@@ -92,7 +92,7 @@ not_some (x ∷ xs) e = absurd (true≢false e)
 
 closing_as : (g : History) (closed : Bool) → is_closed g ≡ closed → is_some_list (closing g) ≡ closed
 closing_as [] closed e = e
-closing_as (Start c r m t n s f ∷ g) closed e = closing_as g closed e
+closing_as (Start c r m t k n s f ∷ g) closed e = closing_as g closed e
 closing_as (Feed b s f ∷ g) closed e = closing_as g closed e
 closing_as (Size w c r s f ∷ g) closed e = closing_as g closed e
 closing_as (Join w role first ∷ g) closed e = closing_as g closed e
@@ -188,7 +188,7 @@ are_reads viewer reads (inr one) = subst (AreReads viewer) (sym one.1) (refl, tt
 pub reads_more : (viewer : ℕ) (es fs : List Entry) → AreReads viewer es → AreReads viewer fs → AreReads viewer (es ++ fs)
 reads_more viewer [] fs a b = b
 reads_more viewer (Read v how ∷ es) fs a b = (a.0, reads_more viewer es fs a.1 b)
-reads_more viewer (Start c r m t n s f ∷ es) fs a b = absurd a
+reads_more viewer (Start c r m t k n s f ∷ es) fs a b = absurd a
 reads_more viewer (Feed bs s f ∷ es) fs a b = absurd a
 reads_more viewer (Size v c r s f ∷ es) fs a b = absurd a
 reads_more viewer (Join v r f ∷ es) fs a b = absurd a

@@ -30,7 +30,7 @@ either_live false b c e = inr (and_left b c e)
 
 -- who is there has joined
 live_next : (v : ℕ) (e : Entry) (h : History) → IsNext h e → (is_live h v ≡ true → v ≤ joined h) → is_live (e ∷ h) v ≡ true → v ≤ joined (e ∷ h)
-live_next v (Start c r m t n s f) h is ih live = absurd is
+live_next v (Start c r m t k n s f) h is ih live = absurd is
 live_next v (Feed b s f) h is ih live = ih (and_left (is_live h v) true live)
 live_next v (Size w c r s f) h is ih live = ih (and_left (is_live h v) true live)
 live_next v (Join w role first) h is ih live = by (either_live (w == v) (is_live h v) true live)
@@ -50,7 +50,7 @@ live_joined v (e ∷ []) legal live = absurd (let none : is_live (e ∷ []) v �
 live_joined v (e ∷ f ∷ g) legal live = live_next v e (f ∷ g) (next e f g legal) (λ old. live_joined v (f ∷ g) legal.0 old) live
 
 fewer : (v : ℕ) (e : Entry) (h : History) → joined (e ∷ h) < v → joined h < v
-fewer v (Start c r m t n s f) h few = few
+fewer v (Start c r m t k n s f) h few = few
 fewer v (Feed b s f) h few = few
 fewer v (Size w c r s f) h few = few
 fewer v (Join w role first) h few = omega (arith, few)
@@ -61,7 +61,7 @@ fewer v (Leave w) h few = few
 fewer v (Close c) h few = few
 
 none_next : (v : ℕ) (e : Entry) (h : History) → IsNext h e → ((w : ℕ) → is_live h w ≡ true → w ≤ joined h) → joined h < v → farewell_to h v ≡ [] → farewell_to (e ∷ h) v ≡ []
-none_next v (Start c r m t n s f) h is joins few so_far = append-nil (farewell_to h v) ∙ so_far
+none_next v (Start c r m t k n s f) h is joins few so_far = append-nil (farewell_to h v) ∙ so_far
 none_next v (Feed b s f) h is joins few so_far = append-nil (farewell_to h v) ∙ so_far
 none_next v (Size w c r s f) h is joins few so_far = append-nil (farewell_to h v) ∙ so_far
 none_next v (Join w role first) h is joins few so_far = append-nil (farewell_to h v) ∙ so_far

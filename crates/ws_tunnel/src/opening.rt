@@ -62,6 +62,8 @@ where
     ensures fresh { IfOk result (λ welcome. IsFresh welcome.place welcome.first) }
     ensures fault { IfErr result (λ end. end ≡ ends.LinkFault → Rose (M.faults link.old) (M.faults link.new)) }
     ensures later { M.faults link.old ≤ M.faults link.new }
+    ensures later_dials { D.dial_faults door.old ≤ D.dial_faults door.new }
+    ensures later_starts { D.start_faults door.old ≤ D.start_faults door.new }
 {
     match receive(rt, alloc, link) {
         Ok(form) => open_for(rt, alloc, link, &form, door),
@@ -86,6 +88,8 @@ where
     ensures fresh { IfOk result (λ welcome. IsFresh welcome.place welcome.first) }
     ensures fault { IfErr result (λ end. end ≡ ends.LinkFault → Rose (M.faults link.old) (M.faults link.new)) }
     ensures later { M.faults link.old ≤ M.faults link.new }
+    ensures later_dials { D.dial_faults door.old ≤ D.dial_faults door.new }
+    ensures later_starts { D.start_faults door.old ≤ D.start_faults door.new }
 {
     match open_form(rt, alloc, form, door) {
         Ok(welcome) => Ok(welcome),

@@ -228,6 +228,8 @@ where
     ensures out { D.out door.new ≡ with_place result.place (D.out door.old) }
     ensures fault { result.end ≡ ends.LinkFault → Rose (M.faults link.old) (M.faults link.new) }
     ensures later { M.faults link.old ≤ M.faults link.new }
+    ensures later_dials { D.dial_faults door.old ≤ D.dial_faults door.new }
+    ensures later_starts { D.start_faults door.old ≤ D.start_faults door.new }
 {
     match open(rt, alloc, link, door) {
         Ok(welcome) => admit(rt, alloc, link, welcome, bell),
