@@ -9,7 +9,7 @@
 use anyhow::{Context, Result};
 use desk_core::{Desk, NoMemory, Setup};
 use gate_model::limits::MOST_PIECE;
-use gate_model::{Asked, Share, Text};
+use gate_model::{Asked, Faces, Share, Text};
 use std::alloc::Global;
 use std::env;
 use std::io::Read;
@@ -66,6 +66,7 @@ fn opened(alloc: Global) -> Result<Desk, NoMemory> {
         rows: 24,
         mode: Share::Control,
         term,
+        faces: Faces::Ascii,
         entries: 1 << 40,
     };
     Desk::start(alloc, setup, 0)

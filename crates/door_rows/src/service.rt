@@ -4,6 +4,7 @@ ghost use Rattle.service_door.specs.Sessions.{NoneLent};
 
 use crate::calls::{DRAW, ROOM, sink, source};
 use anyhow::{Context, Result};
+use gate_model::Faces;
 use gate_outside::{
     Helper, MemBell, MemClock, MemDialer, MemDice, MemHelper, MemSink, MemSource, MemSpawner,
 };
@@ -85,7 +86,7 @@ fn at_door<R: Threads + Wait + Copy + Send + 'static, T: Shelf<Session>, H: Help
     requires { NoneLent (T.told sessions.old) }
 {
     let bell = MemBell::new();
-    let mut door = ServiceDoor::new(sessions, helper, &bell, None);
+    let mut door = ServiceDoor::new(sessions, helper, &bell, None, Faces::Ascii);
     greet_all(rt, alloc, clients, &mut door)
 }
 

@@ -17,14 +17,19 @@ use Rattle.uuid.specs.contracts.Uuid as uuid
 use Rattle.uuid.specs.contracts.UuidOrd.TheImpl as uuid_ord
 use Rattle.uuid.specs.contracts.UuidPartialEq.TheImpl as uuid_eq
 use Rattle.uuid.specs.contracts.UuidPartialOrd.TheImpl as uuid_partial
-use Rattle.id_table.proofs.Crosses.{locked_send, mutex_send, mutex_sync, option_send}
+use Rattle.id_table.proofs.Crosses.{locked_send, mutex_send, mutex_sync, option_send, table_send}
 use Rattle.http_tunnel.proofs.Crosses.{tunnel_send}
 use Rattle.http_tunnel.specs.contracts.tunnel.Tunnel as tunnel
 use Rattle.service_door.proofs.Crosses.{field_send, session_send}
 use Rattle.service_door.specs.contracts.session.Session as session
+use Rattle.share_links.specs.contracts.link.Link as link
+use Rattle.share_links.specs.contracts.table.LinkTable as links
+use Rattle.session_list.proofs.Crosses.{list_send, traffic_send}
+use Rattle.gate_model.specs.contracts.faces.Faces as faces
 use Rattle.gate_service.specs.contracts.jobs.ConnectionJob as connection
 use Rattle.gate_service.specs.contracts.jobs.Pair as pair
 use Rattle.gate_service.specs.contracts.jobs.RecorderAddress as address
+use Rattle.gate_service.specs.contracts.jobs.Tally as tally
 use Rattle.gate_service.specs.contracts.paging.Page as page
 use Rattle.gate_service.specs.contracts.seen.Seen as seen
 use Rattle.gate_service.specs.contracts.seen.WatchedShelf as watched
@@ -54,12 +59,29 @@ seen_send = declared_send seen.the_type (Arc-send _ (mutex_send _ looks_send) (m
 watched_send : IsSend watched.the_row
 watched_send = declared_send watched.the_type (locked_send tunnel.the_row tunnel_send, (option_send seen.the_row seen_send, tt))
 
+-- the links
+link_send : IsSend link.the_row
+link_send = search (sendable, crosses) depth 20
+
+links_send : IsSend links.the_row
+links_send = declared_send links.the_type (table_send link.the_row link_send, tt)
+
+shared_links_send : IsSend (mutex.the_row links.the_row)
+shared_links_send = mutex_send links.the_row links_send
+
 -- the page
 page_send : IsSend page.the_row
 page_send = search (sendable, crosses) depth 20
 
 page_sync : IsSync page.the_row
 page_sync = search (sendable, crosses) depth 20
+
+-- where a connection is counted
+tally_send : IsSend tally.the_row
+tally_send = declared_send tally.the_type (list_send, (traffic_send, (traffic_send, tt)))
+
+faces_send : IsSend faces.the_row
+faces_send = search sendable depth 20
 
 pub connection_send : (S K H B L : RattleType) → IsSend S → IsSend K → IsSend H → IsSend B → IsSend L → IsSend (connection.the_row S K H B L)
 connection_send S K H B L s k h b l =
@@ -69,7 +91,7 @@ connection_send S K H B L s k h b l =
         Arc-send (mutex.the_row (option.the_row (pair.the_row S K))) (ends_send S K s k) (ends_sync S K s k),
         (
           locked_send session.the_row session_send,
-          (watched_send, (field_send H h, (field_send H h, (field_send B b, (option_send address.the_row address_send, (option_send _ (Arc-send page.the_row page_send page_sync), (field_send L l, tt))))))),
+          (watched_send, (Arc-send (mutex.the_row links.the_row) shared_links_send (mutex_sync links.the_row links_send), (field_send H h, (field_send H h, (field_send B b, (option_send address.the_row address_send, (faces_send, (option_send _ (Arc-send page.the_row page_send page_sync), (field_send L l, (tally_send, tt)))))))))),
         ),
       ),
     )
@@ -81,7 +103,7 @@ tidy_send H B L h b l =
       search (sendable, crosses),
       (
         locked_send session.the_row session_send,
-        (watched_send, (field_send H h, (field_send H h, (field_send B b, (search (sendable, crosses), (search (sendable, crosses), (field_send L l, tt))))))),
+        (watched_send, (Arc-send (mutex.the_row links.the_row) shared_links_send (mutex_sync links.the_row links_send), (field_send H h, (field_send H h, (field_send B b, (search (sendable, crosses), (search (sendable, crosses), (field_send L l, (list_send, tt))))))))),
       ),
     )
 

@@ -3,8 +3,6 @@ mod Looks
 mod Typed
 mod Fronts
 mod Beginning
--- A request that is due no response.
-mod Replying
 -- Why a connection ended.
 mod Caused
 -- What the jobs have may go to other threads.

@@ -11,7 +11,8 @@ use Rattle.user_serve.specs.Users as user
 use Rattle.user_serve.specs.declared.ends.UserEnd.{UserEnd}
 use Rattle.gate_service.specs.Requests.{HttpRun, IsHttpCaused, OnSilent}
 use Rattle.gate_service.specs.declared.routing.ConnEnd.{ConnEnd}
-use Rattle.gate_service.specs.declared.routing.ConnEnd.TheVariants.{User, Http, Ended, ReadFault, NoMemory}
+use Rattle.gate_service.specs.declared.routing.ConnEnd.TheVariants.{User, Http, Ws, Ended, ReadFault, NoMemory}
+use Rattle.ws_tunnel.specs.declared.ends.WsRun.{WsRun}
 
 -- the first byte, where the source tells what is left
 abbrev pub Begins : (ℕ → Type 0) → Option (List ℕ) → Type 0
@@ -21,10 +22,11 @@ Begins P left = IfSome left (λ bytes. (first : ℕ) × (more : List ℕ) × (by
 -- begins with a digit: then the bytes that were given, in which what is pasted stands as keys, and those that were
 -- written are the viewer's; or for want of memory none were given, and a front of the `error` of 512 was written. It is
 -- HTTP where it begins with another byte, and then they are those of one request, as it came, and of the response that
--- is due for it. At every other end there were none
+-- is due for it. Of what messages came by nothing is said here. At every other end there were none
 abbrev pub ConnRun : (Incoming → Response → Type 0) → Option (List ℕ) → Option (List ℕ) → Option (List ℕ) → ConnEnd → List ℕ → List ℕ → Type 0
 ConnRun due before typed left (User end) read written = Begins IsDigit before × (typed ≡ came read left) × UserRun left end read written
 ConnRun due before typed left (Http end) read written = Begins (λ first. IsDigit first → ⊥) before × (before ≡ came read left) × HttpRun due end read written
+ConnRun due before typed left (Ws run) read written = ⊥
 ConnRun due before typed left Ended read written = AtEnd before × (before ≡ left) × (read ≡ []) × (written ≡ [])
 ConnRun due before typed left ReadFault read written = (before ≡ left) × (read ≡ []) × (written ≡ [])
 ConnRun due before typed left NoMemory read written = Begins IsDigit before × (before ≡ left) × (read ≡ []) × BeginsWith (error_text 512) written
@@ -33,6 +35,7 @@ ConnRun due before typed left NoMemory read written = Begins IsDigit before × (
 abbrev pub IsCaused : Type 0 → Type 0 → Type 0 → (ℕ → Type 0) → ConnEnd → Type 0
 IsCaused read_failed write_failed at_end refuses (User end) = user.IsCaused read_failed write_failed refuses end
 IsCaused read_failed write_failed at_end refuses (Http end) = IsHttpCaused read_failed write_failed at_end end
+IsCaused read_failed write_failed at_end refuses (Ws run) = Unit {0}
 IsCaused read_failed write_failed at_end refuses Ended = Unit {0}
 IsCaused read_failed write_failed at_end refuses ReadFault = read_failed
 IsCaused read_failed write_failed at_end refuses NoMemory = Unit {0}
@@ -41,15 +44,35 @@ IsCaused read_failed write_failed at_end refuses NoMemory = Unit {0}
 abbrev pub IfUser : ConnEnd → (UserEnd → Type 0) → Type 0
 IfUser (User end) F = F end
 IfUser (Http end) F = Unit {0}
+IfUser (Ws run) F = Unit {0}
 IfUser Ended F = Unit {0}
 IfUser ReadFault F = Unit {0}
 IfUser NoMemory F = Unit {0}
 
--- what a connection left alone, of the sink, the door and the rest: a viewer's the rest, one that was served nothing all of
+-- a fact of an end at which messages were served
+abbrev pub IfMessages : ConnEnd → (WsRun → Type 0) → Type 0
+IfMessages (Ws run) F = F run
+IfMessages (User end) F = Unit {0}
+IfMessages (Http end) F = Unit {0}
+IfMessages Ended F = Unit {0}
+IfMessages ReadFault F = Unit {0}
+IfMessages NoMemory F = Unit {0}
+
+-- .. and of every other
+abbrev pub UnlessMessages : ConnEnd → Type 0 → Type 0
+UnlessMessages (Ws run) P = Unit {0}
+UnlessMessages (User end) P = P
+UnlessMessages (Http end) P = P
+UnlessMessages Ended P = P
+UnlessMessages ReadFault P = P
+UnlessMessages NoMemory P = P
+
+-- what a connection left alone, of the sink, the door and the rest: a viewer's and one of messages the rest, one that was served nothing all of
 -- them, and one that was refused for want of memory the door and the rest
 abbrev pub LeavesAlone : Type 0 → Type 0 → Type 0 → ConnEnd → Type 0
 LeavesAlone sink door rest (User end) = rest
 LeavesAlone sink door rest (Http end) = OnSilent end (sink × door × rest)
+LeavesAlone sink door rest (Ws run) = rest
 LeavesAlone sink door rest Ended = sink × door × rest
 LeavesAlone sink door rest ReadFault = sink × door × rest
 LeavesAlone sink door rest NoMemory = door × rest

@@ -1,9 +1,9 @@
 -- What a connection that isn't a viewer's read and wrote: one request, and one response (this project's own).
-use Rattle.std.specs.Prelude.{◌≡◌, ◌≤◌, ◌⊎◌, ℕ, List, [], length, take, Option}
+use Rattle.std.specs.Prelude.{◌≡◌, ◌≤◌, ◌⊎◌, ℕ, List, [], length, take, Option, Bool, true, false}
 use Rattle.guac_handshake.specs.Doors.{Sessions}
 use Rattle.guac_handshake.specs.declared.request.Request.{Request as DoorRequest}
 use Rattle.guac_handshake.specs.declared.welcome.Welcome.{Welcome}
-use Rattle.http_front.specs.Requests.{IsUnfinished, Receives}
+use Rattle.http_front.specs.Requests.{Receives}
 use Rattle.http_front.specs.Responses.{response_text}
 use Rattle.http_front.specs.declared.request.Incoming.{Incoming}
 use Rattle.http_front.specs.declared.request.Incoming.TheVariants as incoming
@@ -12,8 +12,12 @@ use Rattle.http_front.specs.declared.response.Response.{Response}
 use Rattle.http_tunnel.specs.Requests.{IsResponse, Serves}
 use Rattle.http_tunnel.specs.Routes.{route_of}
 use Rattle.http_tunnel.specs.declared.tunnel.Tunnel.{Tunnel}
-use Rattle.id_table.specs.Maps.{Shelved}
+use Rattle.id_table.specs.Maps.{Map, Shelved}
+use Rattle.share_links.specs.Requests as link
+use Rattle.share_links.specs.Routes.{is_links_path, route_of as link_route}
+use Rattle.share_links.specs.declared.link.Link.{Link}
 use Rattle.shared_desk.specs.declared.place.Place.{Place}
+use Rattle.gate_service.specs.Messages.{asks_messages}
 use Rattle.gate_service.specs.declared.requests.HttpEnd.{HttpEnd}
 use Rattle.gate_service.specs.declared.requests.HttpEnd.TheVariants.{Answered, Ended, ReadFault, WriteFault, NoMemory}
 
@@ -28,33 +32,31 @@ IsAnswer id_of sessions sessions_new draws gives asked asked_new out out_new dra
 abbrev pub IsRefusal : ℕ → ℕ → Response → Type 0
 IsRefusal status code response = (response.status ≡ status) × (response.code ≡ code) × (response.body ≡ [])
 
--- the response that is due for what came: for a whole request one that answers it; else the refusal, or that of want
--- of memory, and then nothing else was done. Bytes that ended early are due none
-abbrev pub IsDue : (Request → Response → Type 0) → Type 0 → Incoming → Response → Type 0
-IsDue answers idle (incoming.Whole request) response = answers request response
-IsDue answers idle (incoming.Refused status) response = IsRefusal status 768 response × idle
-IsDue answers idle incoming.Ended response = ⊥
-IsDue answers idle incoming.ReadFault response = ⊥
-IsDue answers idle incoming.NoMemory response = IsRefusal 500 512 response × idle
+-- the response meets the contract of `link_request` for the whole request, by what the door tells and what the dice draw
+-- next; of what the table of links held nothing is said
+abbrev pub IsLinkAnswer : (List ℕ → Option (List ℕ)) → Option Sessions → Option (ℕ → List ℕ) → Request → Response → Type 0
+IsLinkAnswer id_of sessions drawn request response =
+    (answered : _) × (links : Map Link) × (links_new : Map Link) × link.IsResponse answered response × link.Serves id_of sessions drawn request.body.now links links_new answered (link_route request.method request.target.now)
 
--- the bytes that were read are those of one request, and what was written came of the response that is due for it
-abbrev pub Replies : (Incoming → Response → Type 0) → (Response → Type 0) → List ℕ → Type 0
-Replies due wrote read = (came : Incoming) × (response : Response) × Receives read came × due came response × wrote response
+-- one of two, by whether a path is that of links
+abbrev pub ByPath : Bool → Type 0 → Type 0 → Type 0
+ByPath true links other = links
+ByPath false links other = other
+
+-- the response that is due for what came: for a whole request one that answers it, as a request for links or for tunnels;
+-- else the refusal, or that of want of memory, and then nothing else was done. Bytes that ended early are due none
+abbrev pub IsDue : (Request → Response → Type 0) → (Request → Response → Type 0) → Type 0 → Incoming → Response → Type 0
+IsDue shares answers idle (incoming.Whole request) response = ByPath (is_links_path request.target.now) (shares request response) (answers request response)
+IsDue shares answers idle (incoming.Refused status) response = IsRefusal status 768 response × idle
+IsDue shares answers idle incoming.Ended response = ⊥
+IsDue shares answers idle incoming.ReadFault response = ⊥
+IsDue shares answers idle incoming.NoMemory response = IsRefusal 500 512 response × idle
 
 -- some front of the text
 abbrev pub IsFront : List ℕ → List ℕ → Type 0
 IsFront written text = (n : ℕ) × (n ≤ length text) × (written ≡ take n text)
 
--- the response is written whole where its status is told, and a front of it where a write failed; at every other end
--- nothing is written
-abbrev pub HttpRun : (Incoming → Response → Type 0) → HttpEnd → List ℕ → List ℕ → Type 0
-HttpRun due (Answered status) read written = Replies due (λ response. (response.status ≡ status) × (written ≡ response_text response)) read
-HttpRun due WriteFault read written = Replies due (λ response. IsFront written (response_text response)) read
-HttpRun due NoMemory read written = Replies due (λ response. written ≡ []) read
-HttpRun due Ended read written = IsUnfinished read × (written ≡ [])
-HttpRun due ReadFault read written = IsUnfinished read × (written ≡ [])
-
--- .. the part of it that is written
+-- what of a response is written: all of it where its status is told, and a front of it where a write failed
 abbrev pub Wrote : Response → HttpEnd → List ℕ → Type 0
 Wrote response (Answered status) written = (response.status ≡ status) × (written ≡ response_text response)
 Wrote response WriteFault written = IsFront written (response_text response)
@@ -65,6 +67,14 @@ Wrote response ReadFault written = ⊥
 -- why bytes are due no response
 abbrev pub IsSilent : Incoming → HttpEnd → Type 0
 IsSilent came end = ((came ≡ incoming.Ended) × (end ≡ Ended)) ⊎ ((came ≡ incoming.ReadFault) × (end ≡ ReadFault))
+
+-- the response that is due for what came is written; or none is due, and nothing is
+abbrev pub HasAnswered : (Incoming → Response → Type 0) → Incoming → HttpEnd → List ℕ → Type 0
+HasAnswered due came end written = ((response : Response) × due came response × Wrote response end written) ⊎ (IsSilent came end × (written ≡ []))
+
+-- the bytes that were read are those of one request, which doesn't ask for messages, and it was answered
+abbrev pub HttpRun : (Incoming → Response → Type 0) → HttpEnd → List ℕ → List ℕ → Type 0
+HttpRun due end read written = (came : Incoming) × Receives read came × (asks_messages came ≡ false) × HasAnswered due came end written
 
 -- a fact of the ends at which nothing was done
 abbrev pub OnSilent : HttpEnd → Type 0 → Type 0

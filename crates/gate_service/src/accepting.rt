@@ -3,17 +3,18 @@
 ghost use Rattle.std.specs.Prelude.{◌≡◌, ◌≤◌, IfErr};
 ghost use Rattle.gate_outside.specs.Edge.{Rose};
 
-use crate::jobs::{ConnectionJob, Ends, Pair, RecorderAddress};
+use crate::jobs::{ConnectionJob, Ends, Links, Pair, RecorderAddress, Tally};
 use crate::notes::{note_end, note_recorder_failed, note_refused, note_untidied};
 use crate::paging::Page;
 use crate::seen::WatchedShelf;
 use crate::tidying::TidyJob;
-use gate_model::{Cause, Instr, NoMemory, Text};
+use gate_model::{Cause, Faces, Instr, NoMemory, Text};
 use gate_outside::{Bell, Dialer, Helper, Net, Sink, Spawner, write_all};
 use guac_instr::text_of;
 use id_table::LockedShelf;
 use log::Log;
 use service_door::{Session, sweep};
+use session_list::SessionList;
 use std::alloc::Global;
 use std::sync::atomic::AtomicU64;
 use std::sync::{Arc, Mutex, Wait};
@@ -26,19 +27,22 @@ const LOOKS: u32 = 5;
 
 const PAUSE: u64 = 20;
 
-/// What the service has for every connection: the tables of sessions and of tunnels, a helper of its own, the one
-/// bell, the host and the port of the recorder of sessions, where one is wanted, the page, where it is, and where it
-/// notes.
+/// What the service has for every connection: the tables of sessions, of tunnels and of links, a helper of its own, the one
+/// bell, the host and the port of the recorder of sessions, where one is wanted, the faces of each session, the page, where it
+/// is, where it notes, and the list of what runs.
 #[derive(Drop)]
 pub(crate) struct Service<H, B, L> {
     pub(crate) alloc: Global,
     pub(crate) sessions: LockedShelf<Session>,
     pub(crate) tunnels: WatchedShelf,
+    pub(crate) links: Links,
     pub(crate) helper: H,
     pub(crate) bell: B,
     pub(crate) recorder: Option<(Text, u16)>,
+    pub(crate) faces: Faces,
     pub(crate) page: Option<Arc<Page, Global>>,
     pub(crate) log: L,
+    pub(crate) list: SessionList,
 }
 
 impl<H, B, L> Service<H, B, L>
@@ -60,7 +64,7 @@ where
         let Ok((source, sink)) = net.accept(rt) else {
             return Err(8);
         };
-        sweep_all(rt, &self.sessions, &self.log);
+        sweep_all(rt, &self.sessions, &self.log, &self.list);
         self.serve(rt, source, sink);
         Ok(())
     }
@@ -84,17 +88,18 @@ where
             session.stop(rt, &self.bell);
             let cause = session.cause().or(Some(Cause::Stopped));
             note_end(&self.log, &id, session.newest(), cause);
+            self.list.end(rt, &id, cause);
         }
     }
 
-    /// Starts the job that gives up what nobody uses for so many seconds, of which 0 is never, and takes sessions that
-    /// have ended out of the table, where that is noted. The job never ends, so a spawner has to start it in a thread of
-    /// its own.
-    pub(crate) fn tidy<R>(&mut self, rt: &R, silence: u32, linger: u32, notes_ends: bool)
+    /// Starts the job that gives up what nobody uses for so many seconds, of which 0 is never, takes sessions that have
+    /// ended out of the table and ends those that the operator asks for, where anybody is told of that. The job never
+    /// ends, so a spawner has to start it in a thread of its own.
+    pub(crate) fn tidy<R>(&mut self, rt: &R, silence: u32, linger: u32, tells_ends: bool)
     where
         R: Threads + Wait + Copy + Send + Sync + 'static,
     {
-        if silence == 0 && linger == 0 && !notes_ends {
+        if silence == 0 && linger == 0 && !tells_ends {
             return;
         }
         let Ok(job) = self.tidy_job(silence, linger) else {
@@ -112,12 +117,14 @@ where
             alloc: self.alloc,
             sessions: self.sessions.another(),
             tunnels: self.tunnels.another()?,
+            links: Arc::try_clone(&self.links)?,
             helper: self.helper.another(self.alloc)?,
             dice: self.helper.another(self.alloc)?,
             bell: self.bell.another(self.alloc)?,
             silence,
             linger,
             log: self.log,
+            list: self.list.another()?,
         })
     }
 
@@ -128,8 +135,7 @@ where
         R: Threads + Wait + Copy + Send + Sync + 'static,
     {
         let Ok(ends) = Arc::new(self.alloc, Mutex::new(Some(Pair { source, sink }))) else {
-            note_refused(&self.log, 512);
-            return;
+            return self.tell_refused(512);
         };
         let status = match self.job(&ends) {
             Ok(job) => {
@@ -141,7 +147,7 @@ where
             }
             Err(NoMemory) => 512,
         };
-        note_refused(&self.log, status);
+        self.tell_refused(status);
         let taken = ends.lock(rt).take();
         if let Some(
             Pair {
@@ -154,6 +160,12 @@ where
         }
     }
 
+    // Tells that a connection was refused with a status.
+    fn tell_refused(&self, status: u16) {
+        note_refused(&self.log, status);
+        self.list.refuse(status);
+    }
+
     // The job of a connection.
     fn job(
         &mut self,
@@ -164,29 +176,39 @@ where
             ends: Arc::try_clone(ends)?,
             sessions: self.sessions.another(),
             tunnels: self.tunnels.another()?,
+            links: Arc::try_clone(&self.links)?,
             helper: self.helper.another(self.alloc)?,
             dice: self.helper.another(self.alloc)?,
             bell: self.bell.another(self.alloc)?,
             recorder: copy_of(self.alloc, &self.recorder)?,
+            faces: self.faces,
             page: match &self.page {
                 Some(page) => Some(Arc::try_clone(page)?),
                 None => None,
             },
             log: self.log,
+            tally: Tally::new(&self.list)?,
         })
     }
 }
 
 /// Takes all sessions that may leave out of the table.
-pub(crate) fn sweep_all<R: Wait, L: Log>(rt: &R, sessions: &LockedShelf<Session>, log: &L) {
+pub(crate) fn sweep_all<R: Wait, L: Log>(
+    rt: &R,
+    sessions: &LockedShelf<Session>,
+    log: &L,
+    list: &SessionList,
+) {
     for _ in rt.forever() {
         let Some((id, mut session)) = sweep(rt, sessions) else {
             return;
         };
         if session.take_recorder_failed() {
             note_recorder_failed(log, &id);
+            list.lose_recorder(rt, &id);
         }
         note_end(log, &id, session.newest(), session.cause());
+        list.end(rt, &id, session.cause());
     }
 }
 

@@ -9,6 +9,11 @@ pub(crate) fn note_listening<L: Log>(log: &L, port: u16) {
     info!(log; port; "listening on port {port}");
 }
 
+/// The operator is listened to.
+pub(crate) fn note_admin<L: Log>(log: &L, address: &str, port: u16) {
+    info!(log; address, port; "listening for the operator on {address}, port {port}");
+}
+
 /// A session of this name has begun.
 pub(crate) fn note_begun<L: Log>(log: &L, name: &str) {
     info!(log; session = digits(name); "session ${} has begun", digits(name));
@@ -79,6 +84,13 @@ pub(crate) fn note_backlogged<L: Log>(log: &L, id: &Uuid) {
     let mut buffer = Uuid::encode_buffer();
     let session = first_of(id, &mut buffer);
     warn!(log; session; "session ${session} is closed, since its host takes nothing of what waits for it");
+}
+
+/// A session is closed, since the operator asks that.
+pub(crate) fn note_asked<L: Log>(log: &L, id: &Uuid) {
+    let mut buffer = Uuid::encode_buffer();
+    let session = first_of(id, &mut buffer);
+    info!(log; session; "session ${session} is closed, since the operator asks that");
 }
 
 /// A tunnel was removed that nobody asked for as long as it may.

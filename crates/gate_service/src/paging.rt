@@ -1,5 +1,6 @@
 //! The page that the service hands out, where one is wanted.
 
+use crate::jobs::FOREIGN;
 use crate::notes::note_unknown;
 use gate_model::Bytes;
 use gate_outside::Sink;
@@ -7,6 +8,7 @@ use http_front::{Response, write_response};
 use log::Log;
 use page_files::{Judged, PageFile, answer, judge};
 use serve_words::Names;
+use session_list::SessionList;
 use std::alloc::Global;
 
 /// The files of the page, and the names by which it may be asked for.
@@ -18,13 +20,14 @@ pub(crate) struct Page {
 
 impl Page {
     /// Answers a request that the page is for, by the bytes that were read ahead: one for a file has the file, and one by
-    /// a host that isn't known is refused. Whether it was such a request.
+    /// a host that isn't known is refused and counted. Whether it was such a request.
     pub(crate) fn answers<K: Sink, L: Log>(
         &self,
         alloc: Global,
         front: &[u8],
         sink: &mut K,
         log: &L,
+        list: &SessionList,
     ) -> bool {
         match judge(front, self.files, self.names.as_slice()) {
             Judged::File(file) => {
@@ -33,6 +36,7 @@ impl Page {
             }
             Judged::Refused => {
                 note_unknown(log);
+                list.refuse(FOREIGN);
                 refuse(alloc, sink);
                 true
             }
@@ -45,7 +49,7 @@ impl Page {
 pub(crate) fn refuse<K: Sink>(alloc: Global, sink: &mut K) {
     let response = Response {
         status: 403,
-        code: 771,
+        code: FOREIGN,
         body: Bytes::of(Vec::new(alloc)),
     };
     let _ = write_response(alloc, sink, &response);

@@ -13,12 +13,13 @@ use gate_outside::{Net, Sink, Source};
 use gate_script::command;
 use log::Log;
 use page_files::PageFile;
+use session_list::SessionList;
 use std::alloc::Global;
 use std::sync::Wait;
 use std::thread::Threads;
 
 /// The ends of the program: its input, where answers and frames go, where connections come from, the files of the
-/// page that it hands out, and where a service notes.
+/// page that it hands out, where a service notes, and the list of what runs in it.
 #[derive(Drop)]
 pub struct Host<S, A, F, N, L> {
     pub source: S,
@@ -27,6 +28,7 @@ pub struct Host<S, A, F, N, L> {
     pub net: N,
     pub files: &'static [PageFile],
     pub log: L,
+    pub list: SessionList,
 }
 
 /// Does what the words after the program's name say, and answers the status. The words `serve` and its options are
@@ -71,7 +73,15 @@ where
     ensures later_net { N.net_faults host.old.net ≤ N.net_faults host.new.net }
 {
     match serve_options(words) {
-        Some(options) => serve(rt, alloc, options, &mut host.net, host.files, host.log),
+        Some(options) => serve(
+            rt,
+            alloc,
+            options,
+            &mut host.net,
+            host.files,
+            host.log,
+            &host.list,
+        ),
         None => command(
             alloc,
             words,

@@ -1,17 +1,20 @@
-//! One request over plain HTTP, and its response.
+//! The response to one request over plain HTTP.
 
-ghost use Rattle.std.specs.Prelude.{◌≡◌, ◌≤◌, ℕ, List, IfErr, IfOk, OnErr};
-ghost use Rattle.gate_outside.specs.Edge.{AtEnd, Rose, came, gained};
+ghost use Rattle.std.specs.Prelude.{◌≡◌, ◌≤◌, ℕ, List, None, IfErr, IfOk, OnErr};
+ghost use Rattle.gate_outside.specs.Edge.{Rose, gained};
 ghost use Rattle.guac_handshake.specs.Doors.{Grants};
+ghost use Rattle.http_front.specs.declared.request.Incoming.TheVariants as incomings;
 ghost use Rattle.http_tunnel.specs.Tunnels.{AreHome};
-ghost use Rattle.gate_service.specs.Requests.{HttpRun, IsAnswer, IsDue, IsRefusal, IsSilent, OnSilent, Wrote};
+ghost use Rattle.share_links.specs.Doors.{IsJoinedAs};
+ghost use Rattle.gate_service.specs.Requests.{HasAnswered, IsAnswer, IsDue, IsHttpCaused, IsLinkAnswer, IsRefusal, IsSilent, OnSilent, Wrote};
 
 use gate_model::Bytes;
-use gate_outside::{Bell, Dice, Sink, Source};
+use gate_outside::{Bell, Dice, Sink};
 use guac_handshake::Door;
-use http_front::{Incoming, ReplyFault, Response, read_request, write_response};
+use http_front::{Incoming, ReplyFault, Request, Response, write_response};
 use http_tunnel::{Tunnel, tunnel_request};
 use id_table::Shelf;
+use share_links::{Linked, is_links_path, link_request};
 use shared_desk::Place;
 use std::alloc::Global;
 use std::sync::Wait;
@@ -35,22 +38,21 @@ pub enum HttpEnd {
     NoMemory,
 }
 
-/// Reads one request and writes one response: that of `tunnel_request` for a whole request, the refusal's status with
-/// code 768 for one that is refused, and 500 with code 512 where memory is wanting. Bytes that end early, and a read
+/// Writes the response that is due for what came: that of `link_request` for a whole request whose path is `/links`, that of
+/// `tunnel_request` for any other whole request, the refusal's status with code 768 for one that is refused, and 500 with code 512 where memory is wanting. Bytes that end early, and a read
 /// that fails, are answered by nothing, and then nothing else is done (this project's own).
-pub(crate) fn serve_request<R, S, K, D, T, X, B>(
+pub(crate) fn answer<R, K, D, T, X, B>(
     rt: &R,
     alloc: Global,
-    source: &mut S,
+    incoming: Incoming<'_>,
     sink: &mut K,
-    door: &mut D,
+    door: &mut Linked<'_, D>,
     tunnels: &mut T,
     dice: &mut X,
     bell: &B,
 ) -> HttpEnd
 where
     R: Threads + Wait + Copy + Send + 'static,
-    S: Source,
     K: Sink,
     D: Door<Place = Place>,
     T: Shelf<Tunnel>,
@@ -58,19 +60,14 @@ where
     B: Bell,
     requires { AreHome (T.told tunnels.old) }
     ensures home { AreHome (T.told tunnels.new) }
-    ensures ran { (read : List ℕ) × (written : List ℕ) × (S.left source.old ≡ came read (S.left source.new)) × (K.written sink.new ≡ gained (K.written sink.old) written) ×
-        HttpRun (IsDue (IsAnswer D.id_of (D.sessions door.old) (D.sessions door.new) (D.draws door.old) (Grants D.id_of (D.begun door.new) (D.joined door.new)) (D.asked door.old) (D.asked door.new) (D.out door.old) (D.out door.new) (X.draws dice.old) (T.told tunnels.old) (T.told tunnels.new) (Rose (D.dial_faults door.old) (D.dial_faults door.new)) (Rose (D.start_faults door.old) (D.start_faults door.new))) ((door.new ≡ door.old) × (tunnels.new ≡ tunnels.old) × (dice.new ≡ dice.old))) result read written }
+    ensures ran { (written : List ℕ) × (K.written sink.new ≡ gained (K.written sink.old) written) ×
+        HasAnswered (IsDue (IsLinkAnswer D.id_of (D.sessions door.old.door) (X.draws dice.old)) (IsAnswer D.id_of None None (D.draws door.old.door) (Grants D.id_of (D.begun door.new.door) (IsJoinedAs (D.joined door.new.door))) None None (D.out door.old.door) (D.out door.new.door) (X.draws dice.old) (T.told tunnels.old) (T.told tunnels.new) (Rose (D.dial_faults door.old.door) (D.dial_faults door.new.door)) (Rose (D.start_faults door.old.door) (D.start_faults door.new.door))) ((door.new ≡ door.old) × (tunnels.new ≡ tunnels.old) × (dice.new ≡ dice.old))) incoming.entry result written }
     ensures silent { OnSilent result ((sink.new ≡ sink.old) × (door.new ≡ door.old) × (tunnels.new ≡ tunnels.old) × (dice.new ≡ dice.old)) }
-    ensures ended { result ≡ HttpEnd.Ended → AtEnd (S.left source.new) }
-    ensures read_fault { result ≡ HttpEnd.ReadFault → Rose (S.faults source.old) (S.faults source.new) }
-    ensures write_fault { result ≡ HttpEnd.WriteFault → Rose (K.faults sink.old) (K.faults sink.new) }
-    ensures later_dials { D.dial_faults door.old ≤ D.dial_faults door.new }
-    ensures later_starts { D.start_faults door.old ≤ D.start_faults door.new }
-    ensures later_reads { S.faults source.old ≤ S.faults source.new }
+    ensures cause { IsHttpCaused (incoming.entry ≡ incomings.ReadFault) (Rose (K.faults sink.old) (K.faults sink.new)) (incoming.entry ≡ incomings.Ended) result }
+    ensures later_dials { D.dial_faults door.old.door ≤ D.dial_faults door.new.door }
+    ensures later_starts { D.start_faults door.old.door ≤ D.start_faults door.new.door }
     ensures later_writes { K.faults sink.old ≤ K.faults sink.new }
 {
-    let mut room = Vec::new(alloc);
-    let incoming = read_request(alloc, source, &mut room);
     match respond(rt, alloc, incoming, door, tunnels, dice, bell) {
         Ok(response) => write(alloc, sink, &response),
         Err(end) => end,
@@ -82,7 +79,7 @@ fn respond<R, D, T, X, B>(
     rt: &R,
     alloc: Global,
     incoming: Incoming<'_>,
-    door: &mut D,
+    door: &mut Linked<'_, D>,
     tunnels: &mut T,
     dice: &mut X,
     bell: &B,
@@ -95,21 +92,46 @@ where
     B: Bell,
     requires { AreHome (T.told tunnels.old) }
     ensures home { AreHome (T.told tunnels.new) }
-    ensures due { IfOk result (IsDue (IsAnswer D.id_of (D.sessions door.old) (D.sessions door.new) (D.draws door.old) (Grants D.id_of (D.begun door.new) (D.joined door.new)) (D.asked door.old) (D.asked door.new) (D.out door.old) (D.out door.new) (X.draws dice.old) (T.told tunnels.old) (T.told tunnels.new) (Rose (D.dial_faults door.old) (D.dial_faults door.new)) (Rose (D.start_faults door.old) (D.start_faults door.new))) ((door.new ≡ door.old) × (tunnels.new ≡ tunnels.old) × (dice.new ≡ dice.old)) incoming.entry) }
+    ensures due { IfOk result (IsDue (IsLinkAnswer D.id_of (D.sessions door.old.door) (X.draws dice.old)) (IsAnswer D.id_of None None (D.draws door.old.door) (Grants D.id_of (D.begun door.new.door) (IsJoinedAs (D.joined door.new.door))) None None (D.out door.old.door) (D.out door.new.door) (X.draws dice.old) (T.told tunnels.old) (T.told tunnels.new) (Rose (D.dial_faults door.old.door) (D.dial_faults door.new.door)) (Rose (D.start_faults door.old.door) (D.start_faults door.new.door))) ((door.new ≡ door.old) × (tunnels.new ≡ tunnels.old) × (dice.new ≡ dice.old)) incoming.entry) }
     ensures silent { IfErr result (IsSilent incoming.entry) }
     ensures nothing { OnErr result ((door.new ≡ door.old) × (tunnels.new ≡ tunnels.old) × (dice.new ≡ dice.old)) }
-    ensures later_dials { D.dial_faults door.old ≤ D.dial_faults door.new }
-    ensures later_starts { D.start_faults door.old ≤ D.start_faults door.new }
+    ensures later_dials { D.dial_faults door.old.door ≤ D.dial_faults door.new.door }
+    ensures later_starts { D.start_faults door.old.door ≤ D.start_faults door.new.door }
 {
     match incoming {
-        Incoming::Whole(request) => Ok(tunnel_request(
-            rt, alloc, tunnels, &request, door, dice, bell,
-        )),
+        Incoming::Whole(request) => {
+            if is_links_path(request.target) {
+                Ok(share(rt, alloc, &request, door, dice))
+            } else {
+                Ok(tunnel_request(rt, alloc, tunnels, &request, door, dice, bell))
+            }
+        }
         Incoming::Refused(status) => Ok(refusal(alloc, status, BAD_REQUEST)),
         Incoming::NoMemory => Ok(refusal(alloc, 500, 512)),
         Incoming::Ended => Err(HttpEnd::Ended),
         Incoming::ReadFault => Err(HttpEnd::ReadFault),
     }
+}
+
+// Answers a request for links, at the door that has none.
+fn share<R, D, X>(
+    rt: &R,
+    alloc: Global,
+    request: &Request<'_>,
+    door: &mut Linked<'_, D>,
+    dice: &mut X,
+) -> Response
+where
+    R: Wait,
+    D: Door,
+    X: Dice,
+    ensures shared { IsLinkAnswer D.id_of (D.sessions door.old.door) (X.draws dice.old) request.now result }
+    ensures dials { D.dial_faults door.new.door ≡ D.dial_faults door.old.door }
+    ensures starts { D.start_faults door.new.door ≡ D.start_faults door.old.door }
+{
+    let links = door.links;
+    let mut links = links.lock(rt);
+    link_request(rt, alloc, &mut links, request, &mut door.door, dice)
 }
 
 // An empty response.

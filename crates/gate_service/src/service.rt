@@ -5,7 +5,8 @@ ghost use Rattle.gate_outside.specs.Edge.{Rose};
 ghost use Rattle.serve_words.specs.Given.{options_given};
 
 use crate::accepting::Service;
-use crate::notes::note_listening;
+use crate::jobs::Links;
+use crate::notes::{note_admin, note_listening};
 use crate::paging::Page;
 use crate::seen::{Seen, WatchedShelf};
 use gate_model::NoMemory;
@@ -14,13 +15,17 @@ use id_table::LockedShelf;
 use log::{LevelFilter, Log, Logged};
 use page_files::PageFile;
 use serve_words::{Names, Options, WordsFault, options_of};
+use service_door::Session;
+use session_list::SessionList;
+use share_links::LinkTable;
 use std::alloc::Global;
-use std::sync::{Arc, Wait};
+use std::sync::{Arc, Mutex, Wait};
 use std::thread::Threads;
 
 /// Serves as the words after `serve` say. The statuses: 2, exactly where the words give no options, but for want of
 /// memory, and then the net isn't called; 6, want of memory before the first connection; 8, the net failed at
-/// `listen` or `accept`. The files are those of the page, and what the words want noted is noted to the log.
+/// `listen` or `accept`. The files are those of the page, what the words want noted is noted to the log, and what runs
+/// stands in the list.
 pub(crate) fn serve<R, N, L>(
     rt: &R,
     alloc: Global,
@@ -28,6 +33,7 @@ pub(crate) fn serve<R, N, L>(
     net: &mut N,
     files: &'static [PageFile],
     log: L,
+    list: &SessionList,
 ) -> u8
 where
     R: Threads + Wait + Copy + Send + Sync + Drop + 'static,
@@ -41,7 +47,7 @@ where
     ensures later { N.net_faults net.old ≤ N.net_faults net.new }
 {
     match options_of(alloc, words) {
-        Ok(options) => listen(rt, alloc, options, net, files, log),
+        Ok(options) => listen(rt, alloc, options, net, files, log, list),
         Err(WordsFault::Usage) => 2,
         Err(WordsFault::NoMemory) => 6,
     }
@@ -55,6 +61,7 @@ fn listen<R, N, L>(
     net: &mut N,
     files: &'static [PageFile],
     log: L,
+    list: &SessionList,
 ) -> u8
 where
     R: Threads + Wait + Copy + Send + Sync + Drop + 'static,
@@ -69,10 +76,7 @@ where
         Err(DialFault::Failed) => return 8,
         Err(DialFault::NoMemory) => return 6,
     }
-    let Ok(sessions) = LockedShelf::new(alloc) else {
-        return 6;
-    };
-    let Ok(tunnels) = LockedShelf::new(alloc) else {
+    let Ok((sessions, tunnels, links)) = tables(alloc, options.silence) else {
         return 6;
     };
     let Ok(helper) = net.helper(alloc) else {
@@ -81,7 +85,7 @@ where
     let Ok(bell) = net.bell(alloc) else {
         return 6;
     };
-    let Ok(seen) = seen_for(alloc, options.silence) else {
+    let Ok(list) = list.another() else {
         return 6;
     };
     let Ok(page) = page_of(alloc, files, options.page) else {
@@ -89,19 +93,37 @@ where
     };
     let log = Logged::new(*rt, options.level, log);
     note_listening(&log, options.port);
+    if let Some((address, port)) = &options.admin {
+        note_admin(&log, address.as_str(), *port);
+    }
     let mut service = Service {
         alloc,
         sessions,
-        tunnels: WatchedShelf { tunnels, seen },
+        tunnels,
+        links,
         helper,
         bell,
         recorder: options.recorder,
+        faces: options.faces,
         page,
         log,
+        list,
     };
-    let notes_ends = options.level == LevelFilter::Info;
-    service.tidy(rt, options.silence, options.linger, notes_ends);
+    let tells_ends = options.level == LevelFilter::Info || options.admin.is_some();
+    service.tidy(rt, options.silence, options.linger, tells_ends);
     accept_all(rt, &mut service, net)
+}
+
+// The tables of sessions, of tunnels and of links.
+fn tables(
+    alloc: Global,
+    silence: u32,
+) -> Result<(LockedShelf<Session>, WatchedShelf, Links), NoMemory> {
+    let sessions = LockedShelf::new(alloc)?;
+    let seen = seen_for(alloc, silence)?;
+    let tunnels = LockedShelf::new(alloc)?;
+    let links = Arc::new(alloc, Mutex::new(LinkTable::new(alloc)))?;
+    Ok((sessions, WatchedShelf { tunnels, seen }, links))
 }
 
 // Where it is noted when tunnels are asked for, if silent ones are given up.

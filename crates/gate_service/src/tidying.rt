@@ -1,23 +1,30 @@
 //! The job that gives up what nobody uses.
 
 use crate::accepting::sweep_all;
+use crate::jobs::Links;
 use crate::notes::{
-    note_backlogged, note_closed, note_deserted, note_end, note_recorder_failed, note_silent,
+    note_asked, note_backlogged, note_closed, note_deserted, note_end, note_recorder_failed,
+    note_silent,
 };
+use crate::noting::NotingDoor;
 use crate::seen::WatchedShelf;
-use gate_model::Cause;
-use gate_outside::{Bell, Helper};
+use gate_model::{Cause, Faces};
+use gate_outside::{Bell, Dice, Helper};
+use guac_handshake::Door;
 use http::Method;
 use http_front::Request;
 use http_tunnel::tunnel_request;
-use id_table::LockedShelf;
+use id_table::{LockedShelf, Shelf};
 use log::Log;
 use service_door::{
     ServiceDoor, Session, close_backlogged, find_closed, find_unrecorded, look, sweep_deserted,
 };
+use session_list::SessionList;
+use share_links::Linked;
+use shared_desk::Place;
 use std::alloc::Global;
-use std::sync::Wait;
 use std::sync::atomic::AtomicU64;
+use std::sync::{Arc, Wait};
 use std::thread::Threads;
 use std::time::Duration;
 use uuid::Uuid;
@@ -25,7 +32,8 @@ use uuid::Uuid;
 /// What a viewer sends to leave (the Guacamole protocol).
 const DISCONNECT: &[u8] = b"10.disconnect;";
 
-/// The job that looks each second at all sessions and tunnels. A session that has ended leaves the table. Where one of the
+/// The job that looks each second at all sessions and tunnels. A session that has ended leaves the table, and one that the
+/// operator asks for is closed. Where one of the
 /// two times is given, a session for whose host too much waits is closed. A tunnel without a request for `silence` seconds
 /// is removed, as by a `disconnect`, and a session without viewers for `linger` seconds is closed; 0 is never. So that a
 /// page that only waits for news asks again in time, all who wait are let look again three times in `silence` seconds.
@@ -34,6 +42,8 @@ pub(crate) struct TidyJob<H, B, L> {
     pub(crate) alloc: Global,
     pub(crate) sessions: LockedShelf<Session>,
     pub(crate) tunnels: WatchedShelf,
+    /// By which a tunnel's session is found, where its viewer came by one.
+    pub(crate) links: Links,
     pub(crate) helper: H,
     /// Its dice would draw the IDs of tunnels.
     pub(crate) dice: H,
@@ -41,6 +51,7 @@ pub(crate) struct TidyJob<H, B, L> {
     pub(crate) silence: u32,
     pub(crate) linger: u32,
     pub(crate) log: L,
+    pub(crate) list: SessionList,
 }
 
 impl<H, B, L> TidyJob<H, B, L>
@@ -65,12 +76,14 @@ where
                 looks = 0;
             }
             job.note_closed(rt);
-            sweep_all(rt, &job.sessions, &job.log);
+            sweep_all(rt, &job.sessions, &job.log, &job.list);
+            job.end_asked(rt);
             look(rt, &job.sessions, &job.bell, wakes);
             job.close_backlogged(rt);
             job.note_unrecorded(rt);
             job.close_deserted(rt);
             job.end_silent(rt);
+            job.tell_waiting(rt);
         }
     }
 
@@ -91,7 +104,10 @@ where
     fn note_closed<R: Wait>(&self, rt: &R) {
         for _ in rt.forever() {
             match find_closed(rt, &self.sessions) {
-                Some((id, cause)) => note_closed(&self.log, &id, cause),
+                Some((id, cause)) => {
+                    note_closed(&self.log, &id, cause);
+                    self.list.end(rt, &id, Some(cause));
+                }
                 None => return,
             }
         }
@@ -101,8 +117,37 @@ where
     fn note_unrecorded<R: Wait>(&self, rt: &R) {
         for _ in rt.forever() {
             match find_unrecorded(rt, &self.sessions) {
-                Some(id) => note_recorder_failed(&self.log, &id),
+                Some(id) => {
+                    note_recorder_failed(&self.log, &id);
+                    self.list.lose_recorder(rt, &id);
+                }
                 None => return,
+            }
+        }
+    }
+
+    // Closes the sessions that the operator asks to be ended.
+    fn end_asked<R: Wait>(&mut self, rt: &R) {
+        for _ in rt.forever() {
+            let Some(id) = self.list.take_asked(rt) else {
+                return;
+            };
+            if let Some(mut session) = self.sessions.lend(rt, &id) {
+                session.stop(rt, &self.bell);
+                self.sessions.back(rt, &id, session);
+                note_asked(&self.log, &id);
+            }
+            self.list.end(rt, &id, Some(Cause::Stopped));
+        }
+    }
+
+    // Tells the list how many bytes wait for each host. A session that is lent for it goes on meanwhile.
+    fn tell_waiting<R: Wait>(&mut self, rt: &R) {
+        let ids = self.list.ids(rt);
+        for id in ids.iter() {
+            if let Some(session) = self.sessions.lend(rt, id) {
+                self.list.tell_waiting(rt, id, session.waiting());
+                self.sessions.back(rt, id, session);
             }
         }
     }
@@ -120,6 +165,7 @@ where
             session.stop(rt, &self.bell);
             let cause = session.cause().or(Some(Cause::Stopped));
             note_end(&self.log, &id, session.newest(), cause);
+            self.list.end(rt, &id, cause);
         }
     }
 
@@ -138,30 +184,66 @@ where
         }
     }
 
-    // Ends a tunnel, as its viewer would by a `disconnect`.
+    // Ends a tunnel at the door by which its viewer came. Where memory is wanting it stays until a later look.
     fn end<R>(&mut self, rt: &R, id: &Uuid)
     where
         R: Threads + Wait + Copy + Send + Sync + 'static,
     {
-        let mut buffer = Uuid::encode_buffer();
-        let digits = id.hyphenated().encode_lower(&mut buffer);
-        let Ok(target) = format!(in self.alloc; "/tunnel?write:{digits}") else {
+        let (Ok(list), Ok(traffic)) = (self.list.another(), self.list.traffic()) else {
             return;
         };
-        let request = Request {
-            method: Method::POST,
-            target: target.as_str(),
-            body: DISCONNECT,
+        let Ok(links) = Arc::try_clone(&self.links) else {
+            return;
         };
-        let mut door = ServiceDoor::new(&mut self.sessions, &mut self.helper, &self.bell, None);
-        let _ = tunnel_request(
+        let door = ServiceDoor::new(
+            &mut self.sessions,
+            &mut self.helper,
+            &self.bell,
+            None,
+            Faces::Ascii,
+        );
+        let door = Linked {
+            door: NotingDoor::new(door, self.log, list, traffic),
+            links: &links,
+        };
+        leave_at(
             rt,
             self.alloc,
+            door,
             &mut self.tunnels,
-            &request,
-            &mut door,
+            id,
             &mut self.dice,
             &self.bell,
         );
     }
+}
+
+// Ends a tunnel at a door, as its viewer would by a `disconnect`.
+fn leave_at<R, D, X, B>(
+    rt: &R,
+    alloc: Global,
+    door: Linked<'_, D>,
+    tunnels: &mut WatchedShelf,
+    id: &Uuid,
+    dice: &mut X,
+    bell: &B,
+)
+where
+    R: Threads + Wait + Copy + Send + Sync + 'static,
+    D: Door<Place = Place> + Drop,
+    X: Dice,
+    B: Bell,
+{
+    let mut buffer = Uuid::encode_buffer();
+    let digits = id.hyphenated().encode_lower(&mut buffer);
+    let Ok(target) = format!(in alloc; "/tunnel?write:{digits}") else {
+        return;
+    };
+    let request = Request {
+        method: Method::POST,
+        target: target.as_str(),
+        body: DISCONNECT,
+    };
+    let mut door = door;
+    let _ = tunnel_request(rt, alloc, tunnels, &request, &mut door, dice, bell);
 }

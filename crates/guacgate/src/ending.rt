@@ -1,14 +1,17 @@
-//! What is looked after while `serve` runs: whether it is asked to end, and whether it has to turn away who comes.
+//! What is looked after while `serve` runs: whether it is asked to end, whether it has to turn away who comes, and what
+//! the time is. The service manager is told of it.
 
 ghost use Rattle.std.specs.Prelude.{◌≡◌, ◌⊎◌};
 
+use crate::manager::Manager;
 use crate::noting::Notes;
 use crate::saying::say_end;
 use log::{LevelFilter, Logged, error, warn};
 use real_ends::Watch;
+use session_list::SessionList;
 use std::fs::Files;
 use std::sync::Wait;
-use std::time::{Clock, Duration};
+use std::time::{Clock, Duration, Instant};
 use std::{fs, io, thread};
 
 /// How often it is looked, in milliseconds.
@@ -30,17 +33,28 @@ const BETWEEN: u64 = 20;
 
 /// Looks until the process is asked to end, and then ends the net, at SIGINT at once. A signal that the process was started without, as by
 /// `env --block-signal=TERM`, stays pending, and the system tells so; also where the process is the first of a
-/// container, for which the system has no action of its own.
-pub(crate) fn look_after<R>(rt: &R, watch: &Watch, notes: Notes)
+/// container, for which the system has no action of its own. Meanwhile the list is told the time,
+/// and the service manager that the service lives.
+pub(crate) fn look_after<R>(
+    rt: &R,
+    watch: &Watch,
+    notes: Notes,
+    list: &SessionList,
+    manager: Option<Manager>,
+)
 where
     R: Files + AllocGlobal + Clock + Wait + Copy + Drop,
 {
     let log = Logged::new(*rt, LevelFilter::Warn, notes.log(rt));
     let mut told = 0u64;
     let mut quiet = QUIET;
+    let mut manager = manager;
+    let began = Instant::now(rt).ok();
     for _ in rt.forever() {
         thread::sleep(rt, Duration::from_millis(PAUSE));
+        tell_time(rt, began, list);
         let pending = pending(rt);
+        tell_manager(&mut manager, watch.is_listening(), pending);
         if pending & INT != 0 {
             return watch.end_at_once();
         }
@@ -54,6 +68,25 @@ where
             told = refused;
             quiet = 0;
         }
+    }
+}
+
+// Tells the service manager, where there is one, that the service lives, or ends by one of these signals.
+fn tell_manager(manager: &mut Option<Manager>, listens: bool, pending: u64) {
+    let Some(manager) = manager else {
+        return;
+    };
+    if pending & (INT | TERM) != 0 {
+        manager.end();
+    } else {
+        manager.look(listens);
+    }
+}
+
+// Tells the list how many seconds have gone since a moment.
+fn tell_time<R: Clock>(rt: &R, began: Option<Instant>, list: &SessionList) {
+    if let (Some(began), Ok(now)) = (began, Instant::now(rt)) {
+        list.tell_time(now.saturating_duration_since(began).as_secs());
     }
 }
 

@@ -10,27 +10,37 @@
 ghost use Rattle.std.specs.Prelude.{◌≡◌, ◌≢◌, ◌⊎◌, map, option_map, string_bytes, IfErr, OnOk, OnErr};
 ghost use Rattle.guacgate.specs.Words.{asks_of_serve, text_asked, text_of};
 
+use admin::Office;
 use ending::{ended, look_after};
 use gate_outside::{Failed, Sink, StdSink, StdSource, write_all};
 use gate_service::{Host, top};
-use limits::serve_options;
+use limits::{Edge, edge_of, serve_options};
+use manager::Manager;
 use noting::Notes;
 use page_files::PageFile;
 use real_ends::{Limits, TcpNet, Watch};
 use saying::{say, say_unprepared};
+use serve_words::Names;
 use service_notes::Queue;
+use serving::{listener_at, serve_operator};
+use session_list::SessionList;
+use std::alloc::Global;
 use std::env::VarError;
 use std::io::ErrorKind;
-use std::net::{IpAddr, Ipv4Addr};
+use std::net::{IpAddr, Ipv4Addr, SocketAddr, TcpListener};
 use std::process::ExitCode;
 use std::{env, thread};
 use web_page::page;
 
+mod admin;
+mod asking;
 mod ending;
 mod limits;
+mod manager;
 mod noting;
 mod saying;
 mod seed;
+mod serving;
 mod standard;
 
 const VERSION: &str = "guacgate 0.1.0\n";
@@ -46,7 +56,8 @@ usage: guacgate draw COLS ROWS < BYTES
        guacgate clip < BYTES
        guacgate serve --seed HEX [--port PORT] [--recorder HOST:PORT] [--log LEVEL]
                       [--log-format FORMAT] [--allow HOST:PORT] [--silence SECONDS]
-                      [--linger SECONDS] [--page] [--name NAME]
+                      [--linger SECONDS] [--faces SET] [--page] [--name NAME]
+                      [--admin ADDRESS:PORT]
 
 draw    draws what a Telnet host sent, read from standard input, on a screen of COLS columns (1 to
         512) and ROWS rows (1 to 256), at most 8192 cells
@@ -95,6 +106,9 @@ fn main(rt: HostRuntime) -> ExitCode {
         of_job,
         files,
         notes,
+        list,
+        of_looks,
+        admin,
     } = ends;
     let mut host = Host {
         source: StdSource::new(rt.reader()),
@@ -103,10 +117,18 @@ fn main(rt: HostRuntime) -> ExitCode {
         net: TcpNet::within(rt, address, limits, of_net),
         files,
         log: notes.log(&rt),
+        list,
     };
     if serves {
         notes.start(&rt);
-        let _ = thread::spawn(&rt, move || look_after(&rt, &of_job, notes));
+        let manager = Manager::named(&rt);
+        let _ = thread::spawn(
+            &rt,
+            move || look_after(&rt, &of_job, notes, &of_looks, manager),
+        );
+    }
+    if let Some((listener, office)) = admin {
+        let _ = thread::spawn(&rt, move || serve_operator(&rt, &listener, office));
     }
     let status = top(&rt, rt.alloc(), &words, &mut host);
     ExitCode::from(ended(&rt, status, serves, &watch, notes))
@@ -127,7 +149,8 @@ fn tell<K: Sink>(rt: &HostRuntime, words: &[String], output: &mut K) -> Option<u
 }
 
 // What a service is made of: where it listens, within which limits, what is seen of its net, here, by the net and by the
-// job that looks after it, the files of its page, and its notes.
+// job that looks after it, the files of its page, its notes, the list of what runs, here and by that job, and where the
+// operator asks.
 #[derive(Drop)]
 struct Ends {
     address: IpAddr,
@@ -137,6 +160,9 @@ struct Ends {
     of_job: Watch,
     files: &'static [PageFile],
     notes: Notes,
+    list: SessionList,
+    of_looks: SessionList,
+    admin: Option<(TcpListener, Office)>,
 }
 
 // The words with their seed, and what the net is made of.
@@ -146,29 +172,84 @@ fn prepare(rt: &HostRuntime, words: Vec<String>, serves: bool) -> Result<(Vec<St
     }
     let words = seed::read_in(rt, words)?;
     let address = address(rt)?;
-    let (limits, format) = limits::limits_of(rt, &words)?;
-    let Ok(watch) = Watch::new(rt.alloc()) else {
-        return Err(6);
-    };
-    let (Ok(of_net), Ok(of_job)) = (watch.another(), watch.another()) else {
-        return Err(6);
-    };
-    let Ok(files) = page(rt.alloc()) else {
-        return Err(6);
-    };
-    let Ok(queue) = Queue::new(rt.alloc()) else {
-        return Err(6);
-    };
-    let ends = Ends {
+    let edge = edge_of(rt, &words)?;
+    Ok((words, ends_at(rt, address, edge)?))
+}
+
+// What the net is made of, at an address.
+fn ends_at(rt: &HostRuntime, address: IpAddr, edge: Edge) -> Result<Ends, u8> {
+    let alloc = rt.alloc();
+    let Edge {
+        limits,
+        format,
+        admin,
+        names,
+    } = edge;
+    let files = page(alloc).map_err(|_| 6)?;
+    let notes = Notes::new(format, Queue::new(alloc).map_err(|_| 6)?);
+    let (watch, of_net, of_job) = watches(alloc)?;
+    let (list, of_looks) = lists(alloc)?;
+    let admin = admin_at(rt, admin, names, &list, &watch, notes)?;
+    Ok(Ends {
         address,
         limits,
         watch,
         of_net,
         of_job,
         files,
-        notes: Notes::new(format, queue),
+        notes,
+        list,
+        of_looks,
+        admin,
+    })
+}
+
+// What is seen of the net, three times.
+fn watches(alloc: Global) -> Result<(Watch, Watch, Watch), u8> {
+    let watch = Watch::new(alloc).map_err(|_| 6)?;
+    let of_net = watch.another().map_err(|_| 6)?;
+    let of_job = watch.another().map_err(|_| 6)?;
+    Ok((watch, of_net, of_job))
+}
+
+// The list of what runs, twice.
+fn lists(alloc: Global) -> Result<(SessionList, SessionList), u8> {
+    let list = SessionList::new(alloc).map_err(|_| 6)?;
+    let of_looks = list.another().map_err(|_| 6)?;
+    Ok((list, of_looks))
+}
+
+// Where the operator asks, if that is wanted.
+fn admin_at(
+    rt: &HostRuntime,
+    place: Option<SocketAddr>,
+    names: Option<Names>,
+    list: &SessionList,
+    watch: &Watch,
+    notes: Notes,
+) -> Result<Option<(TcpListener, Office)>, u8> {
+    let Some(place) = place else {
+        return Ok(None);
     };
-    Ok((words, ends))
+    let office = office(list, watch, notes, names)?;
+    let listener = listener_at(rt, place)?;
+    Ok(Some((listener, office)))
+}
+
+// What the operator is told of.
+fn office(
+    list: &SessionList,
+    watch: &Watch,
+    notes: Notes,
+    names: Option<Names>,
+) -> Result<Office, u8> {
+    watch.count_turns();
+    Ok(Office {
+        list: list.another().map_err(|_| 6)?,
+        watch: watch.another().map_err(|_| 6)?,
+        notes,
+        names,
+    })
 }
 
 // Where `serve` listens: at the address that the environment names, else on this machine alone.

@@ -5,9 +5,9 @@ pub(crate) fn say<R: Eprint>(rt: &R, text: &str) {
     let _ = eprintln!(rt; "{}", text.trim_end());
 }
 
-/// Says why a run ended before it began, with a status, where it is one of `serve`.
+/// Says why a run ended before it began, with a status, where it is one of `serve` and nothing else tells it.
 pub(crate) fn say_unprepared<R: Eprint>(rt: &R, serves: bool, status: u8) {
-    if serves {
+    if serves && status == 6 {
         say_end(rt, status);
     }
 }

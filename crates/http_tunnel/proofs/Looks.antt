@@ -152,7 +152,7 @@ some_last (x ∷ xs) ys some = refl
 
 closing_as : (g : History) (closed : Bool) → is_closed g ≡ closed → is_some_list (closing g) ≡ closed
 closing_as [] closed e = e
-closing_as (Start c r m t n s f ∷ g) closed e = closing_as g closed e
+closing_as (Start c r m t k n s f ∷ g) closed e = closing_as g closed e
 closing_as (Feed b s f ∷ g) closed e = closing_as g closed e
 closing_as (Size w c r s f ∷ g) closed e = closing_as g closed e
 closing_as (Join w role first ∷ g) closed e = closing_as g closed e

@@ -28,13 +28,17 @@ pub(crate) struct Connection {
 }
 
 /// The end of a TCP connection that is read from. It shares its one descriptor with the sink. Who connects has ten
-/// seconds for a greeting or a request, by one deadline over all reads; each read fails that comes later.
+/// seconds for a greeting or a request, by one deadline over all reads; each read fails that comes later. Where whoever
+/// watches the net asks that, it is counted how long each piece of a host takes until the next can be read.
 #[derive(Drop)]
 pub struct TcpEnd<R> {
     rt: R,
     connection: Arc<Connection, Global>,
     // None where no greeting is waited for.
     until: Option<Instant>,
+    is_host: bool,
+    // When the last piece of a host came, where that is counted.
+    came: Option<Instant>,
 }
 
 impl<R: Clock> TcpEnd<R> {
@@ -56,12 +60,35 @@ impl<R: Clock> TcpEnd<R> {
         }
         self.connection.stream.set_read_timeout(Some(left))
     }
+
+    // A piece of a host has come.
+    fn begin_turn(&mut self) {
+        let Some(watch) = &self.connection.watch else {
+            return;
+        };
+        if self.is_host && watch.counts_turns() {
+            self.came = Instant::now(&self.rt).ok();
+        }
+    }
+
+    // What was done with the last piece of a host is done.
+    fn end_turn(&mut self) {
+        let Some(came) = self.came.take() else {
+            return;
+        };
+        if let (Some(watch), Ok(now)) = (&self.connection.watch, Instant::now(&self.rt)) {
+            watch.count_turn(now.saturating_duration_since(came));
+        }
+    }
 }
 
 impl<R: Clock + Drop> Read for TcpEnd<R> {
     fn read(&mut self, into: &mut [u8]) -> io::Result<usize> {
         self.limit()?;
-        (&self.connection.stream).read(into)
+        self.end_turn();
+        let count = (&self.connection.stream).read(into)?;
+        self.begin_turn();
+        Ok(count)
     }
 }
 
@@ -117,7 +144,9 @@ fn ends<R: Clock + Drop>(
     let end = TcpEnd {
         rt,
         connection,
+        is_host: until.is_none(),
         until,
+        came: None,
     };
     Some((StdSource::new(end), sink))
 }

@@ -13,6 +13,9 @@ use std::sync::atomic::Ordering::SeqCst;
 /// How `ready` begins, with which a greeting is over (the Guacamole protocol's handshake).
 const READY: &[u8] = b"5.ready,";
 
+/// The first byte of a frame that is a whole text message (RFC 6455, section 5.2).
+const TEXT_FRAME: u8 = 0x81;
+
 /// A sink over a TCP connection. It tells nothing of what was written. Where it is finished or dropped, the
 /// connection is shut down both ways, so that a read that waits on its other end returns. Until it is dropped the
 /// connection counts as open.
@@ -54,7 +57,7 @@ impl Sink for TcpSink {
 
     fn write(&mut self, piece: &[u8]) -> Result<usize, Failed> {
         // The real end isn't told that a greeting is over: it sees it by the answer.
-        if piece.starts_with(READY) {
+        if is_ready(piece) {
             self.connection.settled.store(true, SeqCst);
         }
         match (&self.connection.stream).write(piece) {
@@ -68,5 +71,17 @@ impl Sink for TcpSink {
 
     fn finish(&mut self) {
         let _ = self.connection.stream.shutdown(Shutdown::Both);
+    }
+}
+
+// Whether a piece begins with `ready`, or is a message of a WebSocket that does: the head of a frame from a server has 2,
+// 4 or 10 bytes.
+fn is_ready(piece: &[u8]) -> bool {
+    match piece.first() {
+        Some(&TEXT_FRAME) => [2usize, 4, 10].iter().any(|head| piece
+            .get(*head..)
+            .unwrap_or(&[])
+            .starts_with(READY)),
+        _ => piece.starts_with(READY),
     }
 }

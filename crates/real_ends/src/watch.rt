@@ -6,6 +6,7 @@ use std::alloc::Global;
 use std::sync::Arc;
 use std::sync::atomic::Ordering::SeqCst;
 use std::sync::atomic::{AtomicBool, AtomicU64};
+use std::time::Duration;
 
 #[derive(Drop)]
 struct Seen {
@@ -18,10 +19,14 @@ struct Seen {
     open: AtomicU64,
     ending: AtomicBool,
     hurried: AtomicBool,
+    // Whether turns are counted, how many there were, and how many nanoseconds they took in all.
+    counting: AtomicBool,
+    turns: AtomicU64,
+    nanoseconds: AtomicU64,
 }
 
 /// A net that is watched from another thread: how often it could let nobody in for want of descriptors, how many of its
-/// connections are open, and its end. Contracts tell nothing of it.
+/// connections are open, how long what hosts sent took, and its end. Contracts tell nothing of it.
 #[derive(Drop)]
 pub struct Watch {
     seen: Arc<Seen, Global>,
@@ -37,6 +42,9 @@ impl Watch {
             open: AtomicU64::new(0),
             ending: AtomicBool::new(false),
             hurried: AtomicBool::new(false),
+            counting: AtomicBool::new(false),
+            turns: AtomicU64::new(0),
+            nanoseconds: AtomicU64::new(0),
         };
         Ok(Watch {
             seen: Arc::new(alloc, seen)?,
@@ -80,6 +88,11 @@ impl Watch {
         self.end();
     }
 
+    /// Whether the net listens.
+    pub fn is_listening(&self) -> bool {
+        self.seen.listener.load(SeqCst) > 0
+    }
+
     /// Whether the net was told to end.
     pub fn is_ending(&self) -> bool {
         self.seen.ending.load(SeqCst)
@@ -93,6 +106,33 @@ impl Watch {
     /// How many of its connections are open, those to hosts among them.
     pub fn open(&self) -> u64 {
         self.seen.open.load(SeqCst)
+    }
+
+    /// Lets it be counted from now on how long each piece of a host takes, until the next can be read.
+    pub fn count_turns(&self) {
+        self.seen.counting.store(true, SeqCst);
+    }
+
+    /// How many pieces of hosts were counted so.
+    pub fn turns(&self) -> u64 {
+        self.seen.turns.load(SeqCst)
+    }
+
+    /// How many nanoseconds they took in all.
+    pub fn nanoseconds(&self) -> u64 {
+        self.seen.nanoseconds.load(SeqCst)
+    }
+
+    // Whether pieces of hosts are counted.
+    pub(crate) fn counts_turns(&self) -> bool {
+        self.seen.counting.load(SeqCst)
+    }
+
+    // A piece of a host took so long.
+    pub(crate) fn count_turn(&self, took: Duration) {
+        let nanoseconds = u64::try_from(took.as_nanos()).unwrap_or(0);
+        self.seen.turns.fetch_add(1, SeqCst);
+        self.seen.nanoseconds.fetch_add(nanoseconds, SeqCst);
     }
 
     // A connection is open.

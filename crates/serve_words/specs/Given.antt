@@ -4,14 +4,17 @@ use Rattle.std.specs.Prelude.{List, [], ◌∷◌, Option, Some, None, true, cod
 use Rattle.clap.specs.Simple.{on_top}
 use Rattle.clap.specs.Words.{App, Kinds, Rule, Text, all_of, fault_of, first_of, matches_of, new_app, new_rule, with_rule}
 use Rattle.clap.specs.declared.builder.action.ArgAction.TheVariants.{Append, SetTrue}
-use Rattle.serve_words.specs.Values.{allowed_of, flag_of, format_of, level_of, page_of, port_of, recorder_of, seconds_of, seed_of}
+use Rattle.serve_words.specs.Values.{admin_of, allowed_of, faces_of, flag_of, format_of, level_of, page_of, port_of, recorder_of, seconds_of, seed_of}
+use Rattle.serve_words.specs.declared.options.Manner.{Manner}
 use Rattle.serve_words.specs.declared.options.Options.{Options}
+use Rattle.serve_words.specs.declared.options.Place.{Place}
 
 -- an option with one value, as `--port 80` or `--port=80`
 abbrev pub with_value : Text → Rule
 with_value name = record (new_rule name) { long = Some name; value_names = 1 }
 
--- the seed has to be there; the port, the level and the format of notes, and the two times have defaults, and the recorder has none; what may be
+-- the seed has to be there; the port, the level and the format of notes, the two times and the faces have defaults, and the
+-- recorder and the operator's place have none; what may be
 -- dialed and the names of the page are given any number of times; the page is a flag
 abbrev pub seed_rule : Rule
 seed_rule = record (with_value (codes "seed")) { required = true }
@@ -25,6 +28,9 @@ log_rule = record (with_value (codes "log")) { defaults = codes "warn" ∷ [] }
 abbrev pub log_format_rule : Rule
 log_format_rule = record (with_value (codes "log-format")) { defaults = codes "text" ∷ [] }
 
+abbrev pub admin_rule : Rule
+admin_rule = with_value (codes "admin")
+
 abbrev pub recorder_rule : Rule
 recorder_rule = with_value (codes "recorder")
 
@@ -37,6 +43,9 @@ silence_rule = record (with_value (codes "silence")) { defaults = codes "0" ∷ 
 abbrev pub linger_rule : Rule
 linger_rule = record (with_value (codes "linger")) { defaults = codes "0" ∷ [] }
 
+abbrev pub faces_rule : Rule
+faces_rule = record (with_value (codes "faces")) { defaults = codes "ascii" ∷ [] }
+
 abbrev pub page_rule : Rule
 page_rule = record (new_rule (codes "page")) { long = Some (codes "page"); action = Some SetTrue }
 
@@ -47,21 +56,25 @@ name_rule = record (with_value (codes "name")) { action = Some Append }
 abbrev pub bare_command : App
 bare_command = on_top (λ s. record s { no_binary_name = true }) (new_app (codes "guacgate serve"))
 
--- .. with where it listens and records, with what it notes, with whom it dials and gives up, with its page
+-- .. with where it listens and records, with what it notes and where it tells, with whom it dials and gives up, with what
+-- its sessions show, with its page
 abbrev pub with_place : App → App
 with_place app = with_rule (with_rule (with_rule app seed_rule) port_rule) recorder_rule
 
 abbrev pub with_notes : App → App
-with_notes app = with_rule (with_rule app log_rule) log_format_rule
+with_notes app = with_rule (with_rule (with_rule app log_rule) log_format_rule) admin_rule
 
 abbrev pub with_limits : App → App
 with_limits app = with_rule (with_rule (with_rule app allow_rule) silence_rule) linger_rule
+
+abbrev pub with_faces : App → App
+with_faces app = with_rule app faces_rule
 
 abbrev pub with_page : App → App
 with_page app = with_rule (with_rule app page_rule) name_rule
 
 abbrev pub serve_command : App
-serve_command = with_page (with_limits (with_notes (with_place bare_command)))
+serve_command = with_page (with_faces (with_limits (with_notes (with_place bare_command))))
 
 -- the texts of the options, each where it is there
 pub record Texts : Type 0 where
@@ -70,9 +83,11 @@ pub record Texts : Type 0 where
   pub recorder : Option Text
   pub level : Option Text
   pub format : Option Text
+  pub admin : Option Text
   pub allow : Option (List Text)
   pub silence : Option Text
   pub linger : Option Text
+  pub faces : Option Text
   pub page : Option Text
   pub names : Option (List Text)
 
@@ -84,9 +99,11 @@ texts_by first all = record {
   recorder = first (codes "recorder");
   level = first (codes "log");
   format = first (codes "log-format");
+  admin = first (codes "admin");
   allow = all (codes "allow");
   silence = first (codes "silence");
   linger = first (codes "linger");
+  faces = first (codes "faces");
   page = first (codes "page");
   names = all (codes "name");
 }
@@ -101,20 +118,34 @@ module _ {A B : Type 0} where
   from None next = None
   from (Some value) next = next value
 
--- the options of the texts, where each is of its form
-abbrev pub options_in : Texts → Option Options
-options_in t =
+-- where it listens, records, notes and tells, of the texts, where each is of its form
+abbrev pub place_in : Texts → Option Place
+place_in t =
     from (option_and_then seed_of t.seed) (λ seed.
     from (option_and_then port_of t.port) (λ port.
     from (recorder_of t.recorder) (λ recorder.
     from (option_and_then level_of t.level) (λ level.
     from (option_and_then format_of t.format) (λ format.
+    from (admin_of t.admin) (λ admin.
+    Some (record { seed = seed; port = port; recorder = recorder; level = level; format = format; admin = admin })))))))
+
+-- .. and whom it dials and gives up, and what it shows
+abbrev pub manner_in : Texts → Option Manner
+manner_in t =
     from (allowed_of t.allow) (λ allow.
     from (option_and_then seconds_of t.silence) (λ silence.
     from (option_and_then seconds_of t.linger) (λ linger.
+    from (option_and_then faces_of t.faces) (λ faces.
     from (option_and_then flag_of t.page) (λ has_page.
     from (page_of has_page t.names) (λ page.
-    Some (record { seed = seed; port = port; recorder = recorder; level = level; format = format; allow = allow; silence = silence; linger = linger; page = page })))))))))))
+    Some (record { allow = allow; silence = silence; linger = linger; faces = faces; page = page })))))))
+
+-- the options of both
+abbrev pub options_with : Place → Manner → Options
+options_with p m = record { seed = p.seed; port = p.port; recorder = p.recorder; level = p.level; format = p.format; admin = p.admin; allow = m.allow; silence = m.silence; linger = m.linger; faces = m.faces; page = m.page }
+
+abbrev pub options_in : Texts → Option Options
+options_in t = from (place_in t) (λ place. from (manner_in t) (λ manner. Some (options_with place manner)))
 
 -- nothing, where the command refuses the words
 abbrev pub unless_refused : Kinds → Option Options → Option Options

@@ -5,6 +5,8 @@ use Rattle.std.specs.List.{list_all}
 use Rattle.std.specs.Option.{option_map}
 use Rattle.std.specs.Path.{rsplit_once}
 use Rattle.std.specs.Result.{result_ok}
+use Rattle.gate_model.specs.declared.faces.Faces.{Faces}
+use Rattle.gate_model.specs.declared.faces.Faces.TheVariants.{Ascii, More}
 use Rattle.gate_model.specs.text.Numerals.{number_within}
 use Rattle.hex.specs.Hex.{decode_sized}
 use Rattle.log.specs.declared.level.LevelFilter.{LevelFilter}
@@ -31,6 +33,10 @@ level_of text =
 -- notes are written as text or as JSON
 abbrev pub format_of : List ℕ → Option LogFormat
 format_of text = if bytes_eq text (codes "text") then Some Text else if bytes_eq text (codes "json") then Some Json else None
+
+-- sessions have the faces of ASCII alone, or more
+abbrev pub faces_of : List ℕ → Option Faces
+faces_of text = if bytes_eq text (codes "ascii") then Some Ascii else if bytes_eq text (codes "more") then Some More else None
 
 -- an address of a recorder: a host, which isn't empty, and a port
 abbrev pub Address : Type 0
@@ -69,6 +75,22 @@ allowed_of (Some texts) = option_map (λ addresses. Some addresses) (addresses_o
 abbrev pub recorder_of : Option (List ℕ) → Option (Option Address)
 recorder_of None = Some None
 recorder_of (Some text) = option_map (λ address. Some address) (address_of text)
+
+-- where the operator asks: an address and a port, or a port of this machine alone, where no colon stands in the text
+abbrev pub at_loopback : ℕ → Address
+at_loopback port = (codes "127.0.0.1", port)
+
+abbrev pub place_in : List ℕ → Option (List ℕ × List ℕ) → Option Address
+place_in text None = option_map at_loopback (port_of text)
+place_in text (Some parts) = address_in parts
+
+abbrev pub place_of : List ℕ → Option Address
+place_of text = place_in text (rsplit_once 0x3A text)
+
+-- the place that an option names; without the option the operator asks nowhere
+abbrev pub admin_of : Option (List ℕ) → Option (Option Address)
+admin_of None = Some None
+admin_of (Some text) = option_map (λ place. Some place) (place_of text)
 
 -- whether a flag is given, by the text that the command has for it
 abbrev pub flag_of : List ℕ → Option Bool

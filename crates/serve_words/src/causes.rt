@@ -6,7 +6,9 @@ ghost use Rattle.serve_words.specs.Given.{options_given};
 use crate::command::serve_command;
 use crate::names::is_name;
 use crate::texts::{Texts, texts_in};
-use crate::values::{address_of, format_of, level_of, port_of, seconds_of, seed_of};
+use crate::values::{
+    address_of, faces_of, format_of, level_of, place_of, port_of, seconds_of, seed_of,
+};
 use crate::{WordsFault, options_of};
 use gate_model::NoMemory;
 use std::alloc::Global;
@@ -45,6 +47,13 @@ pub fn cause_of_prefix(alloc: Global, host: &str, port: u16) -> Result<String, N
     )?)
 }
 
+/// What is said of a value of `--admin` whose address is none, with an end of line.
+pub fn cause_of_admin(alloc: Global, address: &str, port: u16) -> Result<String, NoMemory> {
+    Ok(format!(in alloc; "error: invalid value '{address}:{port}' for '{ADMIN}': {PLACE}\n")?)
+}
+
+const ADMIN: &str = "--admin <ADDRESS:PORT>";
+
 // What a value is, for each option.
 const SEED: &str = "it is 64 hexadecimal digits";
 
@@ -52,9 +61,13 @@ const PORT: &str = "it is 1 to 65535";
 
 const ADDRESS: &str = "it is a host, a colon and a port of 1 to 65535";
 
+const PLACE: &str = "it is an IP address, a colon and a port, or a port alone, of 1 to 65535";
+
 const LEVEL: &str = "it is error, warn or info";
 
 const FORMAT: &str = "it is text or json";
+
+const FACES: &str = "it is ascii or more";
 
 const SECONDS: &str = "it is 0 to 1000000";
 
@@ -112,9 +125,21 @@ fn unfit_in<'a>(texts: &Texts<'a>) -> Option<Unfit<'a>> {
         "--log-format <FORMAT>",
         FORMAT,
     ))
+    .or_else(|| unfit_one(
+        texts.admin,
+        texts.admin.and_then(place_of).is_some(),
+        ADMIN,
+        PLACE,
+    ))
     .or_else(|| unfit_address(texts.allow.unwrap_or(&[])))
     .or_else(|| unfit_seconds(texts.silence, "--silence <SECONDS>"))
     .or_else(|| unfit_seconds(texts.linger, "--linger <SECONDS>"))
+    .or_else(|| unfit_one(
+        texts.faces,
+        texts.faces.and_then(faces_of).is_some(),
+        "--faces <SET>",
+        FACES,
+    ))
     .or_else(|| unfit_name(texts.names.unwrap_or(&[])))
 }
 

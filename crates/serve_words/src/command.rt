@@ -2,7 +2,7 @@
 
 ghost use Rattle.std.specs.Prelude.{◌≡◌, IfOk, false};
 ghost use Rattle.clap.specs.Words.{app_of, rule_of};
-ghost use Rattle.serve_words.specs.Given.{serve_command, with_limits, with_notes, with_page, with_place, with_value};
+ghost use Rattle.serve_words.specs.Given.{serve_command, with_faces, with_limits, with_notes, with_page, with_place, with_value};
 
 use clap::{Arg, ArgAction, Command};
 use gate_model::NoMemory;
@@ -16,7 +16,8 @@ pub(crate) fn serve_command<'a>(alloc: Global) -> Result<Command<'a>, AllocError
     let placed = with_place(alloc, bare)?;
     let noted = with_notes(alloc, placed)?;
     let limited = with_limits(alloc, noted)?;
-    with_page(alloc, limited)
+    let shown = with_faces(alloc, limited)?;
+    with_page(alloc, shown)
 }
 
 // The command with the options of where it listens, under which secret, and where sessions are recorded.
@@ -42,7 +43,7 @@ fn with_place<'a>(alloc: Global, command: Command<'a>) -> Result<Command<'a>, Al
     command.arg(seed)?.arg(port)?.arg(recorder)
 }
 
-// The command with the options of what is noted.
+// The command with the options of what is noted, and where the operator asks.
 fn with_notes<'a>(alloc: Global, command: Command<'a>) -> Result<Command<'a>, AllocError>
     ensures { IfOk result (λ more. app_of more ≡ with_notes (app_of command.entry)) }
 {
@@ -60,7 +61,13 @@ fn with_notes<'a>(alloc: Global, command: Command<'a>) -> Result<Command<'a>, Al
         "how notes are written, a line for each: text, or json",
     )
     .default_value("text");
-    command.arg(level)?.arg(format)
+    let admin = option(
+        alloc,
+        "admin",
+        "ADDRESS:PORT",
+        "where the operator asks what runs, and ends sessions; a port alone is one of 127.0.0.1",
+    );
+    command.arg(level)?.arg(format)?.arg(admin)
 }
 
 // The command with the options of what may be dialed, and who is given up.
@@ -89,6 +96,20 @@ fn with_limits<'a>(alloc: Global, command: Command<'a>) -> Result<Command<'a>, A
     )
     .default_value("0");
     command.arg(allow)?.arg(silence)?.arg(linger)
+}
+
+// The command with the option of what sessions show.
+fn with_faces<'a>(alloc: Global, command: Command<'a>) -> Result<Command<'a>, AllocError>
+    ensures { IfOk result (λ more. app_of more ≡ with_faces (app_of command.entry)) }
+{
+    let faces = option(
+        alloc,
+        "faces",
+        "SET",
+        "which characters sessions show: ascii, or more, with line drawing, accents and signs",
+    )
+    .default_value("ascii");
+    command.arg(faces)
 }
 
 // The command with the options of the page.

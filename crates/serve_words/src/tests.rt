@@ -1,4 +1,5 @@
-use crate::{LogFormat, WordsFault, cause, cause_of_prefix, help, options_of};
+use crate::{LogFormat, WordsFault, cause, cause_of_admin, cause_of_prefix, help, options_of};
+use gate_model::Faces;
 use log::LevelFilter;
 use std::alloc::Global;
 use std::test::Fail;
@@ -21,7 +22,7 @@ fn options_come_from_the_words(rt: HostRuntime) -> Result<(), Fail> {
     let plain = options_of(alloc, &words(alloc, "--seed SEED")?)
         .ok()
         .ok_or("refused")?;
-    let line = "--port=080 --log info --log-format=json --seed SEED --recorder=::1:09";
+    let line = "--port=080 --log info --log-format=json --faces more --seed SEED --recorder=::1:09";
     let full = options_of(alloc, &words(alloc, line)?)
         .ok()
         .ok_or("refused")?;
@@ -31,6 +32,7 @@ fn options_come_from_the_words(rt: HostRuntime) -> Result<(), Fail> {
     );
     assert!(rt; plain.level == LevelFilter::Warn && full.level == LevelFilter::Info);
     assert!(rt; plain.format == LogFormat::Text && full.format == LogFormat::Json);
+    assert!(rt; plain.faces == Faces::Ascii && full.faces == Faces::More);
     assert!(rt; full.port == 80 && plain.recorder.is_none());
     let (host, port) = full.recorder.ok_or("no recorder")?;
     assert!(rt; host.as_str() == "::1" && port == 9);
@@ -51,6 +53,28 @@ fn what_may_be_dialed_is_given_any_number_of_times(rt: HostRuntime) -> Result<()
     let wanted = [("a", 23u16), ("10.0.0.0/8", 2323)];
     for ((host, port), (name, number)) in allow.as_slice().iter().zip(wanted.iter()) {
         assert!(rt; host.as_str() == *name && port == number);
+    }
+    Ok(())
+}
+
+// A port alone is one of this machine.
+#[test]
+fn the_operator_asks_at_a_place(rt: HostRuntime) -> Result<(), Fail> {
+    let alloc = rt.alloc();
+    for (line, wanted) in [
+        ("--seed SEED", None),
+        ("--seed SEED --admin 4824", Some(("127.0.0.1", 4824u16))),
+        ("--admin=10.0.0.1:0080 --seed SEED", Some(("10.0.0.1", 80))),
+        ("--admin [::1]:65535 --seed SEED", Some(("[::1]", 65_535))),
+    ] {
+        let given = options_of(alloc, &words(alloc, line)?)
+            .ok()
+            .ok_or("refused")?;
+        let found = match &given.admin {
+            Some((address, port)) => Some((address.as_str(), *port)),
+            None => None,
+        };
+        assert!(rt; found == wanted, "{line}");
     }
     Ok(())
 }
@@ -98,6 +122,13 @@ fn faulty_words_are_refused(rt: HostRuntime) -> Result<(), Fail> {
         "--seed SEED --log-format JSON",
         "--seed SEED --log-format",
         "--seed SEED --log-format json --log-format json",
+        "--seed SEED --admin localhost",
+        "--seed SEED --admin :80",
+        "--seed SEED --admin 0",
+        "--seed SEED --admin=",
+        "--seed SEED --admin 65536",
+        "--seed SEED --admin 127.0.0.1:",
+        "--seed SEED --admin 1 --admin 2",
         "--seed SEED --recorder localhost",
         "--seed SEED --recorder :23",
         "--seed SEED --recorder localhost:",
@@ -113,6 +144,8 @@ fn faulty_words_are_refused(rt: HostRuntime) -> Result<(), Fail> {
         "--seed SEED --silence 1s",
         "--seed SEED --linger=",
         "--seed SEED --linger 1 --linger 2",
+        "--seed SEED --faces latin",
+        "--seed SEED --faces",
         "--seed SEED --page=yes",
         "--seed SEED --page --page",
         "--seed SEED --page --name",
@@ -137,9 +170,11 @@ fn help_names_the_options(rt: HostRuntime) -> Result<(), Fail> {
         "--recorder <HOST:PORT>",
         "--log <LEVEL>",
         "--log-format <FORMAT>",
+        "--admin <ADDRESS:PORT>",
         "--allow <HOST:PORT>",
         "--silence <SECONDS>",
         "--linger <SECONDS>",
+        "--faces <SET>",
         "--page",
         "--name <NAME>",
     ] {
@@ -191,6 +226,12 @@ fn a_faulty_value_is_told(rt: HostRuntime) -> Result<(), Fail> {
             "it is text or json",
         ),
         (
+            "--seed SEED --admin here",
+            "here",
+            "--admin <ADDRESS:PORT>",
+            "it is an IP address, a colon and a port, or a port alone, of 1 to 65535",
+        ),
+        (
             "--seed SEED --allow a:23 --allow=:23",
             ":23",
             "--allow <HOST:PORT>",
@@ -207,6 +248,12 @@ fn a_faulty_value_is_told(rt: HostRuntime) -> Result<(), Fail> {
             "1000001",
             "--linger <SECONDS>",
             "it is 0 to 1000000",
+        ),
+        (
+            "--seed SEED --faces=More",
+            "More",
+            "--faces <SET>",
+            "it is ascii or more",
         ),
         (
             "--seed SEED --page --name gate --name=a/b",

@@ -16,9 +16,11 @@ pub(crate) struct Texts<'a> {
     pub(crate) recorder: Option<&'a str>,
     pub(crate) level: Option<&'a str>,
     pub(crate) format: Option<&'a str>,
+    pub(crate) admin: Option<&'a str>,
     pub(crate) allow: Option<&'a [&'a str]>,
     pub(crate) silence: Option<&'a str>,
     pub(crate) linger: Option<&'a str>,
+    pub(crate) faces: Option<&'a str>,
     pub(crate) page: Option<&'a str>,
     pub(crate) names: Option<&'a [&'a str]>,
 }
@@ -29,7 +31,7 @@ impl<'a> Model for Texts<'a> {
 
     ghost Value = { GivenTexts };
 
-    ghost view = { λ s. record { seed = option_map (λ t. t.now) s.seed; port = option_map (λ t. t.now) s.port; recorder = option_map (λ t. t.now) s.recorder; level = option_map (λ t. t.now) s.level; format = option_map (λ t. t.now) s.format; allow = option_map (λ l. map (λ t. t.now) l.now) s.allow; silence = option_map (λ t. t.now) s.silence; linger = option_map (λ t. t.now) s.linger; page = option_map (λ t. t.now) s.page; names = option_map (λ l. map (λ t. t.now) l.now) s.names } };
+    ghost view = { λ s. record { seed = option_map (λ t. t.now) s.seed; port = option_map (λ t. t.now) s.port; recorder = option_map (λ t. t.now) s.recorder; level = option_map (λ t. t.now) s.level; format = option_map (λ t. t.now) s.format; admin = option_map (λ t. t.now) s.admin; allow = option_map (λ l. map (λ t. t.now) l.now) s.allow; silence = option_map (λ t. t.now) s.silence; linger = option_map (λ t. t.now) s.linger; faces = option_map (λ t. t.now) s.faces; page = option_map (λ t. t.now) s.page; names = option_map (λ l. map (λ t. t.now) l.now) s.names } };
 }
 
 /// What the command found.
@@ -42,9 +44,11 @@ pub(crate) fn texts_in<'a>(matches: &'a ArgMatches<'_>) -> Texts<'a>
         recorder: matches.get_str("recorder"),
         level: matches.get_str("log"),
         format: matches.get_str("log-format"),
+        admin: matches.get_str("admin"),
         allow: matches.get_strs("allow"),
         silence: matches.get_str("silence"),
         linger: matches.get_str("linger"),
+        faces: matches.get_str("faces"),
         page: matches.get_str("page"),
         names: matches.get_strs("name"),
     }

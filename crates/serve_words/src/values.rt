@@ -6,9 +6,10 @@ ghost use Rattle.std.specs.List.{AllPass, list_all};
 ghost use Rattle.gate_model.specs.text.Numerals.{is_number};
 ghost use Rattle.gate_model.specs.text.Spelling.{number_of};
 ghost use Rattle.hex.specs.Hex.{is_hex_digit};
-ghost use Rattle.serve_words.specs.Values.{address_in, address_of, flag_of, format_of, level_of, port_of, seconds_of, seed_of};
+ghost use Rattle.serve_words.specs.Values.{address_in, address_of, at_loopback, faces_of, flag_of, format_of, level_of, place_of, port_of, seconds_of, seed_of};
 
 use crate::LogFormat;
+use gate_model::Faces;
 use hex::FromHex;
 use log::LevelFilter;
 
@@ -101,6 +102,17 @@ pub(crate) fn format_of(text: &str) -> Option<LogFormat>
     }
 }
 
+/// The set of faces of one of the two words.
+pub(crate) fn faces_of(text: &str) -> Option<Faces>
+    ensures { result ≡ faces_of text.now }
+{
+    match text {
+        "ascii" => Some(Faces::Ascii),
+        "more" => Some(Faces::More),
+        _ => None,
+    }
+}
+
 /// Whether a flag is given.
 pub(crate) fn flag_of(text: &str) -> Option<bool>
     ensures { result ≡ flag_of text.now }
@@ -120,6 +132,24 @@ pub(crate) fn address_of(text: &str) -> Option<(&str, u16)>
         Some((host, port)) => address_in(host, port),
         None => None,
     }
+}
+
+/// The address and the port that stand round the last colon, or the port alone, of this machine.
+pub(crate) fn place_of(text: &str) -> Option<(&str, u16)>
+    ensures { option_map (λ address. (address.0.now, address.1)) result ≡ place_of text.now }
+{
+    let Some((address, port)) = text.rsplit_once(':') else {
+        return place_at(text);
+    };
+    address_in(address, port)
+}
+
+// The port of this machine.
+fn place_at<'a>(port: &str) -> Option<(&'a str, u16)>
+    ensures { option_map (λ address. (address.0.now, address.1)) result ≡ option_map at_loopback (port_of port.now) }
+{
+    let port = port_of(port)?;
+    Some(("127.0.0.1", port))
 }
 
 // The host, which isn't empty, and the port.

@@ -6,6 +6,7 @@ use Rattle.id_table.specs.Maps.{Changed, Same, Told, had}
 use Rattle.id_table.specs.Refused.{IfConflict}
 use Rattle.id_table.specs.declared.add_refusal.AddRefusal.{AddRefusal}
 use Rattle.id_table.specs.declared.add_refusal.AddRefusal.TheVariants.{Conflict as conflict}
+use Rattle.gate_model.specs.declared.faces.Faces.{Faces}
 use Rattle.guac_handshake.specs.Doors.{AddedOne, HasConflict, RemovedOne, TellsConflict}
 use Rattle.guac_handshake.specs.declared.refused.Refused.TheVariants.{Conflict, NoMemory}
 use Rattle.service_door.specs.Sessions.{NoneLent, SessionState, histories, history_of, sessions_of}
@@ -121,10 +122,10 @@ pub any_unlent : {E : Type 0} (told after : Option Table) (r : Result (List ℕ)
 any_unlent told after (Ok id) s h ok err = add_unlent told after id s h ok
 any_unlent told after (Err e) s h ok err = same_unlent told after h err
 
-pub begun : (wanted : Bool) (told after : Option Table) (ask : Ask) (welcome : Welcome Place) (id : List ℕ) (s : SessionState) → id_of_name welcome.id ≡ Some id → s.places ≡ 1 → HasStarted wanted ask welcome.place s.host → Told told after (Adds id s) → IsBegun wanted after ask welcome
-begun wanted told None ask welcome id s named one h t = tt
-begun wanted None (Some n) ask welcome id s named one h t = absurd t
-begun wanted (Some m) (Some n) ask welcome id s named one h t = record {
+pub begun : (wanted : Bool) (faces : Faces) (told after : Option Table) (ask : Ask) (welcome : Welcome Place) (id : List ℕ) (s : SessionState) → id_of_name welcome.id ≡ Some id → s.places ≡ 1 → HasStarted wanted faces ask welcome.place s.host → Told told after (Adds id s) → IsBegun wanted faces after ask welcome
+begun wanted faces told None ask welcome id s named one h t = tt
+begun wanted faces None (Some n) ask welcome id s named one h t = absurd t
+begun wanted faces (Some m) (Some n) ask welcome id s named one h t = record {
   id = id;
   named = named;
   session = s;

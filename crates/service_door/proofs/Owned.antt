@@ -17,6 +17,7 @@ use Rattle.gate_model.specs.declared.event.Event.TheVariants.{Join as join}
 use Rattle.gate_model.specs.declared.instr.Instr.{Instr}
 use Rattle.gate_model.specs.declared.join_refusal.JoinRefusal.{JoinRefusal}
 use Rattle.gate_model.specs.declared.joined.Joined.{Joined}
+use Rattle.gate_model.specs.declared.faces.Faces.{Faces}
 use Rattle.gate_model.specs.declared.setup.Setup.{Setup}
 use Rattle.gate_model.specs.declared.sharing.Asked.{Asked}
 use Rattle.gate_model.specs.declared.sharing.Asked.TheVariants.{Owner}
@@ -68,11 +69,11 @@ pub record IsOwned (setup : Setup) (h : History) (text : List ℕ) : Type 0 wher
   pub stamp : ℕ
   pub frame : List Instr
   pub first : List Instr
-  pub seen : h ≡ Join 1 Control first ∷ Start setup.cols setup.rows setup.mode setup.term setup.entries stamp frame ∷ []
+  pub seen : h ≡ Join 1 Control first ∷ Start setup.cols setup.rows setup.mode setup.term setup.faces setup.entries stamp frame ∷ []
   pub gave : text ≡ texts (delivered h 1)
 
 abbrev starts : (setup : Setup) (stamp : ℕ) (frame : List Instr) → Entry
-starts setup stamp frame = Start setup.cols setup.rows setup.mode setup.term setup.entries stamp frame
+starts setup stamp frame = Start setup.cols setup.rows setup.mode setup.term setup.faces setup.entries stamp frame
 
 may_type : (mode : _) (role : Role) → grant_of mode Owner ≡ Ok role → role ≡ Control
 may_type mode role e = let w : Ok Control ≡ Ok role = e in cc
@@ -123,8 +124,8 @@ opens setup d text r = inr (starts setup r.owned.stamp r.owned.frame, Control, r
 same_role : (role : Role) (first given : List Instr) (e f : Entry) → Join 1 role first ∷ e ∷ [] ≡ Join 1 Control given ∷ f ∷ [] → role ≡ Control
 same_role role first given e f is = cc
 
-pub opened : (ask : Ask) (setup : Setup) (h : History) (host : HostState) (place : Place) (text : List ℕ) → HasSetup ask setup → IsOwned setup h text → HasBegun h host (Some place) → HasOpened ask host place text
-opened ask setup h host place text s o b = record {
+pub opened : (faces : Faces) (ask : Ask) (setup : Setup) (h : History) (host : HostState) (place : Place) (text : List ℕ) → HasSetup ask faces setup → IsOwned setup h text → HasBegun h host (Some place) → HasOpened faces ask host place text
+opened faces ask setup h host place text s o b = record {
   started = record {
     stamp = o.stamp;
     frame = o.frame;
@@ -140,9 +141,10 @@ opened ask setup h host place text s o b = record {
   fresh = subst (IsFresh place) (sym o.gave) b.7;
 }
   where
-    named : Join 1 Control o.first ∷ starts setup o.stamp o.frame ∷ [] ≡ Join 1 Control o.first ∷ Start ask.cols ask.rows ask.mode ask.term most_entries o.stamp o.frame ∷ []
-    named = ap (λ (c : ℕ). Join 1 Control o.first ∷ Start c setup.rows setup.mode setup.term setup.entries o.stamp o.frame ∷ []) s.cols
-        ∙ (ap (λ (r : ℕ). Join 1 Control o.first ∷ Start ask.cols r setup.mode setup.term setup.entries o.stamp o.frame ∷ []) s.rows
-        ∙ (ap (λ (m : _). Join 1 Control o.first ∷ Start ask.cols ask.rows m setup.term setup.entries o.stamp o.frame ∷ []) s.mode
-        ∙ (ap (λ (t : List ℕ). Join 1 Control o.first ∷ Start ask.cols ask.rows ask.mode t setup.entries o.stamp o.frame ∷ []) s.term
-        ∙ ap (λ (n : ℕ). Join 1 Control o.first ∷ Start ask.cols ask.rows ask.mode ask.term n o.stamp o.frame ∷ []) s.entries)))
+    named : Join 1 Control o.first ∷ starts setup o.stamp o.frame ∷ [] ≡ Join 1 Control o.first ∷ Start ask.cols ask.rows ask.mode ask.term faces most_entries o.stamp o.frame ∷ []
+    named = ap (λ (c : ℕ). Join 1 Control o.first ∷ Start c setup.rows setup.mode setup.term setup.faces setup.entries o.stamp o.frame ∷ []) s.cols
+        ∙ (ap (λ (r : ℕ). Join 1 Control o.first ∷ Start ask.cols r setup.mode setup.term setup.faces setup.entries o.stamp o.frame ∷ []) s.rows
+        ∙ (ap (λ (m : _). Join 1 Control o.first ∷ Start ask.cols ask.rows m setup.term setup.faces setup.entries o.stamp o.frame ∷ []) s.mode
+        ∙ (ap (λ (t : List ℕ). Join 1 Control o.first ∷ Start ask.cols ask.rows ask.mode t setup.faces setup.entries o.stamp o.frame ∷ []) s.term
+        ∙ (ap (λ (f : Faces). Join 1 Control o.first ∷ Start ask.cols ask.rows ask.mode ask.term f setup.entries o.stamp o.frame ∷ []) s.faces
+        ∙ ap (λ (n : ℕ). Join 1 Control o.first ∷ Start ask.cols ask.rows ask.mode ask.term faces n o.stamp o.frame ∷ []) s.entries))))

@@ -3,6 +3,7 @@ use Rattle.std.specs.Prelude.{◌≡◌, ℕ, ◌^◌, Bool, List, [], ◌∷◌
 use Rattle.gate_model.specs.session.History.{History, share_mode}
 use Rattle.gate_model.specs.session.Roles.{grant_of}
 use Rattle.gate_model.specs.declared.entry.Entry.TheVariants.{Join, Start}
+use Rattle.gate_model.specs.declared.faces.Faces.{Faces}
 use Rattle.gate_model.specs.declared.instr.Instr.{Instr}
 use Rattle.gate_model.specs.declared.setup.Setup.{Setup}
 use Rattle.gate_model.specs.declared.sharing.Asked.{Asked}
@@ -20,12 +21,13 @@ use Rattle.service_door.specs.Sessions.{SessionState}
 abbrev pub most_entries : ℕ
 most_entries = 2 ^ 40
 
--- the session is opened as it was asked, for as many entries as a session may have
-pub record HasSetup (ask : Ask) (setup : Setup) : Type 0 where
+-- the session is opened as it was asked, with the faces of the door, for as many entries as a session may have
+pub record HasSetup (ask : Ask) (set : Faces) (setup : Setup) : Type 0 where
   pub cols : setup.cols ≡ ask.cols
   pub rows : setup.rows ≡ ask.rows
   pub mode : setup.mode ≡ ask.mode
   pub term : setup.term ≡ ask.term
+  pub faces : setup.faces ≡ set
   pub entries : setup.entries ≡ most_entries
 
 -- the place is that of this viewer of the host's session
@@ -35,17 +37,17 @@ pub record IsSeated (viewer : ℕ) (place : Place) (host : HostState) : Type 0 w
 
 -- the host has seen a Start as it was asked, and the Join of viewer 1, who may type; the place is its. Where no
 -- recorder is wanted it has seen just these
-pub record HasStarted (wanted : Bool) (ask : Ask) (place : Place) (host : HostState) : Type 0 where
+pub record HasStarted (wanted : Bool) (faces : Faces) (ask : Ask) (place : Place) (host : HostState) : Type 0 where
   pub stamp : ℕ
   pub frame : List Instr
   pub first : List Instr
-  pub seen : HasSeen wanted (Join 1 Control first ∷ Start ask.cols ask.rows ask.mode ask.term most_entries stamp frame ∷ []) host.view.seen
+  pub seen : HasSeen wanted (Join 1 Control first ∷ Start ask.cols ask.rows ask.mode ask.term faces most_entries stamp frame ∷ []) host.view.seen
   pub role : place.role ≡ Control
   pub seat : IsSeated 1 place host
 
 -- a session that its owner has joined, whose link nobody has
-pub record HasOpened (ask : Ask) (host : HostState) (place : Place) (given : List ℕ) : Type 0 where
-  pub started : HasStarted false ask place host
+pub record HasOpened (faces : Faces) (ask : Ask) (host : HostState) (place : Place) (given : List ℕ) : Type 0 where
+  pub started : HasStarted false faces ask place host
   pub linked : host.linked ≡ false
   pub fresh : IsFresh place given
 
@@ -56,17 +58,17 @@ pub record HasPrepared (host : HostState) (s : SessionState) : Type 0 where
   pub places : s.places ≡ 1
 
 -- a session of this name is in the table, so begun; one place of it is out, and a recorder's isn't counted
-pub record IsBegunAt (wanted : Bool) (m : Shelved SessionState) (ask : Ask) (welcome : Welcome Place) : Type 0 where
+pub record IsBegunAt (wanted : Bool) (faces : Faces) (m : Shelved SessionState) (ask : Ask) (welcome : Welcome Place) : Type 0 where
   pub id : List ℕ
   pub named : id_of_name welcome.id ≡ Some id
   pub session : SessionState
   pub there : m id ≡ Some (Some session)
-  pub started : HasStarted wanted ask welcome.place session.host
+  pub started : HasStarted wanted faces ask welcome.place session.host
   pub places : session.places ≡ 1
 
-abbrev pub IsBegun : Bool → Option (Shelved SessionState) → Ask → Welcome Place → Type 0
-IsBegun wanted None ask welcome = Unit {0}
-IsBegun wanted (Some m) ask welcome = IsBegunAt wanted m ask welcome
+abbrev pub IsBegun : Bool → Faces → Option (Shelved SessionState) → Ask → Welcome Place → Type 0
+IsBegun wanted faces None ask welcome = Unit {0}
+IsBegun wanted faces (Some m) ask welcome = IsBegunAt wanted faces m ask welcome
 
 -- the host has seen last the Join of the viewer whose place this is, with the role that the table of roles gives for what
 -- was asked

@@ -10,7 +10,7 @@ use std::sync::atomic::Ordering::SeqCst;
 use uuid::Uuid;
 
 impl Session {
-    /// Why the session was closed, once its pump has ended.
+    /// Why the session was closed, once that was asked for or its pump has ended.
     pub fn cause(&self) -> Option<Cause> {
         cause_of(self.marks.cause())
     }

@@ -12,7 +12,7 @@ use crate::making::{Made, Parts, make};
 use crate::recorder::RecorderJob;
 use crate::refusals::refused_of;
 use crate::session::Session;
-use gate_model::{Asked, Bytes, Text};
+use gate_model::{Asked, Bytes, Faces, Text};
 use gate_outside::{Bell, Counted, DialFault, Helper, Way};
 use guac_handshake::{Ask, Begun, Door, NAME_BYTES, Refused, Welcome, id_named, name_in, name_of};
 use id_table::{AddRefusal, Shelf};
@@ -31,19 +31,21 @@ pub struct ServiceDoor<'a, T: Shelf<Session>, H, B> {
     helper: &'a mut H,
     bell: &'a B,
     recorder: Option<(Text, u16)>,
+    faces: Faces,
     ghost unlent: { NoneLent (T.told sessions.now) },
 }
 
 impl<'a, T: Shelf<Session>, H: Helper, B: Bell> ServiceDoor<'a, T, H, B> {
     /// A door over these sessions, of which none is lent. It dials, starts jobs, draws IDs and tells moments by
     /// the helper. The jobs of a session have a bell each that rings with this one. The recorder is the host and the
-    /// port that are dialed once for each session, to record it. The door owns them, since the text is small and a
+    /// port that are dialed once for each session, to record it; the faces are those of each session. The door owns them, since the text is small and a
     /// door lives for one connection.
     pub fn new(
         sessions: &'a mut T,
         helper: &'a mut H,
         bell: &'a B,
         recorder: Option<(Text, u16)>,
+        faces: Faces,
     ) -> ServiceDoor<'a, T, H, B>
         requires { NoneLent (T.told sessions.now) }
     {
@@ -52,6 +54,7 @@ impl<'a, T: Shelf<Session>, H: Helper, B: Bell> ServiceDoor<'a, T, H, B> {
             helper,
             bell,
             recorder,
+            faces,
         }
     }
 }
@@ -92,7 +95,7 @@ impl<'a, T: Shelf<Session>, H: Helper, B: Bell + Send + 'static> Door for Servic
 
     ghost asked = { λ _. None };
 
-    ghost begun = { λ d ask welcome. IsBegun (is_some d.recorder) (T.told d.sessions.now) ask welcome };
+    ghost begun = { λ d ask welcome. IsBegun (is_some d.recorder) d.faces (T.told d.sessions.now) ask welcome };
 
     ghost joined = { λ d role welcome. IsJoined (T.told d.sessions.now) role welcome };
 
@@ -127,6 +130,7 @@ impl<'a, T: Shelf<Session>, H: Helper, B: Bell + Send + 'static> Door for Servic
         };
         let parts = Parts {
             now,
+            faces: self.faces,
             clock,
             link,
             wanted: self.recorder.is_some(),

@@ -10,18 +10,19 @@ use crate::opening::{Opened, Prepared, open_session, prepare};
 use crate::recorder::RecorderJob;
 use crate::recording::recorder_of;
 use crate::session::Session;
-use gate_model::{Bytes, NoMemory, Share};
+use gate_model::{Bytes, Faces, NoMemory, Share};
 use gate_outside::Bell;
 use guac_handshake::{Ask, Recorder};
 use shared_desk::Place;
 use std::alloc::Global;
 use std::sync::Wait;
 
-/// What a session is made of: its first moment, the clock and the link of its pump and its sender, whether a recorder
+/// What a session is made of: its first moment, the faces of its screen, the clock and the link of its pump and its sender, whether a recorder
 /// is wanted, and the link of that, if it could be dialed.
 #[derive(Drop)]
 pub(crate) struct Parts<S, K, C> {
     pub(crate) now: u64,
+    pub(crate) faces: Faces,
     pub(crate) clock: C,
     pub(crate) link: (S, K),
     pub(crate) wanted: bool,
@@ -47,12 +48,13 @@ pub(crate) fn make<R: Wait, S: Drop, K: Drop, C: Drop, B: Bell>(
     parts: Parts<S, K, C>,
     bell: &B,
 ) -> Result<Made<S, K, C, B>, NoMemory>
-    ensures started { IfOk result (λ made. HasStarted parts.wanted ask.now made.place made.session.host) }
+    ensures started { IfOk result (λ made. HasStarted parts.wanted parts.faces ask.now made.place made.session.host) }
     ensures places { IfOk result (λ made. made.session.places ≡ 1) }
     ensures fresh { IfOk result (λ made. IsFresh made.place made.first) }
 {
     let Parts {
         now,
+        faces,
         clock,
         link,
         wanted,
@@ -62,7 +64,7 @@ pub(crate) fn make<R: Wait, S: Drop, K: Drop, C: Drop, B: Bell>(
         mut host,
         place,
         first,
-    } = open_session(alloc, now, ask)?;
+    } = open_session(alloc, now, faces, ask)?;
     let marks = SharedMarks::new(alloc, ask.mode != Share::Nobody)?;
     let recorder = recorder_of(rt, alloc, wanted, recorder, bell, &marks, &mut host);
     let Prepared {

@@ -53,9 +53,10 @@ impl SharedMarks {
         })
     }
 
-    /// Says for which cause the session is closed.
+    /// Says for which cause the session is closed. The first that is said stays.
     pub(crate) fn closed_for(&self, cause: Cause) {
-        self.marks.cause.store(number_of(cause), SeqCst);
+        let number = number_of(cause);
+        let _ = self.marks.cause.compare_exchange(0, number, SeqCst, SeqCst);
     }
 
     /// The number of the cause for which the session is closed, or 0.

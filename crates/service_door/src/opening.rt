@@ -8,7 +8,7 @@ ghost use Rattle.service_door.specs.Begun.{HasOpened, HasPrepared, HasSetup};
 use crate::jobs::{PumpJob, SenderJob};
 use crate::marks::SharedMarks;
 use crate::session::Session;
-use gate_model::{Asked, Bytes, NoMemory, Setup, Text};
+use gate_model::{Asked, Bytes, Faces, NoMemory, Setup, Text};
 use gate_outside::Bell;
 use guac_handshake::Ask;
 use shared_desk::{Desk, HostPass, Place, share};
@@ -26,12 +26,17 @@ pub(crate) struct Opened {
     pub(crate) first: Bytes,
 }
 
-/// Opens a session as it is asked, which its owner joins. An ask that no session can be opened with is answered
+/// Opens a session as it is asked, with these faces, which its owner joins. An ask that no session can be opened with is answered
 /// as want of memory.
-pub(crate) fn open_session(alloc: Global, now: u64, ask: &Ask) -> Result<Opened, NoMemory>
-    ensures { IfOk result (λ made. HasOpened ask.now made.host made.place made.first) }
+pub(crate) fn open_session(
+    alloc: Global,
+    now: u64,
+    faces: Faces,
+    ask: &Ask,
+) -> Result<Opened, NoMemory>
+    ensures { IfOk result (λ made. HasOpened faces ask.now made.host made.place made.first) }
 {
-    let setup = setup_of(alloc, ask)?;
+    let setup = setup_of(alloc, faces, ask)?;
     let mut desk = Desk::start(alloc, setup, now)?;
     let mut first = Vec::new(alloc);
     let Ok(_) = desk.join(Asked::Owner, &mut first) else {
@@ -49,9 +54,9 @@ pub(crate) fn open_session(alloc: Global, now: u64, ask: &Ask) -> Result<Opened,
 }
 
 // What the session is opened with.
-fn setup_of(alloc: Global, ask: &Ask) -> Result<Setup, NoMemory>
+fn setup_of(alloc: Global, faces: Faces, ask: &Ask) -> Result<Setup, NoMemory>
     ensures valid { IfOk result (λ setup. IsSetup setup) }
-    ensures asked { IfOk result (HasSetup ask.now) }
+    ensures asked { IfOk result (HasSetup ask.now faces) }
 {
     let (cols, rows) = (ask.cols, ask.rows);
     let is_size = (1..=512).contains(&cols) && (1..=256).contains(&rows);
@@ -63,6 +68,7 @@ fn setup_of(alloc: Global, ask: &Ask) -> Result<Setup, NoMemory>
         rows,
         mode: ask.mode,
         term: Text::of(String::from_str(alloc, ask.term.as_str())?),
+        faces,
         entries: MOST_ENTRIES,
     })
 }

@@ -74,7 +74,11 @@ impl Session {
         ensures shut { is_closed self.new.host.view.seen ≡ true }
         ensures places { self.new.places ≡ self.old.places }
     {
-        self.host.close(rt, cause)
+        let closed = self.host.close(rt, cause);
+        if closed.is_ok() {
+            self.marks.closed_for(cause);
+        }
+        closed
     }
 
     /// The spots at which those sleep who wait for news of the session.
@@ -110,10 +114,14 @@ impl Session {
         }
     }
 
+    /// How many bytes wait for its host, as was said last.
+    pub fn waiting(&self) -> u64 {
+        self.spots().output()
+    }
+
     // Whether it is open, and more bytes wait for its host than may.
     fn is_backlogged(&self) -> bool {
-        let spots = self.spots();
-        !spots.is_closed() && spots.output() > MOST_OUTPUT
+        !self.spots().is_closed() && self.waiting() > MOST_OUTPUT
     }
 
     // Whether nobody has been in the session at more than `most` looks in a row.

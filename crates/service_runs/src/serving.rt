@@ -2,10 +2,11 @@
 
 ghost use Rattle.std.specs.Prelude.{None};
 
-use anyhow::Result;
+use anyhow::{Context, Result};
 use gate_outside::{Failed, Net, Sink, Source};
 use gate_service::{Host, top};
 use log::sink::Console;
+use session_list::SessionList;
 use std::alloc::Global;
 use std::sync::Wait;
 use std::thread::Threads;
@@ -51,6 +52,7 @@ where
         net,
         files: &[],
         log: Console(*rt),
+        list: SessionList::new(alloc).ok().context("no memory")?,
     };
     run(rt, alloc, further, &mut host)
 }

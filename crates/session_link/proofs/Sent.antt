@@ -79,7 +79,7 @@ one_take n = by (eqb_tells n 0)
 takes_more : (es fs : List Entry) → AreTakes es → AreTakes fs → AreTakes (es ++ fs)
 takes_more [] fs a b = b
 takes_more (Take n ∷ es) fs a b = takes_more es fs a b
-takes_more (Start c r m t n s f ∷ es) fs a b = absurd a
+takes_more (Start c r m t k n s f ∷ es) fs a b = absurd a
 takes_more (Feed bs s f ∷ es) fs a b = absurd a
 takes_more (Size v c r s f ∷ es) fs a b = absurd a
 takes_more (Join v r f ∷ es) fs a b = absurd a

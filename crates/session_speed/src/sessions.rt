@@ -4,7 +4,7 @@ ghost use Rattle.std.specs.Prelude.{IfOk};
 ghost use Rattle.gate_model.specs.session.Steps.{IsSetup};
 
 use anyhow::{Result, bail};
-use gate_model::{Setup, Share, Text};
+use gate_model::{Faces, Setup, Share, Text};
 use shared_desk::{Desk, HostPass, share};
 use std::alloc::Global;
 use std::marker::Brand;
@@ -39,6 +39,7 @@ fn setup(alloc: Global) -> Result<Setup>
         rows: 24,
         mode: Share::Control,
         term,
+        faces: Faces::Ascii,
         entries: 1 << 40,
     })
 }

@@ -60,7 +60,7 @@ module _ {X : Type 0} (f : History → X) (m : ℕ) (by : Measures f m) where
   unmarked g event answer (e ∷ x ∷ es) none s = absurd s.1
 
 pub bytes_measure : Measures bytes 1
-bytes_measure (Start c r m t n s f) g apart = append-nil (bytes g)
+bytes_measure (Start c r m t k n s f) g apart = append-nil (bytes g)
 bytes_measure (Feed b s f) g apart = absurd (apart refl)
 bytes_measure (Size w c r s f) g apart = append-nil (bytes g)
 bytes_measure (Join w role first) g apart = append-nil (bytes g)
@@ -71,7 +71,7 @@ bytes_measure (Leave w) g apart = append-nil (bytes g)
 bytes_measure (Close c) g apart = append-nil (bytes g)
 
 pub taken_measure : Measures taken 2
-taken_measure (Start c r m t n s f) g apart = omega arith
+taken_measure (Start c r m t k n s f) g apart = omega arith
 taken_measure (Feed b s f) g apart = omega arith
 taken_measure (Size w c r s f) g apart = omega arith
 taken_measure (Join w role first) g apart = omega arith
@@ -108,7 +108,7 @@ joined_grows (e ∷ more) g = omega (arith, joined_grows more g, joined_more (is
 
 -- an entry that is neither the viewer's Join nor its Read gives it nothing
 gives_none : (g : History) (before : List Instr) (v : ℕ) (e : Entry) → (mark_of e ≡ Some (reader_mark v) → ⊥) → ((w : ℕ) (role : Role) (first : List Instr) → e ≡ Join w role first → (w == v) ≡ false) → given g before v e ≡ []
-gives_none g before v (Start c r m t n s f) apart new = refl
+gives_none g before v (Start c r m t k n s f) apart new = refl
 gives_none g before v (Feed b s f) apart new = refl
 gives_none g before v (Size w c r s f) apart new = refl
 gives_none g before v (Join w role first) apart new = ap (λ (b : Bool). (if b then first else []) ++ []) (new w role first refl)

@@ -76,7 +76,7 @@ some_seen (e ∷ g) l = omega arith
 
 -- a later entry is no Start, which alone says how many entries there may be
 capacity_next : (e f : Entry) (g : History) → Legal (e ∷ f ∷ g) → capacity (e ∷ f ∷ g) ≡ capacity (f ∷ g)
-capacity_next (Start c r m t n s x) f g l = absurd (next (Start c r m t n s x) f g l)
+capacity_next (Start c r m t k n s x) f g l = absurd (next (Start c r m t k n s x) f g l)
 capacity_next (Feed b s x) f g l = refl
 capacity_next (Size v c r s x) f g l = refl
 capacity_next (Join v r x) f g l = refl
@@ -104,7 +104,7 @@ full_stays g h later some legal full =
 
 pub closes_seen : (g : History) (c : Cause) → close_cause g ≡ Some c → Contains g (Close c)
 closes_seen [] c e = absurd (let w : None ≡ Some c = e in cc)
-closes_seen (Start a b m t n s f ∷ g) c e = contains_tail (Start a b m t n s f) (Close c) g (closes_seen g c e)
+closes_seen (Start a b m t k n s f ∷ g) c e = contains_tail (Start a b m t k n s f) (Close c) g (closes_seen g c e)
 closes_seen (Feed b s f ∷ g) c e = contains_tail (Feed b s f) (Close c) g (closes_seen g c e)
 closes_seen (Size v cols rows s f ∷ g) c e = contains_tail (Size v cols rows s f) (Close c) g (closes_seen g c e)
 closes_seen (Join v r f ∷ g) c e = contains_tail (Join v r f) (Close c) g (closes_seen g c e)
@@ -415,7 +415,7 @@ or_false false b e = (refl, e)
 -- a viewer that joined and isn't there has left
 module _ (v : ℕ) (some : 1 ≤ v) where
   left_next : (e : Entry) (h : History) → IsNext h e → (v ≤ joined h → is_live h v ≡ false → Contains h (Leave v)) → v ≤ joined (e ∷ h) → is_live (e ∷ h) v ≡ false → Contains (e ∷ h) (Leave v)
-  left_next (Start c r m t n s f) h is ih few gone = absurd is
+  left_next (Start c r m t k n s f) h is ih few gone = absurd is
   left_next (Feed b s f) h is ih few gone = contains_tail (Feed b s f) (Leave v) h (ih few (and_false (is_live h v) gone))
   left_next (Size w c r s f) h is ih few gone = contains_tail (Size w c r s f) (Leave v) h (ih few (and_false (is_live h v) gone))
   left_next (Join w role first) h is ih few gone =
@@ -481,7 +481,7 @@ mapped_read (Some x) r e = ap Some (read_inj x r (let w : Some (was_read x) ≡ 
 -- a closed session has a closing instruction, which a read of its viewer then gave
 closing_some : (g : History) → is_closed g ≡ true → is_some_list (closing g) ≡ true
 closing_some [] e = absurd (let w : false ≡ true = e in cc)
-closing_some (Start c r m t n s f ∷ g) e = closing_some g e
+closing_some (Start c r m t k n s f ∷ g) e = closing_some g e
 closing_some (Feed b s f ∷ g) e = closing_some g e
 closing_some (Size w c r s f ∷ g) e = closing_some g e
 closing_some (Join w role first ∷ g) e = closing_some g e

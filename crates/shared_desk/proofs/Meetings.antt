@@ -98,7 +98,7 @@ module _ (v w : View Entry) (p : IsPass v) (q : IsPass w) where
 -- ---- a viewer's end, which only its own Reads bring
 
 ended_measure : (viewer : ℕ) → Measures (λ (h : History). ended h viewer) (reader_mark viewer)
-ended_measure viewer (Start c r m t n s f) g apart = ap is_some_list (append-nil (farewell_to g viewer))
+ended_measure viewer (Start c r m t k n s f) g apart = ap is_some_list (append-nil (farewell_to g viewer))
 ended_measure viewer (Feed b s f) g apart = ap is_some_list (append-nil (farewell_to g viewer))
 ended_measure viewer (Size w c r s f) g apart = ap is_some_list (append-nil (farewell_to g viewer))
 ended_measure viewer (Join w role first) g apart = ap is_some_list (append-nil (farewell_to g viewer))
@@ -187,7 +187,7 @@ is_there (p ∷ ps) n c = ⊎_elim (λ here. or_left (p == n) (is_place ps n) (e
 written_mark : (viewer : ℕ) (e : Entry) → is_written_by viewer e ≡ true → mark_of e ≡ Some (writer_mark viewer)
 written_mark viewer (Write v acts) is = ap (λ (n : ℕ). Some (writer_mark n)) (eqb-true v viewer is)
 written_mark viewer (Size v c r s f) is = ap (λ (n : ℕ). Some (writer_mark n)) (eqb-true v viewer is)
-written_mark viewer (Start c r m t n s f) is = absurd (true≢false (sym is))
+written_mark viewer (Start c r m t k n s f) is = absurd (true≢false (sym is))
 written_mark viewer (Feed b s f) is = absurd (true≢false (sym is))
 written_mark viewer (Join w role first) is = absurd (true≢false (sym is))
 written_mark viewer (Read w how) is = absurd (true≢false (sym is))

@@ -22,12 +22,16 @@ use Rattle.desk_core.specs.contracts.outgoing.Outgoing as outgoing
 use Rattle.desk_core.specs.contracts.frames.Frames as frames
 use Rattle.gate_model.specs.contracts.cell.Cell as cell
 use Rattle.gate_model.specs.contracts.cell.Half as half
+use Rattle.gate_model.specs.contracts.faces.Faces as faces
 use Rattle.gate_model.specs.contracts.setup.Setup as setup
 use Rattle.viewer_book.specs.contracts.book.Book as book
 use Rattle.shared_desk.specs.contracts.held.Held as held
 
 half_send : IsSend half.the_row
 half_send = search sendable depth 20
+
+faces_send : IsSend faces.the_row
+faces_send = search sendable depth 20
 
 cell_send : IsSend cell.the_row
 cell_send = search (half_send, sendable) depth 20
@@ -73,8 +77,11 @@ whole_state_send = declared_send whole_state.the_type (
                         (
                           search sendable depth 20,
                           (
-                            search sendable depth 20,
-                            tt,
+                            search (faces_send, sendable),
+                            (
+                              search sendable depth 20,
+                              tt,
+                            ),
                           ),
                         ),
                       ),
@@ -121,7 +128,7 @@ drawing_send : IsSend drawing.the_row
 drawing_send = search (cache_send, sendable, crosses) depth 30
 
 setup_send : IsSend setup.the_row
-setup_send = search (sendable, crosses, maps.crosses) depth 30
+setup_send = search (faces_send, sendable, crosses, maps.crosses) depth 30
 
 log_send : IsSend log.the_row
 log_send = search (sendable, crosses) depth 30

@@ -99,7 +99,7 @@ texts-append (x ∷ xs) ys = ap (λ (bs : List ℕ). text x ++ bs) (texts-append
 reads_more : (viewer : ℕ) (es fs : List Entry) → AreReads viewer es → AreReads viewer fs → AreReads viewer (es ++ fs)
 reads_more viewer [] fs a b = b
 reads_more viewer (Read v how ∷ es) fs a b = (a.0, reads_more viewer es fs a.1 b)
-reads_more viewer (Start c r m t n s f ∷ es) fs a b = absurd a
+reads_more viewer (Start c r m t k n s f ∷ es) fs a b = absurd a
 reads_more viewer (Feed bs s f ∷ es) fs a b = absurd a
 reads_more viewer (Size v c r s f ∷ es) fs a b = absurd a
 reads_more viewer (Join v r f ∷ es) fs a b = absurd a

@@ -3,7 +3,7 @@
 use page_files::PageFile;
 
 /// All of them, in the order of their paths.
-pub(crate) fn all() -> [PageFile; 30] {
+pub(crate) fn all() -> [PageFile; 36] {
     [
         PageFile {
             path: "/cells.js",
@@ -16,9 +16,19 @@ pub(crate) fn all() -> [PageFile; 30] {
             body: choices_js(),
         },
         PageFile {
+            path: "/clock.js",
+            kind: "text/javascript; charset=utf-8",
+            body: clock_js(),
+        },
+        PageFile {
             path: "/display.js",
             kind: "text/javascript; charset=utf-8",
             body: display_js(),
+        },
+        PageFile {
+            path: "/faces.js",
+            kind: "text/javascript; charset=utf-8",
+            body: faces_js(),
         },
         PageFile {
             path: "/follow.js",
@@ -121,9 +131,19 @@ pub(crate) fn all() -> [PageFile; 30] {
             body: selection_js(),
         },
         PageFile {
+            path: "/share.js",
+            kind: "text/javascript; charset=utf-8",
+            body: share_js(),
+        },
+        PageFile {
             path: "/sharp.js",
             kind: "text/javascript; charset=utf-8",
             body: sharp_js(),
+        },
+        PageFile {
+            path: "/socket.js",
+            kind: "text/javascript; charset=utf-8",
+            body: socket_js(),
         },
         PageFile {
             path: "/speech.js",
@@ -141,6 +161,11 @@ pub(crate) fn all() -> [PageFile; 30] {
             body: textlayer_js(),
         },
         PageFile {
+            path: "/timer.js",
+            kind: "text/javascript; charset=utf-8",
+            body: timer_js(),
+        },
+        PageFile {
             path: "/touch.js",
             kind: "text/javascript; charset=utf-8",
             body: touch_js(),
@@ -154,6 +179,11 @@ pub(crate) fn all() -> [PageFile; 30] {
             path: "/view.js",
             kind: "text/javascript; charset=utf-8",
             body: view_js(),
+        },
+        PageFile {
+            path: "/ways.js",
+            kind: "text/javascript; charset=utf-8",
+            body: ways_js(),
         },
     ]
 }
@@ -172,7 +202,7 @@ import { indexOf } from './palette.js';
 export const PICTURE = -1;
 const UNREAD = -2;
 
-/** The number of a cell. @returns {number} */
+/** The number of a cell. Its face is below 2^14. @returns {number} */
 export function cellOf(face, ink, paper, isUnderlined) {
   return (face << 17) | (isUnderlined ? 1 << 16 : 0) | (ink << 8) | paper;
 }
@@ -470,6 +500,19 @@ export function choose(form, choices, changed) {
   fill();
   return { get now() { return choices; }, change: (part) => set({ ...choices, ...part }) };
 }
+"
+}
+
+// `/clock.js`.
+fn clock_js() -> &'static str {
+    "\
+// A clock for a tab that nobody sees: a browser lets the timers of such a page come once a minute, and a worker's go on.
+
+let timer = 0;
+onmessage = ({ data }) => {
+  clearTimeout(timer);
+  timer = setTimeout(() => postMessage(data), data);
+};
 "
 }
 
@@ -817,6 +860,78 @@ export function cursorOf(cells, columns, before, last) {
 "
 }
 
+// `/faces.js`.
+fn faces_js() -> &'static str {
+    "\
+// The faces beyond ASCII (docs/TERMINAL.md, \"Faces\"), made by tools/page-faces of the tables of the crates glyph_table
+// and gate_model.
+
+/** Letters with marks, and signs. Four hexadecimal digits are a character, and the pictures of it and of those next to it
+ *  follow: five columns each, bit r of a column for the pixel lines 2r and 2r + 1. */
+export const COLUMNS = `\\
+00a1 0000fa0000 3048fe4848 907c928244 4438283844 5658f05856 0000ee0000 94aaaaaa52 0002000200 7c82baaa6c 90aaaa9abc
+2050a85088 1010101070 0010101000 7cbaea927c 0202020202 040a0a0400 9090fc9090 24322a2400 222a2a1400 0000040200
+fc2040207c 0c1efe02fe 0000100000 0080c00000 243e200000 9ca2a2a29c 8850a85020 2f106844f0 2f1008d4b0 553f4864f0
+60908a8040 f8252624f8 f8242625f8 f8262526f8 fa252626f9 f8252425f8 f8272527f8 fc12fe9292 3ec1c14122 fc95969484
+fc94969584 fc96959684 fc95949584 0085fe8400 0084fe8500 0086fd8600 0085fc8500 92fe92827c fe091222fd 7885868478
+7884868578 7886858678 7a85868679 7885848578 0050205000 fce2928e7e 7c8182807c 7c8082817c 7c8281827c 7c8180817c
+0408f20904 fe24242418 fc02929c60 40a9aaa8f0 40a8aaa9f0 40aaa9aaf0 42a9aaaaf1 40a9a8a9f0 40aba9abf0 48a8f0a8b0
+38c4c44420 70a9aaa830 70a8aaa930 70aaa9aa30 70a9a8a930 0089fa8000 0088fa8100 008af98200 0089f88100 70888a8f7a
+fa110a0af1 70898a8870 70888a8970 708a898a70 72898a8a71 7089888970 1010541010 f0c8a89878 78818240f8 78808241f8
+78828142f8 78818041f8 18a0a2a178 fe28282810 18a1a0a178 f8252525f8 40a9a9a9f0 f9262626f9 41aaaaaaf1 7e111191fe
+205454d4f8 7884868540 70888a8940 7886858640 708a898a40 7884858440 7088898840 7885868540 70898a8940 fc85864138
+70898a91fc aafe82927c 70888a97fa fc95959584 70a9a9a930 fd96969685 71aaaaaa31 fc94959484 70a8a9a830 7f4949c9c1
+385454d498 fc95969584 70a9aaa930 788685a660 102aa9aa78 798686a661 112aaaaa79 788485a460 1028a9a878 788487a560
+1028aba978 fc121112fc fc12090af0 ff121212ff ff120a08f0 0285fe8601 0289fa8201 0085fd8500 0089f98100 0186fe8601
+018afa8201 00417fc180 00447dc080 0084fd8400 0088f88000 fe4080827e fd0400847d 4082857e04 4082897a00 7f88942241
+7f90a84400 f820508800 fc80828180 0084fe8100 7fc0c04040 00c1ff4000 fc81828180 0085fe8100 fe80809080 82fe800010
+20fe888480 00a2fe8800 fc081221fc f8100a09f0 7f8488107f 7c88840478 fc091221fc f8110a09f0 0bf00808f0 3f028c907f
+3c08848478 7885858578 7089898970 7986868679 718a8a8a71 7886858679 708a898a71 7c82fe9282 7088f0a8b0 fc14365588
+f8100a0910 7f89992946 7c88840408 fc15365588 f8110a0910 8894969564 90a8aaa940 8896959664 90aaa9aa40 46c9c94931
+48d4d45420 8895969564 90a9aaa940 0181ff0101 04bfc44020 0405fe0504 087d8a8140 0212fe1202 147e948440 7e8182827d
+7a818242f9 7c8181817c 78818141f8 7d8282827d 79828242f9 7c8381837c 78838143f8 7c8281827d 78828142f9 3f4040c0bf
+3c4040a0fc fc423142fc 7882618278 040af10a04 18a2a1a278 0409f00904 c4a4968d84 88c8aa9988 c4a4958c84 88c8a99888
+c4a5968d84 88c9aa9988 80fc820200 2013 1010101000 2020202020 0808080808 2018 001c1a0000 00160e0000 00b0700000 201c
+0c0a000c0a 0a06000a06 a06000a060 2020 0808fe0808 2424fe2424 0038383800 2026 8000800080 2030 89248200a0 2032 00000c0200
+0806080600 2039 0020508800 0088502000 203c 00be00be00 20ac 287caaaa82 2122 020e020c0e 2190 1038541010 0804fe0408
+1010543810 2040fe4020 3854105438 2442ff4224 2212 0010101010 2219 0018180000 2040fe0202 221e 3828102838 2248 4824244824
+2260 a868382c2a 5454545454 2264 008894a200 00a2948800 25a0 7c7c7c7c7c 7c4444447c 25aa 7878787800 7848487800 25b2
+c0f0fcf0c0 25b6 fe7c383810 25b8 007c381000 25ba 7c38381010 25bc 0c3cfc3c0c 25c0 1038387cfe 25c4 101038387c 25c6
+1038fe3810 25cb 3844444438 25cf 387c7c7c38 25e6 0038283800 2713 20c040300c 30e0703c0e 2717 c428304884 c66c386cc6`;
+
+/** Line drawing and block elements, from U+2500 on: of each its bars, four hexadecimal digits each, which are the left
+ *  pixel, the upper one, the width less 1 and the height less 1. */
+export const BARS = `\\
+072157213711 062356233613 301639163711 203629362731 070127115711 060326135613 301335133a14 203325332a34
+0701270147016701 0603260346036603 3012341238123c12 2032243228322c32 572139163711 56233a153613 671129362731
+66132a352633 072139163711 06233a153613 071129362731 06132a352633 301657213711 301556233613 203667112731 203566132633
+072130163711 062330153613 071120362731 061320352633 3016572139163711 301556233a153613 2036671139162731
+3016671129362731 2036671129362731 203566133a152633 301566132a352633 203566132a352633 0721301639163711 062330153a153613
+0711203639162731 0711301629362731 0711203629362731 061320353a152633 061330152a352633 061320352a352633 0721572139163711
+062357213a153613 072156233a153613 062356233a153613 0711671129362731 061367112a352633 071166132a352633 061366132a352633
+0721301657213711 0623301557213613 0721301556233613 0623301556233613 0711203667112731 0613203567112633 0711203566132633
+0613203566132633 07213016572139163711 0623301557213a153613 0721301556233a153613 0623301556233a153613
+07112036671139162731 07113016671129362731 07112036671129362731 0613203567113a152633 0711203566133a152633
+0613301567112a352633 0711301566132a352633 0613203566133a152633 0613301566132a352633 0613203567112a352633
+0711203566132a352633 0613203566132a352633 07214721 06234623 30163816 20362836 062009205620592036103910
+200650062906590627015701 562059203a15361039103711 671129065906270157013711 661069102a055a05260056002900590036102701
+062009203a15361039103711 071129065906270157013711 061009102a055a05260056002900590036105701 301556205920361039103711
+200650066711270157013711 2005500566106910260056002900590039102701 062009203015361039103711 071120065006270157013711
+0610091020055005260056002900590039105701 3015562059203a15361039103711 2006500667112906590627015701
+20055005661069102a055a0526005600290059002701 0620092030153a15361039103711 0711200650062906590627015701
+06100910200550052a055a0526005600290059005701 06200920562059203a1536103910 0711671129065906270157013711
+06100910661069102a055a0526005600290059003610 0620092030155620592036103910 0711200650066711270157013711
+06100910200550056610691026005600290059003910 062009203015562059203a15361039103711 071120065006671129065906270157013711
+0610091020055005661069102a055a052600560029005900 5721391647003810 0721391637003810 0721301637103800 3016572137104800
+700162015401460138012a011c010e01 000112012401360148015a016c017e01
+700162015401460138012a011c010e01000112012401360148015a016c017e01 07213711 30163711 57213711 39163711 06233613 20362731
+56233613 29362731 072156233613 301629362731 062357213613 203639162731 0077 0e71 0c73 0a75 0877 0679 047b 027d 007f
+006f 005f 004f 003f 002f 001f 000f 403f 0011401104114411081148110c114c11
+00114011221162110411441126116611081148112a116a110c114c112e116e11 201160110271241164110671281168110a712c116c110e71 0071
+700f 0837 4837 0037 003708374837 00374837 003740370837 003740374837 4037 40370837 403708374837`;
+"
+}
+
 // `/follow.js`.
 fn follow_js() -> &'static str {
     "\
@@ -893,9 +1008,11 @@ export class Follow {
 // `/font.js`.
 fn font_js() -> &'static str {
     "\
-// The gateway's font (docs/TERMINAL.md, \"Font\"), read backwards: from the pixels of a cell to its character. The 95
-// pictures, the box and its two halves are all different, so the reading is exact; a cell that shows none of them is a
-// picture.
+// The gateway's font (docs/TERMINAL.md, \"Font\" and \"Faces\"), read backwards: from the pixels of a cell to its character.
+// All pictures are different, so the reading is exact; a cell that shows none of them is a picture.
+
+import { BARS, COLUMNS } from './faces.js';
+import { pixelOf } from './palette.js';
 
 /** How many pixels a cell has. */
 export const CELL_WIDTH = 8;
@@ -907,7 +1024,10 @@ export const BOX = 0x7f;
 /** The faces of the two halves of a character that takes two cells: together a box as wide as both. */
 export const [LEFT, RIGHT] = [0x80, 0x81];
 
-// From U+0020 on, then the box and its halves, five columns each, bit r of a column for row r.
+/** Whether a face is line drawing or a block element, which reach the edges of the cell. */
+export const hasBars = (face) => face >= 0x2500 && face <= 0x259f;
+
+// From U+0020 on, then the box and its halves, five columns each, bit r of a column for the pixel lines 2 + 2r and 3 + 2r.
 const GLYPHS = `0000000000 00005F0000 0007000700 147F147F14 242A7F2A12 2313086462 3649552250 0005030000
 001C224100 0041221C00 082A1C2A08 08083E0808 0050300000 0808080808 0060600000 2010080402
 3E5149453E 00427F4000 4261514946 2141454B31 1814127F10 2745454539 3C4A494930 0171090503
@@ -922,64 +1042,102 @@ const GLYPHS = `0000000000 00005F0000 0007000700 147F147F14 242A7F2A12 231308646
 4428102844 0C5050503C 4464544C44 0008364100 00007F0000 0041360800 0804081008 7F4141417F
 7F41414141 414141417F`.split(/\\s+/);
 
-/** The seven rows of five bits that a face has lit, the leftmost pixel in bit 0. @returns {number[]} */
-export function rowsOf(face) {
-  const columns = GLYPHS[face - 0x20].match(/../g).map((hex) => parseInt(hex, 16));
-  return [0, 1, 2, 3, 4, 5, 6].map((row) => columns.reduce((bits, column, x) => bits | (((column >> row) & 1) << x), 0));
+// Where a face has its picture: five columns, of whose bits the first is that of the pixel lines 0 and 1, or bars.
+/** @type {Map<number, number[]>} */
+const columns = new Map();
+GLYPHS.forEach((word, k) => columns.set(0x20 + k, bytesOf(word).map((column) => 2 * column)));
+let next = 0;
+for (const word of COLUMNS.split(/\\s+/)) {
+  if (word.length === 4) next = parseInt(word, 16);
+  else columns.set(next++, bytesOf(word));
+}
+const bars = BARS.split(/\\s+/);
+
+function bytesOf(word) {
+  return word.match(/../g).map((hex) => parseInt(hex, 16));
 }
 
-const numberOf = (rows) => rows.reduce((sum, bits) => sum * 32 + bits, 0);
-const FACES = new Map(GLYPHS.map((_, k) => [numberOf(rowsOf(0x20 + k)), 0x20 + k]));
+/** All faces. @returns {number[]} */
+export const allFaces = () => [...columns.keys(), ...bars.map((_, k) => 0x2500 + k)];
 
-// Which of the eight pixels of a line aren't the paper, or -1 where one is neither paper nor ink.
-function litOf(pixels, at, paper, ink) {
-  let lit = 0;
-  for (let x = 0; x < CELL_WIDTH; x++) {
-    const pixel = pixels[at + x];
-    if (pixel === ink) lit |= 1 << x;
-    else if (pixel !== paper) return -1;
+/** The sixteen pixel lines of a face, of eight bits each, the leftmost pixel in bit 0. @returns {number[]} */
+export function linesOf(face) {
+  return hasBars(face) ? linesOfBars(bars[face - 0x2500]) : linesOfColumns(columns.get(face));
+}
+
+function linesOfColumns(five) {
+  const lines = Array(CELL_HEIGHT).fill(0);
+  for (let y = 0; y < CELL_HEIGHT; y++) for (let x = 0; x < 5; x++) lines[y] |= ((five[x] >> (y >> 1)) & 1) << (x + 1);
+  return lines;
+}
+
+// (in a word the width and the height of a bar are less by 1)
+const barsOfWord = (word) => word.match(/..../g).map((bar) => [...bar].map((hex, k) => parseInt(hex, 16) + (k >> 1)));
+
+/** The bars of a face that has some: their left and upper pixel, width and height. @returns {number[][]} */
+export const barsOf = (face) => barsOfWord(bars[face - 0x2500]);
+
+function linesOfBars(word) {
+  const lines = Array(CELL_HEIGHT).fill(0);
+  for (const [x, y, width, height] of barsOfWord(word)) {
+    for (let line = y; line < y + height; line++) lines[line] |= ((1 << width) - 1) << x;
   }
-  return lit;
+  return lines;
 }
 
-// The first pixel that isn't the paper, or the paper where all are.
-function inkOf(pixels, at, width, paper) {
-  for (let y = 2; y < CELL_HEIGHT; y++) {
-    for (let x = 0; x < 6; x++) {
-      const pixel = pixels[at + y * width + x];
-      if (pixel !== paper) return pixel;
+// The lines as a text, of one character for two. Of two pictures that are alike, of a face and an underlined one that has
+// the last line already, the one that isn't underlined is told.
+const textOf = (it) => String.fromCharCode(it[0] | it[1] << 8, it[2] | it[3] << 8, it[4] | it[5] << 8, it[6] | it[7] << 8, it[8] | it[9] << 8, it[10] | it[11] << 8, it[12] | it[13] << 8, it[14] | it[15] << 8);
+/** @type {Map<string, { face: number, isUnderlined: boolean }>} */
+const PICTURES = new Map();
+for (const face of allFaces()) {
+  const lines = linesOf(face);
+  PICTURES.set(textOf(lines), { face, isUnderlined: false });
+  if (lines[15] !== 0xff) PICTURES.set(textOf([...lines.slice(0, 15), 0xff]), { face, isUnderlined: true });
+}
+
+const BLACK = pixelOf([0, 0, 0]);
+const LINES = new Uint8Array(CELL_HEIGHT);
+
+// The colour of a cell that isn't that of its first pixel, or that where all have it; LINES then tells which pixels have
+// the other. It is 0 where there are more colours.
+function otherAt(pixels, at, width) {
+  const first = pixels[at];
+  let other = first;
+  for (let y = 0; y < CELL_HEIGHT; y++, at += width) {
+    let line = 0;
+    for (let x = 0; x < CELL_WIDTH; x++) {
+      const pixel = pixels[at + x];
+      if (pixel === first) continue;
+      if (other === first) other = pixel;
+      else if (pixel !== other) return 0;
+      line |= 1 << x;
     }
+    LINES[y] = line;
   }
-  return paper;
+  return other;
+}
+
+function exchange() {
+  for (let y = 0; y < CELL_HEIGHT; y++) LINES[y] ^= 0xff;
+  return LINES;
 }
 
 /**
  * What the cell shows whose first pixel has this place in the pixels of a layer of this width: its face, its ink and
- * paper as pixels, and whether it is underlined; or null where it shows none of the font's pictures. Of a blank the
- * ink is the paper, for nothing of it is seen.
+ * paper as pixels, and whether it is underlined; or null where it shows none of the font's pictures. A cell of one colour
+ * is a blank, whose ink is the paper, for nothing of it is seen. Where two faces are each other's picture in exchanged
+ * colours, as the upper and the lower half, the one on black is told, or else the one on the first pixel's colour.
  * @returns {{ face: number, ink: number, paper: number, isUnderlined: boolean } | null}
  */
 export function seenAt(pixels, at, width) {
-  const paper = pixels[at];
-  if (paper === 0) return null;
-  const ink = inkOf(pixels, at, width, paper);
-  if (ink === paper) return isPlain(pixels, at, width, paper) ? { face: 0x20, ink, paper, isUnderlined: false } : null;
-  const line = (y) => litOf(pixels, at + y * width, paper, ink);
-  const isUnderlined = line(15) === 0xff;
-  if (line(0) !== 0 || line(1) !== 0) return null;
-  let glyph = 0;
-  for (let row = 0; row < 7; row++) {
-    const lit = line(2 + 2 * row);
-    if ((lit & ~0x3e) !== 0 || (line(3 + 2 * row) !== lit && !(row === 6 && isUnderlined))) return null;
-    glyph = glyph * 32 + (lit >> 1);
-  }
-  const face = FACES.get(glyph);
-  return face === undefined ? null : { face, ink, paper, isUnderlined };
-}
-
-function isPlain(pixels, at, width, paper) {
-  for (let y = 0; y < CELL_HEIGHT; y++) if (litOf(pixels, at + y * width, paper, paper) !== 0xff) return false;
-  return true;
+  const [first, other] = [pixels[at], otherAt(pixels, at, width)];
+  if (first === 0 || other === 0) return null;
+  if (other === first) return { face: 0x20, ink: first, paper: first, isUnderlined: false };
+  const onFirst = PICTURES.get(textOf(LINES));
+  const seen = (picture, ink, paper) => picture && { face: picture.face, ink, paper, isUnderlined: picture.isUnderlined };
+  if (onFirst !== undefined && other !== BLACK) return seen(onFirst, other, first);
+  return seen(PICTURES.get(textOf(exchange())), first, other) ?? seen(onFirst, other, first) ?? null;
 }
 "
 }
@@ -1016,7 +1174,7 @@ fn index_html() -> &'static str {
         <datalist id=\"types\"><option>linux</option><option>guacgate</option><option>screen</option><option>xterm-r5</option></datalist>
       </details>
       <button>Open</button>
-      <p>For you alone: nobody can join a terminal that is opened here.</p>
+      <p>For you alone, and for whom you give a link that you make with “Share”.</p>
     </form>
     <form id=\"join\" aria-labelledby=\"join-title\">
       <h1 id=\"join-title\">Join others</h1>
@@ -1024,7 +1182,7 @@ fn index_html() -> &'static str {
       <label class=\"check\"><input name=\"read-only\" type=\"checkbox\"> only look on</label>
       <label class=\"check\"><input name=\"keep-size\" type=\"checkbox\"> keep its size</label>
       <button>Join</button>
-      <p>Whoever opened the session gives you its link or its ID.</p>
+      <p>Whoever opened the session gives you a link or its ID.</p>
     </form>
   </div>
   <div id=\"screen\" hidden>
@@ -1066,8 +1224,20 @@ fn index_html() -> &'static str {
   <span id=\"notice\" role=\"status\"></span>
   <span id=\"rights\" role=\"status\"></span>
   <span id=\"hint\">Click the terminal, or press Shift-Tab, to type.</span>
-  <span id=\"links\" hidden>Links for others: <a id=\"look\">look on</a> <a id=\"type\">type too</a></span>
-  <details id=\"panel\">
+  <details id=\"share\" class=\"fold\" hidden>
+    <summary>Share</summary>
+    <div class=\"panel\" tabindex=\"-1\">
+      <form>
+        <label>Who joins <select name=\"role\"><option value=\"view\">looks on</option><option value=\"control\">types too</option></select></label>
+        <label>How often <input name=\"uses\" inputmode=\"numeric\" autocomplete=\"off\" value=\"1000\"></label>
+        <button>Make a link</button>
+      </form>
+      <p role=\"status\"></p>
+      <ul></ul>
+      <p>Each who joins by a link uses it once, and so does each who comes back. A link that you revoke lets nobody else in; who is here stays.</p>
+    </div>
+  </details>
+  <details id=\"panel\" class=\"fold\">
     <summary>View</summary>
     <!-- not a stop of its own where it scrolls, since all in it is reached -->
     <div class=\"panel\" tabindex=\"-1\">
@@ -1603,16 +1773,18 @@ import { BACK, LOST, THROWN, rightsOf, wayOn, wordsOf, wordsOfLink } from './mes
 import { Paster } from './paste.js';
 import { faultOf, formOf, joinBy, linkOf, remember, remembered, requestOf, sessionOf, sizeOf, titleOf } from './request.js';
 import { Mouse, copyAsLines, copySelected, selectedText } from './selection.js';
+import { Links, Share } from './share.js';
 import { Speech } from './speech.js';
 import { buttonsOf } from './touch.js';
-import { HttpTunnel } from './tunnel.js';
 import { View } from './view.js';
+import { addressesBeside, waysTo } from './ways.js';
 
 /** @type {(id: string) => any} */
 const at = (id) => document.getElementById(id);
-// Beside the page, without the login that an address may have: no request can be made to an address that has one.
-const PATH = location.origin + new URL('tunnel', location.href).pathname;
+const ADDRESSES = addressesBeside(location);
+const makeTunnel = waysTo(ADDRESSES);
 const IS_MAC = /^(Mac|iP)/.test(navigator.platform);
+const FOLDS = ['share', 'panel'];
 const FIELDS = ['hostname', 'port', 'columns', 'rows', 'terminal-type'];
 // How long, in milliseconds, what happened is told, and what a page that leaves is given to be gone.
 const NOTICED = 20000;
@@ -1625,6 +1797,7 @@ const speech = new Speech(at('news'));
 speech.isOn = kept().speaks;
 const follow = new Follow((size) => view?.resize(size));
 const display = new Display(at, kept(), speech, (size) => follow.fits(size));
+const share = new Share(at('share'), new Links(ADDRESSES.links), () => request.keepsSize);
 const choices = choose(at('choices'), kept(), (chosen) => {
   display.choices = chosen;
   speech.isOn = chosen.speaks;
@@ -1653,13 +1826,14 @@ function tellTrouble(words) {
 const told = {
   shown(stamp) {
     document.body.dataset.stamp = stamp;
+    delete document.body.dataset.bare;
     follow.shows(display.size);
   },
   changed(state) {
     const before = document.body.dataset.state;
     if (state === before) return;
     tell(state, wordsOfLink(state, view?.types));
-    at('rights').textContent = state === 'open' ? rightsOf(request) : '';
+    at('rights').textContent = state === 'open' ? rightsOf(request, view?.session) : '';
     at('again').hidden = state !== 'lost';
     if (state === 'lost') keyboard.letGo();
     if (state !== 'open') return;
@@ -1667,7 +1841,7 @@ const told = {
     else notice(`${BACK} ${trouble}`.trim());
     trouble = '';
   },
-  answered(isAnswered) { at('rights').textContent = rightsOf(request, isAnswered); },
+  answered(isAnswered) { at('rights').textContent = rightsOf(request, view?.session, isAnswered); },
   lost() {
     keyboard.letGo();
     tellTrouble(LOST);
@@ -1690,19 +1864,12 @@ function surround() {
     focusKeys();
   };
   at('rights').textContent = '';
-  at('links').hidden = !request.id;
-  at('type').hidden = request.readOnly;
+  share.use('');
   document.body.toggleAttribute('data-types', !request.readOnly);
   at('keys').disabled = request.readOnly;
   at('keep').checked = request.keepsSize;
   at('keep').parentElement.hidden = request.readOnly;
   document.title = titleOf(request);
-  if (request.id) linkOthers();
-}
-
-function linkOthers() {
-  at('look').href = linkOf({ ...request, readOnly: true }, location.href);
-  at('type').href = linkOf(request, location.href);
 }
 
 function letFollow(isOn) {
@@ -1715,9 +1882,10 @@ async function start(asked) {
   tell('opening', 'Opening …');
   notice('');
   display.clear();
+  document.body.dataset.bare = '';
   const size = sizeOf(request, display.measured());
   follow.begin(request.id ? null : size);
-  view = new View(() => new HttpTunnel(PATH), display, request.readOnly, told);
+  view = new View(makeTunnel, display, request.readOnly, told);
   const end = await view.run(formOf(request, size));
   // A page that is about to be another one needs no word of it.
   if (end.by === 'left') await new Promise((passed) => setTimeout(passed, LEAVING));
@@ -1726,9 +1894,10 @@ async function start(asked) {
   finish(end);
 }
 
-// The session is there.
+// The session is there. Links to it are made by who types and knows its ID.
 function opened() {
-  remember(request);
+  remember({ ...request, id: view.session });
+  share.use(request.isLink || request.readOnly ? '' : view.session);
   letFollow(!request.readOnly && !request.keepsSize);
   focusKeys();
 }
@@ -1737,9 +1906,9 @@ function finish(end) {
   const { word, isAgain, isReload } = wayOn(end, request);
   if (end.by !== 'left') remember(null);
   paster.forget();
-  tell('ended', wordsOf(end, !request.id));
+  tell('ended', wordsOf(end, request, document.body.dataset.state !== 'opening'));
   at('rights').textContent = '';
-  at('links').hidden = true;
+  share.use('');
   at('again').textContent = word;
   at('again').onclick = () => {
     if (isReload) location.reload();
@@ -1749,6 +1918,8 @@ function finish(end) {
   at('again').hidden = false;
   at('again').focus();
 }
+
+const isInAddress = () => requestOf(location.hash)?.id === request?.id && Boolean(request?.id);
 
 // A session that is over goes from the address, so that the same link can be given again.
 function toStart() {
@@ -1781,7 +1952,8 @@ const act = {
     document.getSelection()?.removeAllRanges();
     focusKeys();
   },
-  leave: () => at('panel').querySelector('summary').focus(),
+  // To what stands next behind the terminal, so that one step leads back.
+  leave: () => FOLDS.map((id) => at(id).querySelector('summary')).find((it) => it.getClientRects().length > 0)?.focus(),
   hush() {
     choices.change({ speaks: !speech.isOn });
     at('news').replaceChildren(speech.isOn ? 'New lines are said.' : 'New lines are no longer said.');
@@ -1811,12 +1983,14 @@ buttonsOf(at('touch'), at('keys'), keyboard, paste);
 copyAsLines(at('screen'));
 new Mouse(at('screen'), focusKeys);
 
-at('keys').addEventListener('focus', () => { at('panel').open = false; });
-at('panel').addEventListener('keydown', (event) => {
-  if (event.key !== 'Escape') return;
-  at('panel').open = false;
-  act.leave();
-});
+at('keys').addEventListener('focus', () => FOLDS.forEach((id) => { at(id).open = false; }));
+for (const id of FOLDS) {
+  at(id).addEventListener('keydown', (event) => {
+    if (event.key !== 'Escape') return;
+    at(id).open = false;
+    at(id).querySelector('summary').focus();
+  });
+}
 
 function focusKeys() {
   if (view?.types) at('keys').focus({ preventScroll: true });
@@ -1852,10 +2026,8 @@ at('join').addEventListener('submit', (event) => {
 at('keep').addEventListener('change', () => {
   request.keepsSize = at('keep').checked;
   letFollow(view !== null && !request.keepsSize);
-  if (!request.id) return;
-  remember(request);
-  history.replaceState(null, '', linkOf(request, location.href));
-  linkOthers();
+  if (view?.session) remember({ ...request, id: view.session });
+  if (isInAddress()) history.replaceState(null, '', linkOf(request, location.href));
 });
 // What is wrong in a part of a form that is folded would be told nowhere.
 at('open').addEventListener('invalid', (event) => event.target.closest('details')?.setAttribute('open', ''), true);
@@ -1866,14 +2038,16 @@ addEventListener('hashchange', () => {
 addEventListener('pagehide', () => view?.leave());
 // A page that the browser has kept has left its session.
 addEventListener('pageshow', (event) => { if (event.persisted) location.reload(); });
-// Nobody can come back to a session that was opened here, so the browser asks before it is left. Any other is left now:
-// Firefox may end a page before it sends what is sent at its end.
+// A reload alone leads back to a session that isn't in the address, so the browser asks before it is left. Any other is
+// left now: Firefox may end a page before it sends what is sent at its end.
 addEventListener('beforeunload', (event) => {
   if (view === null || document.body.dataset.state === 'opening') return;
-  if (request.id) view.leave();
+  if (isInAddress()) view.leave();
   else event.preventDefault();
 });
-begin(requestOf(location.hash) ?? remembered());
+// What the tab has shown counts more than a host in the address, which was its way there.
+const asked = requestOf(location.hash);
+begin(asked?.id ? asked : remembered() ?? asked);
 for (const id of ['open', 'join']) judge(at(id));
 "
 }
@@ -1909,17 +2083,23 @@ export function meaningOf({ code, status }) {
   return BY_CODE[code] ?? BY_STATUS[status] ?? `The gateway answered with status ${status}.`;
 }
 
-// What a view that was open was told, which no longer is about its joining.
-const WHILE_OPEN = { 516: 'The gateway no longer knows this view. It may have been started anew.' };
+const ABSENT = 516;
 
-/** What ended a view, `wasOpen` where the session had been shown. @param {import('./view.js').End} end */
-export function wordsOf(end, wasOpen) {
+// What it means that nothing is there. Who opens a session is told so only where the web server lets a login join alone.
+function absent({ id, isLink = false }, wasOpen) {
+  if (isLink) return 'This link leads nowhere any more: it is used up, was taken back, or its session is over.';
+  if (id) return BY_CODE[ABSENT];
+  return wasOpen ? 'The gateway no longer knows this view. It may have been started anew.' : 'No session can be opened with this login. Join one by its link.';
+}
+
+/** What ended a view that was requested, `wasOpen` where it was shown that it opened. @param {import('./view.js').End} end */
+export function wordsOf(end, request, wasOpen) {
   switch (end.by) {
     case 'host': return 'The host has ended the session.';
     case 'error': return meaningOf({ code: end.code, status: 0 });
-    case 'refusal': return (wasOpen && WHILE_OPEN[end.code]) || meaningOf(end);
+    case 'refusal': return end.code === ABSENT ? absent(request, wasOpen) : meaningOf(end);
     case 'left': return 'You have left the session.';
-    case 'unreachable': return 'The link to the gateway was lost, and this session can’t be reached from here any more.';
+    case 'unreachable': return 'The connection to the gateway was lost, and this session can’t be reached from here any more.';
     case 'unreadable': return 'The gateway sent something that this page can’t read.';
     default: return 'This page has a fault, and can’t go on.';
   }
@@ -1936,22 +2116,30 @@ export function wayOn(end, request) {
   return { word: 'Open another', isAgain: false };
 }
 
-/** How the link is, `types` where keys are sent. */
+/** How the connection is, `types` where keys are sent. */
 export function wordsOfLink(state, types) {
   const kept = types ? ' Keys are kept for 10 seconds.' : '';
-  if (state === 'lost') return `The link is lost. This page comes back by itself.${kept}`;
+  if (state === 'lost') return `The connection is lost. This page comes back by itself.${kept}`;
   return state === 'unstable' ? `The gateway doesn’t answer.${kept}` : '';
 }
 
-/** What became of what was typed while the link was bad. */
+/** What became of what was typed while the connection was bad. */
 export const LOST = 'Some keys may be lost.';
 export const THROWN = 'What you typed was thrown away.';
-export const BACK = 'The link is back.';
+export const BACK = 'The connection is back.';
 
-/** Who may type. The gateway tells nobody whose keys count, so of who joins it is said what is done, and what came of it. */
-export function rightsOf({ id, readOnly }, isAnswered = true) {
+/** Why a link couldn't be made or taken back. @param {import('./tunnel.js').Refusal} refusal @param {'make' | 'revoke'} what */
+export function wordsOfLinks(refusal, what) {
+  if (refusal.status === 404) return refusal.code === 0 ? 'Links can’t be made at this address.' : 'The gateway makes no links to this session.';
+  if (refusal.code === 517) return 'The gateway couldn’t name the link. Try again.';
+  return `${meaningOf(refusal)} ${what === 'make' ? 'No link was made.' : 'The link was not taken back.'}`;
+}
+
+/** Who may type, `session` being the ID by which others can join. The gateway tells nobody whose keys count, so of who
+ *  joins it is said what is done, and what came of it. */
+export function rightsOf({ id, readOnly }, session, isAnswered = true) {
   if (readOnly) return 'You look on. Your keys are not sent.';
-  if (!id) return 'You may type. Nobody else may join.';
+  if (!id) return session ? 'You may type.' : 'You may type. Nobody else may join.';
   return isAnswered ? 'Your keys are sent.' : 'Your keys are sent, and nothing answers. This session may let you look on alone.';
 }
 "
@@ -1966,8 +2154,8 @@ fn outbox_js() -> &'static str {
 import { textOf } from './instructions.js';
 import { MODIFIERS } from './keysyms.js';
 
-// The most instructions that are sent together.
-const MOST_INSTRUCTIONS = 4096;
+// The most instructions that are sent together: one less than a gateway takes, since a tunnel may put another one before.
+const MOST_INSTRUCTIONS = 4095;
 // How long, in milliseconds, keys are kept.
 const KEPT = 10000;
 
@@ -1979,7 +2167,8 @@ export class Outbox {
   #waiting = [];
   /** @type {import('./tunnel.js').Tunnel | null} */
   #tunnel = null;
-  #isSending = false;
+  // How many texts are on their way.
+  #count = 0;
   #told;
   #timer = 0;
   #isThrown = false;
@@ -2004,7 +2193,7 @@ export class Outbox {
 
   /** Modifiers that were held before are released before anything else is sent. */
   release() {
-    this.#waiting.unshift(...RELEASES);
+    if (this.#waiting[0] !== RELEASES[0]) this.#waiting.unshift(...RELEASES);
   }
 
   /** The tunnel has another state. */
@@ -2024,14 +2213,17 @@ export class Outbox {
     this.#told.thrown();
   }
 
-  async #send() {
-    if (this.#isSending) return;
-    this.#isSending = true;
-    while (this.#tunnel?.state === 'open' && this.#waiting.length > 0) {
-      const part = this.#waiting.splice(0, MOST_INSTRUCTIONS);
-      await this.#tunnel.send(part.map(({ text }) => text).join('')).catch((fault) => this.#failed(part, fault));
-    }
-    this.#isSending = false;
+  #send() {
+    while (this.#tunnel?.state === 'open' && this.#count < this.#tunnel.most && this.#waiting.length > 0) this.#sendPart(this.#tunnel);
+  }
+
+  /** @param {import('./tunnel.js').Tunnel} tunnel */
+  async #sendPart(tunnel) {
+    const part = this.#waiting.splice(0, MOST_INSTRUCTIONS);
+    this.#count += 1;
+    await tunnel.send(part.map(({ text }) => text).join('')).catch((fault) => this.#failed(part, fault));
+    this.#count -= 1;
+    this.#send();
   }
 
   // What may have been done isn't sent again: a Return that comes twice does harm, and a key that is missing is seen.
@@ -2798,6 +2990,7 @@ fn request_js() -> &'static str {
 //
 //   #id=$UUID                      joins a session, and types if the session lets joiners type
 //   #id=$UUID&read-only            joins a session, and only looks on
+//   #id=$UUID&link                 joins by a link that was made for it, whose ID isn't the session's; with &read-only, too
 //   #hostname=HOST&port=PORT&columns=80&rows=24&terminal-type=TYPE      fills the form that opens a session
 //
 // and with &keep-size the session's size stays, whatever the window's. One of given columns or rows stays, too.
@@ -2812,12 +3005,12 @@ export const TERMINAL_TYPE = 'linux';
 export function requestOf(fragment) {
   const given = new URLSearchParams(fragment.replace(/^#/, ''));
   const id = given.get('id');
-  if (id) return { id, readOnly: given.has('read-only'), keepsSize: given.has('keep-size') };
+  if (id) return { id, readOnly: given.has('read-only'), keepsSize: given.has('keep-size'), isLink: given.has('link') };
   if (!given.get('hostname')) return null;
   return sessionOf(given);
 }
 
-/** A session that is to be opened, of the fields of the form. Nobody is told its ID, so nobody else may join. */
+/** A session that is to be opened, of the fields of the form. */
 export function sessionOf(fields) {
   const field = (name, other) => String(fields.get(name) || other);
   const [columns, rows] = [field('columns', ''), field('rows', '')];
@@ -2828,10 +3021,11 @@ export function sessionOf(fields) {
 /** The size of a session that is opened: columns and rows that aren't given are those for which the window has room. */
 export const sizeOf = ({ columns, rows }, room) => ({ columns: Number(columns || room.columns), rows: Number(rows || room.rows) });
 
-/** The fields of the tunnel's form for it, and for a session that is opened its size. */
+/** The fields of the tunnel's form for it, and for a session that is opened its size. Who has its ID may join such a one,
+ *  so that its page can come back; and only that page is told it. */
 export function formOf({ id, readOnly, hostname, port, type }, size) {
   if (id) return { id, 'read-only': String(readOnly) };
-  return { hostname, port, 'terminal-type': type, sharing: 'none', width: String(size.columns * CELL_WIDTH), height: String(size.rows * CELL_HEIGHT) };
+  return { hostname, port, 'terminal-type': type, sharing: 'control', width: String(size.columns * CELL_WIDTH), height: String(size.rows * CELL_HEIGHT) };
 }
 
 /** What is wrong with a field of the form, in words, or nothing. The limits are the gateway's (docs/PROTOCOL.md). */
@@ -2854,7 +3048,8 @@ const KEY = 'guacgate';
 /** Keeps a session whose ID is known, so that a reload comes back to it, or forgets it. */
 export function remember(request) {
   try {
-    if (request?.id) sessionStorage.setItem(KEY, JSON.stringify({ id: request.id, readOnly: request.readOnly, keepsSize: request.keepsSize }));
+    const { id, readOnly, keepsSize, isLink } = request ?? {};
+    if (id) sessionStorage.setItem(KEY, JSON.stringify({ id, readOnly, keepsSize, isLink }));
     else sessionStorage.removeItem(KEY);
   } catch { /* Then the address alone leads back. */ }
 }
@@ -2867,15 +3062,16 @@ export function remembered() {
 
 const idIn = (text) => text.replace('%24', '$').match(/\\$[0-9a-f]{8}(-[0-9a-f]{4}){3}-[0-9a-f]{12}/)?.[0];
 
-/** The address that others join by, where the session's ID is known. */
-export function linkOf({ id, readOnly, keepsSize = false }, address) {
-  return `${address.split('#')[0]}#id=${encodeURIComponent(id)}${readOnly ? '&read-only' : keepsSize ? '&keep-size' : ''}`;
+/** The address that joins by an ID. */
+export function linkOf({ id, readOnly, keepsSize = false, isLink = false }, address) {
+  return `${address.split('#')[0]}#id=${encodeURIComponent(id)}${isLink ? '&link' : ''}${readOnly ? '&read-only' : keepsSize ? '&keep-size' : ''}`;
 }
 
 /** The address that joins the session of a text, which is its ID or a link to it. A link keeps its own way. */
 export function joinBy(text, { readOnly = false, keepsSize = false }, address) {
   const has = (word) => new RegExp(`[#&]${word}`).test(text);
-  return linkOf({ id: idIn(text), readOnly: readOnly || has('read-only'), keepsSize: keepsSize || has('keep-size') }, /^https?:/.test(text) ? text : address);
+  const asked = { id: idIn(text), readOnly: readOnly || has('read-only'), keepsSize: keepsSize || has('keep-size'), isLink: has('link') };
+  return linkOf(asked, /^https?:/.test(text) ? text : address);
 }
 
 /** What a window with it is called. A session's first digits tell it from others, and lead nobody into it. */
@@ -2892,9 +3088,10 @@ fn rest_js() -> &'static str {
 // How long a page waits before it asks again.
 
 /** Rests in milliseconds: between reads that found nothing, and between tries to come back to a gateway that isn't
- *  reached. `hidden` is the least one of a page that nobody sees. */
+ *  reached, the fourth of which comes before what is typed has been kept for 10 seconds and is thrown away. `hidden` is
+ *  the least one of a page that nobody sees. */
 export const READS = { lengths: [0, 10, 20, 40, 80, 160], hidden: 1000, events: ['visibilitychange'] };
-export const TRIES = { lengths: [300, 1000, 3000, 10000], hidden: 60000, events: ['online', 'visibilitychange'] };
+export const TRIES = { lengths: [300, 700, 2000, 6500, 10000], hidden: 60000, events: ['online', 'visibilitychange'] };
 
 /** Rests, each of the length that is listed behind the one before, and of the last one from there on. */
 export class Rest {
@@ -3144,13 +3341,193 @@ function placeAt(x, y) {
 "
 }
 
+// `/share.js`.
+fn share_js() -> &'static str {
+    "\
+// Links by which others join the session that a page shows. Whoever has the session's ID may make them and take them back
+// (docs/PROTOCOL.md, \"Links\"); a link's own ID is another, and leads to no further link.
+
+import { wordsOfLinks } from './messages.js';
+import { linkOf } from './request.js';
+import { Refusal, TIMES } from './tunnel.js';
+
+/** How often a link may be used. */
+export const USES = { least: 1, most: 1000000 };
+
+// How often one is used where nobody says: each who comes back uses it too, and with a class all do at once.
+const USUAL = { view: '1000', control: '10' };
+
+/**
+ * A link that was made here.
+ * @typedef {{ id: string, readOnly: boolean, uses: number, keepsSize: boolean }} Link
+ */
+
+// Where a tab keeps the links that it has made.
+const KEY = 'guacgate-links';
+
+/** What the gateway answers to a request for links. */
+async function answerTo(address, query, body = '') {
+  const abort = new AbortController();
+  const timer = setTimeout(() => abort.abort(), TIMES.limit);
+  try {
+    const response = await fetch(`${address}?${query}`, { method: 'POST', body, cache: 'no-store', signal: abort.signal });
+    if (!response.ok) throw new Refusal(Number(response.headers.get('Guacamole-Status-Code')) || 0, response.status);
+    return await response.text();
+  } catch (fault) {
+    throw fault instanceof Refusal ? fault : new Refusal(0, 0);
+  } finally {
+    clearTimeout(timer);
+  }
+}
+
+/** The links that a tab has made, by session. */
+export class Links {
+  #address;
+  #session = '';
+  /** @type {Link[]} */
+  made = [];
+
+  constructor(address) {
+    this.#address = address;
+  }
+
+  /** Has those of a session from now on. */
+  use(session) {
+    if (session === this.#session) return;
+    this.#session = session;
+    let kept = null;
+    try { kept = JSON.parse(sessionStorage.getItem(KEY) ?? 'null'); } catch { /* Then they are forgotten. */ }
+    this.made = kept?.session === session ? kept.made : [];
+  }
+
+  /** Makes one, and answers it. @param {{ readOnly: boolean, uses: number, keepsSize: boolean }} asked @returns {Promise<Link>} */
+  async make(asked) {
+    const form = new URLSearchParams({ id: this.#session, role: asked.readOnly ? 'view' : 'control', uses: String(asked.uses) });
+    const link = { ...asked, id: await answerTo(this.#address, 'make', String(form)) };
+    this.#keep([...this.made, link]);
+    return link;
+  }
+
+  /** Takes one back: nobody else joins by it. One that the gateway doesn't know leads nowhere either. @param {Link} link */
+  async revoke(link) {
+    await answerTo(this.#address, `revoke:${link.id.replace('$', '')}`).catch((refusal) => {
+      if (refusal.code !== 516) throw refusal;
+    });
+    this.#keep(this.made.filter((it) => it !== link));
+  }
+
+  #keep(made) {
+    this.made = made;
+    try { sessionStorage.setItem(KEY, JSON.stringify({ session: this.#session, made })); } catch { /* They are known until the page is left. */ }
+  }
+}
+
+/** Whether a text is a number of uses. */
+export const isUses = (text) => /^[0-9]{1,7}$/.test(text) && Number(text) >= USES.least && Number(text) <= USES.most;
+
+/** The panel that makes links, and lists them. */
+export class Share {
+  #panel;
+  #links;
+  #keepsSize;
+
+  /** @param {HTMLElement} panel @param {Links} links @param {() => boolean} keepsSize  whether who types by a link keeps the size */
+  constructor(panel, links, keepsSize) {
+    this.#panel = panel;
+    this.#links = links;
+    this.#keepsSize = keepsSize;
+    const form = panel.querySelector('form');
+    const uses = /** @type {HTMLInputElement} */ (form.elements.namedItem('uses'));
+    const role = /** @type {HTMLSelectElement} */ (form.elements.namedItem('role'));
+    let isChosen = false;
+    role.addEventListener('change', () => { if (!isChosen) uses.value = USUAL[role.value]; });
+    uses.addEventListener('input', () => { isChosen = true; });
+    uses.addEventListener('input', () => uses.setCustomValidity(isUses(uses.value) ? '' : 'A number from 1 to 1,000,000.'));
+    form.addEventListener('submit', (event) => {
+      event.preventDefault();
+      const given = new FormData(form);
+      this.#try('make', () => this.#make(given.get('role') === 'view', Number(given.get('uses'))));
+    });
+  }
+
+  /** Shows the links to a session, or is hidden where its ID isn't known. */
+  use(session) {
+    this.#panel.hidden = session === '';
+    this.#links.use(session);
+    this.#tell('');
+    this.#list();
+  }
+
+  async #make(readOnly, uses) {
+    const link = await this.#links.make({ readOnly, uses, keepsSize: this.#keepsSize() });
+    this.#list();
+    await this.#copy(link);
+  }
+
+  async #copy(link) {
+    const field = this.#panel.querySelector(`[data-link=\"${link.id}\"] input`);
+    if (field instanceof HTMLInputElement) field.select();
+    try {
+      await navigator.clipboard.writeText(addressOf(link));
+      this.#tell('The link is copied.');
+    } catch {
+      // A page that came without encryption can't copy by itself.
+      this.#tell('Copy the link from its field.');
+    }
+  }
+
+  async #revoke(link) {
+    await this.#links.revoke(link);
+    this.#list();
+    this.#tell('Nobody else joins by that link. Who is here stays.');
+  }
+
+  /** @param {'make' | 'revoke'} what */
+  async #try(what, act) {
+    try {
+      await act();
+    } catch (refusal) {
+      this.#tell(wordsOfLinks(refusal, what));
+    }
+  }
+
+  #tell(words) {
+    this.#panel.querySelector('[role=status]').textContent = words;
+  }
+
+  #list() {
+    const parts = this.#links.made.map((link) => {
+      const line = document.createElement('li');
+      line.dataset.link = link.id;
+      const what = `${link.readOnly ? 'looks on' : 'types'}, ${link.uses === 1 ? 'once' : `${link.uses.toLocaleString('en')} times`}`;
+      const field = Object.assign(document.createElement('input'), { readOnly: true, value: addressOf(link) });
+      field.setAttribute('aria-label', `link: ${what}`);
+      const words = Object.assign(document.createElement('span'), { textContent: what });
+      line.append(words, buttonOf('Copy', () => this.#try('make', () => this.#copy(link))), buttonOf('Revoke', () => this.#try('revoke', () => this.#revoke(link))), field);
+      return line;
+    });
+    this.#panel.querySelector('ul').replaceChildren(...parts);
+  }
+}
+
+const addressOf = (link) => linkOf({ ...link, isLink: true }, location.href);
+
+function buttonOf(word, act) {
+  const button = Object.assign(document.createElement('button'), { type: 'button', textContent: word });
+  button.addEventListener('click', act);
+  return button;
+}
+"
+}
+
 // `/sharp.js`.
 fn sharp_js() -> &'static str {
     "\
 // Sharp text: the cells of the screen, drawn with a font of the browser at the device's own pixels. Each picture of a
-// cell is made once, and then copied to where it stands; only cells that have changed are drawn.
+// cell is made once, and then copied to where it stands; only cells that have changed are drawn. Lines and blocks have
+// the gateway's pixels, as large as a cell is, so that they join.
 
-import { BOX, CELL_HEIGHT, CELL_WIDTH, LEFT, RIGHT } from './font.js';
+import { BOX, CELL_HEIGHT, CELL_WIDTH, LEFT, RIGHT, barsOf, hasBars } from './font.js';
 import { PICTURE, faceOf, inkOf, isUnderlined, paperOf } from './cells.js';
 import { inkColour, paperColour, pixelOf } from './palette.js';
 
@@ -3310,7 +3687,8 @@ export class Sharp {
 
   #drawn(cell) {
     const paper = paperColour(paperOf(cell));
-    const ink = inkColour(inkOf(cell), paperOf(cell));
+    // Lines and blocks are shown as they are drawn, in their own colours.
+    const ink = hasBars(faceOf(cell)) ? paperColour(inkOf(cell)) : inkColour(inkOf(cell), paperOf(cell));
     const strength = this.#face(faceOf(cell));
     const tile = Uint32Array.from(strength, (part) => pixelOf(/** @type {any} */ (paper.map((it, k) => Math.round(it + ((ink[k] - it) * part) / 255)))));
     if (isUnderlined(cell)) {
@@ -3326,13 +3704,19 @@ export class Sharp {
   #face(face) {
     let strength = this.#faces.get(face);
     if (strength !== undefined) return strength;
-    const { width, height, font } = this.#cell;
-    this.#pen.clearRect(0, 0, width, height);
-    if (face === BOX || face === LEFT || face === RIGHT) this.#strokeBox(face);
-    else this.#pen.fillText(String.fromCharCode(face), 0, this.#baseline);
-    strength = this.#pen.getImageData(0, 0, width, height).data.filter((_, k) => k % 4 === 3);
+    strength = hasBars(face) ? barred(face, this.#cell.width, this.#cell.height) : this.#penned(face);
     this.#faces.set(face, strength);
     return strength;
+  }
+
+  #penned(face) {
+    const { width, height } = this.#cell;
+    this.#pen.clearRect(0, 0, width, height);
+    if (face === BOX || face === LEFT || face === RIGHT) this.#strokeBox(face);
+    else if (face < 0x80) this.#pen.fillText(String.fromCharCode(face), 0, this.#baseline);
+    // What the font hasn't comes from another one, whose characters may be wider.
+    else this.#pen.fillText(String.fromCharCode(face), 0, this.#baseline, width);
+    return this.#pen.getImageData(0, 0, width, height).data.filter((_, k) => k % 4 === 3);
   }
 
   // The box, or its half, which goes on in the next cell.
@@ -3350,6 +3734,238 @@ export class Sharp {
     const { width, height } = this.#cell;
     const at = (k, x) => Math.floor(((k - x) / width / height) * CELL_HEIGHT) * CELL_WIDTH + Math.floor((x / width) * CELL_WIDTH);
     return Uint32Array.from({ length: width * height }, (_, k) => picture[at(k, k % width)]);
+  }
+}
+
+/**
+ * How much of each pixel of a cell a face of bars covers, 0 or 255. A bar ends where the next one would begin, so that what
+ * meets in the gateway's pixels meets here. But one of a single pixel, as those of double lines, is as thick wherever it
+ * begins, and seen in small cells too.
+ */
+export function barred(face, width, height) {
+  const strength = new Uint32Array(width * height);
+  for (const [x, y, wide, high] of barsOf(face)) {
+    const [left, right] = span(x, wide, CELL_WIDTH, width);
+    const [top, bottom] = span(y, high, CELL_HEIGHT, height);
+    for (let line = top; line < bottom; line++) strength.fill(255, line * width + left, line * width + right);
+  }
+  return strength;
+}
+
+// From where to where what begins at a part of a cell, and takes so many of its parts, goes in a cell of this length.
+function span(at, size, parts, length) {
+  const edge = (part) => Math.ceil((part * length) / parts);
+  const start = Math.min(edge(at), length - 1);
+  const thick = Math.max(1, size === 1 ? Math.round(length / parts) : edge(at + size) - start);
+  return [start, Math.min(start + thick, length)];
+}
+"
+}
+
+// `/socket.js`.
+fn socket_js() -> &'static str {
+    "\
+// A tunnel over one WebSocket (docs/PROTOCOL.md, \"The WebSocket tunnel\"). Each message is answered by one, and none comes
+// unasked, so the page asks by a clock, which doesn't wait for answers: a long way then counts once.
+
+import { Reader, Unreadable, textOf } from './instructions.js';
+import { Timer } from './timer.js';
+import { NoWay, Refusal, TIMES, isLast } from './tunnel.js';
+
+/** How long a page rests between its questions, in milliseconds: at first, and at most while something happened within
+ *  the time that is `lively`, while nothing did, and in a tab that nobody sees. */
+export const QUESTIONS = { first: 10, busy: 40, quiet: 250, hidden: 1000, lively: 60000 };
+
+const SUBPROTOCOL = 'guacamole';
+// How many messages may have no answer yet, lest a slow link gets slower.
+const MOST_UNANSWERED = 8;
+// How long, in milliseconds, a WebSocket may take to open.
+const SHAKING = 10000;
+const ACKNOWLEDGES = /^4\\.sync,[0-9]+\\.[0-9]+;$/;
+
+/** @typedef {import('./tunnel.js').Tunnel} Tunnel */
+
+/** A tunnel over a WebSocket. @implements {Tunnel} */
+export class WebSocketTunnel {
+  /** @type {import('./tunnel.js').State} */
+  state = 'connecting';
+  session = '';
+  most = MOST_UNANSWERED;
+  #address;
+  #tried;
+  /** @type {WebSocket | null} */
+  #socket = null;
+  /** @type {import('./tunnel.js').Hearer} */
+  #hearer = { changed() {}, given() {} };
+  #reader = new Reader();
+  // What has no answer yet, the oldest first, and what is only said once less has none.
+  /** @type {{ since: number, done(): void, failed(fault: Error): void }[]} */
+  #unanswered = [];
+  /** @type {{ text: string, done(): void, failed(fault: Error): void }[]} */
+  #waiting = [];
+  // An acknowledgement, which goes along with the next message.
+  #stamp = '';
+  #stirred = 0;
+  #rest = QUESTIONS.first;
+  #timer = new Timer();
+  #limit = 0;
+  #looks = 0;
+  #seen = () => this.#stir();
+
+  /** @param {string} address  @param {(isThere: boolean) => void} tried  is told whether a WebSocket was opened */
+  constructor(address, tried) {
+    this.#address = address;
+    this.#tried = tried;
+  }
+
+  connect(form, hearer) {
+    this.#hearer = hearer;
+    this.#limit = setTimeout(() => this.#socket?.close(), SHAKING);
+    try {
+      this.#socket = new WebSocket(this.#address, SUBPROTOCOL);
+    } catch {
+      return this.#lose(false);
+    }
+    let isThere = false;
+    this.#socket.onopen = () => {
+      isThere = true;
+      this.#tried(true);
+      clearTimeout(this.#limit);
+      this.#limit = setTimeout(() => this.cut(), form.id !== undefined ? TIMES.limit : TIMES.opening);
+      this.#say(String(new URLSearchParams(form)));
+    };
+    this.#socket.onmessage = ({ data }) => this.#attempt(() => this.#hear(data));
+    this.#socket.onclose = () => this.#lose(isThere);
+  }
+
+  // A browser doesn't tell why there is no WebSocket: it may be refused, or nothing is reached.
+  #lose(isThere) {
+    if (this.state === 'closed') return;
+    if (!isThere) this.#tried(false);
+    this.#close(isThere ? new Refusal(0, 0) : new NoWay());
+  }
+
+  // What isn't foreseen closes it.
+  #attempt(act) {
+    try {
+      if (this.state !== 'closed') act();
+    } catch (fault) {
+      this.#close(fault);
+    }
+  }
+
+  #hear(text) {
+    if (typeof text !== 'string') throw new Unreadable('a message that is no text');
+    const answered = this.#unanswered.shift();
+    if (answered === undefined) throw new Unreadable('a message that nothing asked for');
+    answered.done();
+    const instructions = this.#reader.read(text);
+    this.#give(this.state === 'connecting' ? this.#begin(instructions) : instructions);
+  }
+
+  // The first answer tells the session's ID, or why there is none. It answers what stands behind that.
+  #begin(instructions) {
+    const [[opcode, ...values] = [''], ...others] = instructions;
+    if (opcode === 'error') throw new Refusal(Number(values[1]), 0);
+    if (opcode !== 'ready') throw new Unreadable('an answer without an ID');
+    this.session = values[0];
+    clearTimeout(this.#limit);
+    globalThis.document?.addEventListener('visibilitychange', this.#seen);
+    this.#looks = setInterval(() => this.#look(), TIMES.betweenLooks);
+    this.#stir();
+    this.#become('open');
+    return others;
+  }
+
+  #give(instructions) {
+    if (instructions.length > 0) {
+      this.#stir();
+      this.#hearer.given(instructions);
+    }
+    if (instructions.some(isLast)) this.#close();
+    else this.#flush();
+  }
+
+  send(text) {
+    if (this.state === 'closed') return Promise.reject(new Refusal(0, 0));
+    this.#stir();
+    if (ACKNOWLEDGES.test(text)) {
+      this.#stamp = text;
+      return Promise.resolve();
+    }
+    return new Promise((done, failed) => {
+      this.#waiting.push({ text, done: () => done(), failed });
+      this.#flush();
+    });
+  }
+
+  #flush() {
+    while (this.#waiting.length > 0 && this.#unanswered.length < MOST_UNANSWERED) {
+      const { text, done, failed } = this.#waiting.shift();
+      this.#say(text, done, failed);
+    }
+  }
+
+  #say(text, done = () => {}, failed = (_) => {}) {
+    this.#unanswered.push({ since: performance.now(), done, failed });
+    this.#socket.send(this.#stamp + text);
+    this.#stamp = '';
+  }
+
+  #ask() {
+    if (this.#unanswered.length < MOST_UNANSWERED) this.#say('');
+    const isLively = performance.now() - this.#stirred < QUESTIONS.lively;
+    this.#rest = Math.min(2 * this.#rest, isLively ? QUESTIONS.busy : QUESTIONS.quiet);
+    this.#askLater();
+  }
+
+  // Something has happened, so more may soon.
+  #stir() {
+    this.#stirred = performance.now();
+    this.#rest = QUESTIONS.first;
+    this.#askLater();
+  }
+
+  #askLater() {
+    if (this.state !== 'closed') this.#timer.set(() => this.#attempt(() => this.#ask()), globalThis.document?.hidden ? QUESTIONS.hidden : this.#rest);
+  }
+
+  #look() {
+    const silent = performance.now() - (this.#unanswered[0]?.since ?? Infinity);
+    if (silent > TIMES.limit) this.cut();
+    else this.#become(silent > TIMES.stalled ? 'unstable' : 'open');
+  }
+
+  cut() {
+    this.#close(new Refusal(0, 0));
+  }
+
+  disconnect() {
+    if (this.state === 'closed') return;
+    if (this.#socket?.readyState === WebSocket.OPEN) this.#socket.send(textOf('disconnect'));
+    this.#close();
+  }
+
+  /** The gateway sees the end of a connection, and the place with it. */
+  async giveBack() {}
+
+  #become(state) {
+    if (state === this.state || this.state === 'closed') return;
+    this.state = state;
+    this.#hearer.changed(state);
+  }
+
+  /** @param {Error} [fault] */
+  #close(fault) {
+    if (this.state === 'closed') return;
+    this.state = 'closed';
+    clearTimeout(this.#limit);
+    this.#timer.end();
+    clearInterval(this.#looks);
+    globalThis.document?.removeEventListener('visibilitychange', this.#seen);
+    this.#socket?.close();
+    for (const { done, failed } of [...this.#unanswered, ...this.#waiting]) fault ? failed(fault) : done();
+    this.#hearer.changed('closed', fault);
   }
 }
 "
@@ -3521,9 +4137,10 @@ body[data-state=\"lost\"] #terminal { filter: brightness(.75); }
 #keys { left: calc(var(--x, 0) * var(--cell-width)) !important; top: calc(var(--y, 0) * var(--cell-height)) !important; width: 1px; height: var(--cell-height); padding: 0; border: 0; outline: 0; margin: 0; opacity: 0; scroll-margin: 0 6em; resize: none; overflow: hidden; white-space: pre; font: var(--font)/var(--cell-height) var(--family); background: #20364f; color: #fff; caret-color: transparent; pointer-events: none; }
 #keys.composing { opacity: 1; width: calc(var(--length, 1) * 2 * var(--cell-width)); border-bottom: 1px solid var(--accent); }
 
-footer { display: flex; flex-wrap: wrap; gap: .2em 1.1em; align-items: center; padding: .3em .9em; background: var(--raised); border-top: 1px solid var(--edge); min-height: 2.5em; font-size: 13px; color: var(--quiet); }
+footer { position: relative; display: flex; flex-wrap: wrap; gap: .2em 1.1em; align-items: center; padding: .3em .9em .3em 2.5em; background: var(--raised); border-top: 1px solid var(--edge); min-height: 2.5em; font-size: 13px; color: var(--quiet); }
 body[data-state=\"idle\"] footer, body[data-state=\"idle\"] #touch { display: none; }
-footer::before { content: \"\"; width: .6em; height: .6em; border-radius: 50%; background: var(--warn); }
+/* Beside the first of its lines, of which a phone has several. */
+footer::before { content: \"\"; position: absolute; left: .9em; top: .85em; width: .6em; height: .6em; border-radius: 50%; background: var(--warn); }
 body[data-state=\"open\"] footer::before { background: var(--good); }
 body[data-state=\"ended\"] footer::before { background: var(--bad); }
 footer button { padding: .1em .9em; }
@@ -3531,23 +4148,30 @@ footer button { padding: .1em .9em; }
 body:is([data-state=\"unstable\"], [data-state=\"lost\"]) #message { color: var(--warn); }
 #notice { color: var(--text); }
 /* The line keeps its height, so that the terminal does. */
-footer:has(#notice:not(:empty)) :is(#rights, #links), body:not([data-state=\"open\"]) #links { display: none; }
+footer:has(#notice:not(:empty)) #rights, body:not([data-state=\"open\"]) #share { display: none; }
 #message:empty, #notice:empty, #rights:empty { display: none; }
 #hint { display: none; color: var(--warn); }
 body[data-state=\"open\"][data-types]:has(footer :focus) #hint { display: inline; }
-#links { margin-left: auto; }
-#links a { color: var(--accent); margin-left: .4em; }
-#panel { position: relative; margin-left: auto; }
-body[data-state=\"open\"] footer:not(:has(#notice:not(:empty))) #links:not([hidden]) ~ #panel { margin-left: 0; }
-#panel > summary { padding: .1em .5em; }
-#panel[open] > summary { margin: 0; color: var(--text); }
-.panel { position: absolute; right: 0; bottom: calc(100% + .7em); z-index: 1; width: min(24em, calc(100vw - 1.8em)); max-height: calc(100dvh - 5em); overflow: auto; padding: 1.1em 1.2em; background: var(--raised); border: 1px solid var(--edge); border-radius: 10px; box-shadow: 0 8px 28px #000a; color: var(--text); }
+#hint ~ .fold:not(.fold ~ .fold), #share[hidden] ~ #panel, body:not([data-state=\"open\"]) #panel { margin-left: auto; }
+.fold > summary { padding: .1em .5em; }
+.fold[open] > summary { margin: 0; color: var(--text); }
+.panel { position: absolute; right: .9em; bottom: calc(100% + .3em); z-index: 1; width: min(24em, calc(100vw - 1.8em)); max-height: calc(100dvh - 5em); overflow: auto; padding: 1.1em 1.2em; background: var(--raised); border: 1px solid var(--edge); border-radius: 10px; box-shadow: 0 8px 28px #000a; color: var(--text); }
 .panel form { gap: .7em; width: auto; padding: 0; background: none; border: 0; }
-.panel label:not(.check) { grid-template-columns: 1fr 11em; align-items: center; }
+.panel label:not(.check) { grid-template-columns: 1fr 13em; align-items: center; }
 .panel dl { margin: 1em 0 .8em; padding-top: .9em; border-top: 1px solid var(--edge); display: grid; gap: .35em; }
 .panel dt { color: var(--text); }
 .panel dd { margin: -.35em 0 .2em; color: var(--quiet); }
 .panel p { margin: 0; color: var(--quiet); }
+.panel p[role=\"status\"]:not(:empty) { margin: .8em 0; color: var(--text); }
+.panel ul { margin: .8em 0; padding: 0; list-style: none; display: grid; gap: .7em; }
+.panel li { display: grid; grid-template-columns: 1fr auto auto; gap: .3em .5em; align-items: center; }
+.panel li input { grid-column: 1 / -1; }
+
+/* Where nothing is shown yet, what is told stands in its place. */
+body[data-bare] #terminal { background: none; box-shadow: none; outline: 0; }
+body[data-bare] #message { position: fixed; inset: auto 1.2em 56%; text-align: center; font-size: 1.4em; }
+body[data-bare] #again { position: fixed; top: 50%; left: 50%; translate: -50%; padding: .4em 1.4em; font-size: 1.2em; }
+body[data-bare] footer::before { display: none; }
 
 /* Keys that a keyboard on a screen hasn't. */
 #touch { display: none; gap: .35em; padding: .35em .5em; background: var(--raised); border-top: 1px solid var(--edge); overflow-x: auto; scrollbar-width: none; }
@@ -3645,6 +4269,45 @@ export class TextLayer {
 "
 }
 
+// `/timer.js`.
+fn timer_js() -> &'static str {
+    "\
+// A timer that is on time in a tab that nobody sees, too.
+
+/** One timer, which is set anew any number of times. */
+export class Timer {
+  #timer = 0;
+  /** @type {Worker | null} */
+  #worker = null;
+
+  /** Acts once behind so many milliseconds, and no longer for what was set before. */
+  set(act, length) {
+    this.#cut();
+    if (globalThis.document?.hidden) this.#setHidden(act, length);
+    else this.#timer = setTimeout(act, length);
+  }
+
+  #setHidden(act, length) {
+    this.#worker ??= new Worker(new URL('clock.js', import.meta.url));
+    this.#worker.onmessage = act;
+    this.#worker.postMessage(length);
+  }
+
+  #cut() {
+    clearTimeout(this.#timer);
+    if (this.#worker !== null) this.#worker.onmessage = null;
+  }
+
+  /** Ends it for good. */
+  end() {
+    this.#cut();
+    this.#worker?.terminate();
+    this.#worker = null;
+  }
+}
+"
+}
+
 // `/touch.js`.
 fn touch_js() -> &'static str {
     "\
@@ -3700,12 +4363,16 @@ import { READS, Rest, TRIES } from './rest.js';
  * @typedef {object} Tunnel
  * @property {State} state
  * @property {string} session  the ID of the session once it is open, or nothing where the tunnel isn't told it
+ * @property {number} most  how many texts may be on their way at once
  * @property {(form: Record<string, string>, hearer: Hearer) => void} connect  opens a session, or joins one
  * @property {(text: string) => Promise<void>} send  sends whole instructions, and ends once they have come to the gateway
  * @property {() => void} cut  gives the link up, as if it was lost
  * @property {() => void} disconnect  leaves, also while the page goes away
  * @property {() => Promise<void>} giveBack  gives back the place of a closed tunnel, or fails where nothing is reached
  */
+
+/** Why a tunnel was never open: its kind can't be had here. Another kind may lead to the gateway. */
+export class NoWay extends Error {}
 
 const NO_MEMORY = 512;
 
@@ -3733,18 +4400,16 @@ export class Refusal extends Error {
   }
 }
 
+/** In milliseconds: how long a session may take to open, and any other answer but that of a read which waits for news;
+ *  after which time without an answer a link counts as unstable; how often it is looked at. */
+export const TIMES = { opening: 120000, limit: 15000, stalled: 5000, betweenLooks: 500 };
+// How long a page that is seen hears nothing, in milliseconds, before it asks whether the gateway is there.
+const QUIET = 10000;
 // Behind what a read gives.
 const END = '0.;';
-// In milliseconds: how long a session may take to open, and any other request but a read, which waits for news; after
-// which time without an answer a link counts as unstable; how long a page that is seen hears nothing before it asks
-// whether the gateway is there.
-const OPENING = 120000;
-const LIMIT = 15000;
-const STALLED = 5000;
-const QUIET = 10000;
-const BETWEEN_LOOKS = 500;
 
-const isLast = ([opcode]) => opcode === 'disconnect' || opcode === 'error';
+/** Whether an instruction is the last of a session. @param {string[]} instruction */
+export const isLast = ([opcode]) => opcode === 'disconnect' || opcode === 'error';
 
 /** A tunnel over plain HTTP requests (docs/PROTOCOL.md, \"The HTTP tunnel\"): one request opens it, others read what the
  *  viewer is given and write what it sends. @implements {Tunnel} */
@@ -3752,7 +4417,9 @@ export class HttpTunnel {
   /** @type {State} */
   state = 'connecting';
   session = '';
+  most = 1;
   #path;
+  #opened;
   #id = '';
   /** @type {Hearer} */
   #hearer = { changed() {}, given() {} };
@@ -3768,17 +4435,22 @@ export class HttpTunnel {
   /** @type {Promise<void>} */
   #ended = new Promise((resolve) => { this.#end = resolve; });
 
-  constructor(path) {
+  /** @param {string} path  @param {() => void} [opened]  is told once it is open */
+  constructor(path, opened = () => {}) {
     this.#path = path;
+    this.#opened = opened;
   }
 
   async connect(form, hearer) {
     this.#hearer = hearer;
     this.session = form.id ?? '';
     try {
-      this.#id = await this.#answerTo('connect', new URLSearchParams(form), this.session !== '' ? LIMIT : OPENING);
+      // Nobody is told the ID of a session that is opened here, so that it may as well be closed once its viewer has left.
+      const asked = new URLSearchParams(this.session !== '' ? form : { ...form, sharing: 'none' });
+      this.#id = await this.#answerTo('connect', asked, this.session !== '' ? TIMES.limit : TIMES.opening);
+      this.#opened();
       this.#become('open');
-      this.#looks = setInterval(() => this.#look(), BETWEEN_LOOKS);
+      this.#looks = setInterval(() => this.#look(), TIMES.betweenLooks);
       while (this.state !== 'closed') await this.#read();
     } catch (fault) {
       this.#close(fault);
@@ -3807,7 +4479,7 @@ export class HttpTunnel {
   async send(text) {
     this.#rest.cut();
     try {
-      await this.#answerTo('write', text, LIMIT);
+      await this.#answerTo('write', text, TIMES.limit);
     } catch (fault) {
       // The read that is under way tells that a session is over, and why.
       if (fault.isOver) return this.#ended;
@@ -3831,7 +4503,7 @@ export class HttpTunnel {
   async giveBack() {
     if (this.#id === '') return;
     try {
-      await this.#answerTo('write', textOf('disconnect'), LIMIT);
+      await this.#answerTo('write', textOf('disconnect'), TIMES.limit);
     } catch (fault) {
       if (fault.mayPass) throw fault;
     }
@@ -3857,10 +4529,10 @@ export class HttpTunnel {
   // Whether the link gives answers. A read may wait as long as nothing happens, so it tells nothing of that.
   #look() {
     const now = performance.now();
-    const isSilent = now - Math.min(...this.#asked) > STALLED;
+    const isSilent = now - Math.min(...this.#asked) > TIMES.stalled;
     this.#become(isSilent || this.#isLost ? 'unstable' : 'open');
     // A machine without a network may be the gateway's own.
-    const quiet = globalThis.navigator?.onLine === false ? BETWEEN_LOOKS : QUIET;
+    const quiet = globalThis.navigator?.onLine === false ? TIMES.betweenLooks : QUIET;
     if (this.state === 'open' && this.#asked.size === 0 && now - this.#answered > quiet && !globalThis.document?.hidden) this.send('').catch(() => {});
   }
 
@@ -3873,7 +4545,7 @@ export class HttpTunnel {
     while (this.#isLost && this.state !== 'closed') {
       await rest.once();
       try {
-        await this.#answerTo('write', '', LIMIT);
+        await this.#answerTo('write', '', TIMES.limit);
         this.#isLost = false;
       } catch (fault) {
         if (!fault.mayPass && !fault.isOver) this.#close(fault);
@@ -3918,7 +4590,7 @@ import { Unreadable, textOf } from './instructions.js';
 import { isModifier } from './keysyms.js';
 import { Outbox } from './outbox.js';
 import { Rest, TRIES } from './rest.js';
-import { Refusal } from './tunnel.js';
+import { NoWay, Refusal } from './tunnel.js';
 
 /**
  * How a view ended: by the host, by whoever left, by an `error` of the gateway or a refusal of it, by a link that is lost
@@ -3997,6 +4669,11 @@ export class View {
     return !this.#readOnly;
   }
 
+  /** The ID by which the session can be joined, or nothing where it isn't known. */
+  get session() {
+    return this.#form.id ?? '';
+  }
+
   /** Shows what the viewer is given until the session is over or can't be reached, and answers how it ended. The form
    *  opens a session, or joins one by its ID. It is joined again where the link was lost and its ID is known.
    *  @returns {Promise<End>} */
@@ -4026,7 +4703,8 @@ export class View {
         await tunnel.giveBack();
         this.#past.delete(tunnel);
       }
-      fault = await this.#hear();
+      do fault = await this.#hear();
+      while (fault instanceof NoWay && !this.#hasLeft);
     } catch (caught) {
       fault = caught;
     }
@@ -4143,6 +4821,44 @@ export function endOf(fault) {
   if (fault instanceof Unreadable) return { by: 'unreadable' };
   console.error(fault);
   return { by: 'fault' };
+}
+"
+}
+
+// `/ways.js`.
+fn ways_js() -> &'static str {
+    "\
+// Which way a page takes to the gateway: a WebSocket, or HTTP where that can't be had.
+
+import { WebSocketTunnel } from './socket.js';
+import { HttpTunnel } from './tunnel.js';
+
+/**
+ * What makes tunnels, one for each connection. Behind one whose WebSocket wasn't opened comes one over HTTP; and where
+ * that one is opened, so that the gateway is there, and this page had no WebSocket before, all further ones are.
+ * @param {{ socket: string, http: string }} addresses
+ * @returns {() => import('./tunnel.js').Tunnel}
+ */
+export function waysTo({ socket, http }) {
+  let hasSocket = false;
+  let isOverHttp = false;
+  let isTried = false;
+  const overHttp = () => new HttpTunnel(http, () => { isOverHttp = !hasSocket; });
+  const overSocket = () => new WebSocketTunnel(socket, (isThere) => {
+    hasSocket ||= isThere;
+    isTried = !isThere;
+  });
+  return () => {
+    if (!isOverHttp && !isTried) return overSocket();
+    isTried = false;
+    return overHttp();
+  };
+}
+
+/** The addresses beside a page, without the login that its own may have: no request can be made to one that has it. */
+export function addressesBeside({ origin, href }) {
+  const beside = (name) => origin + new URL(name, href).pathname;
+  return { http: beside('tunnel'), socket: beside('websocket-tunnel').replace(/^http/, 'ws'), links: beside('links') };
 }
 "
 }

@@ -3,16 +3,24 @@ use Rattle.gate_model.specs.text.Spelling.{IsDigit}
 use Rattle.gate_service.specs.Lookaheads.{left_of}
 use Rattle.guac_handshake.proofs.Causes.{rose_after, rose_from}
 use Rattle.gate_service.proofs.Beginning.{begins}
-use Rattle.gate_service.proofs.Caused.{http_caused, user_caused}
+use Rattle.gate_service.proofs.Caused.{ended_so, failed_so, http_caused, user_caused}
 use Rattle.gate_service.proofs.Typed.{typed_same}
 use Rattle.gate_service.proofs.routing.connection.Goals as goal
 
 -- a request's connection begins with the byte that was looked at
 pub returns-then-not-is_ascii_digit-clause-ran : goal.returns-then-not-is_ascii_digit-clause-ran
 returns-then-not-is_ascii_digit-clause-ran g c =
-    let r = c.serve_request.ensures.ran in
+    let r = c.read_request-incoming.ensures.received in
+    let a = c.answer.ensures.ran in
     let first = begins _ (left_of g.S.Source.left c.args.source.now) _ _ c.in-Ok-Some.ensures.first c.in-Ok-Some.field-0-is (λ d. elim c.if-not-is_ascii_digit.ensures.cases [ inl h ↦ omega (arith, h, d.0) | inr h ↦ omega (arith, h, d.1) ]) in
-    (r.0, r.1, r.3, (first, sym c.in-Ok-Some.ensures.same ∙ r.2, r.4))
+    (r.0, a.0, a.1, (first, sym c.in-Ok-Some.ensures.same ∙ r.1, (c.read_request-incoming.result, r.2, sym c.asks_messages.ensures ∙ c.if-asks_messages.false, a.2)))
+
+-- .. and messages too, whose request asks for them
+pub returns-then-asks_messages-clause-messages : goal.returns-then-asks_messages-clause-messages
+returns-then-asks_messages-clause-messages g c =
+    let r = c.read_request-incoming.ensures.received in
+    let first = begins _ (left_of g.S.Source.left c.args.source.now) _ _ c.in-Ok-Some.ensures.first c.in-Ok-Some.field-0-is (λ d. elim c.if-not-is_ascii_digit.ensures.cases [ inl h ↦ omega (arith, h, d.0) | inr h ↦ omega (arith, h, d.1) ]) in
+    (first, (r.0, _, c.read_request-incoming.result, sym c.in-Ok-Some.ensures.same ∙ r.1, r.2, sym c.asks_messages.ensures ∙ c.if-asks_messages.true), c.serve_messages.ensures.served)
 
 -- .. and so does a viewer's, in which what is pasted is typed from there on
 pub returns-in-Ok-clause-ran : goal.returns-in-Ok-clause-ran
@@ -25,8 +33,8 @@ returns-in-Ok-clause-ran g c =
 
 pub returns-then-not-is_ascii_digit-clause-cause : goal.returns-then-not-is_ascii_digit-clause-cause
 returns-then-not-is_ascii_digit-clause-cause g c =
-    let k = c.serve_request.ensures in
-    http_caused _ _ _ c.serve_request.result (λ e. rose_after _ _ _ c.in-Ok-Some.ensures.later (k.read_fault e)) k.write_fault k.ended
+    let k = c.read_request-incoming.ensures in
+    http_caused _ _ _ _ _ c.answer.result (λ is. rose_after _ _ _ c.in-Ok-Some.ensures.later (failed_so _ _ is k.fault)) (λ is. ended_so _ _ is k.ended) c.answer.ensures.cause
 
 pub returns-in-Ok-clause-cause : goal.returns-in-Ok-clause-cause
 returns-in-Ok-clause-cause g c =

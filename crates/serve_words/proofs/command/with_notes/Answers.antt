@@ -16,4 +16,5 @@ returns c =
     let log_own : c.default_value-level.result.global ≡ false = ap is_global c.default_value-level.ensures ∙ c.option.ensures.own in
     let format_own : c.default_value-format.result.global ≡ false = ap is_global c.default_value-format.ensures ∙ c.option-2.ensures.own in
     let one = c.in_ok-arg.ensures.shape log_own ∙ ap (with_rule _) log_is in
-    IfOk-weaker c.arg-2.result _ _ (λ command h. h.shape format_own ∙ ap₂ with_rule one format_is) c.arg-2.ensures
+    let two = c.in_ok-arg-2.ensures.shape format_own ∙ ap₂ with_rule one format_is in
+    IfOk-weaker c.arg-3.result _ _ (λ command h. h.shape c.option-admin.ensures.own ∙ ap₂ with_rule two c.option-admin.ensures.rule) c.arg-3.ensures

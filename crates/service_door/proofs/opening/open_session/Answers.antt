@@ -12,6 +12,6 @@ share-requires-clause-opening c = opens _ _ _ (ready c.in_ok-setup.setup c.args.
 pub returns : goal.returns
 returns c =
     let begun = ready c.in_ok-setup.setup c.args.now c.in_ok-desk.desk c.join.new.self c.in-Ok.field-0 _ _ c.new-first.ensures.items c.in_ok-desk.ensures.opened c.in-Ok.ensures.step in
-    opened c.args.ask.now c.in_ok-setup.setup c.join.new.self.past c.in_ok-host.host c.in-Some.place c.of.result c.in_ok-setup.ensures.asked
+    opened c.args.faces c.args.ask.now c.in_ok-setup.setup c.join.new.self.past c.in_ok-host.host c.in-Some.place c.of.result c.in_ok-setup.ensures.asked
     (subst (λ (text : _). IsOwned c.in_ok-setup.setup c.join.new.self.past text) (sym c.of.ensures) begun.owned)
     (subst (λ (owner : _). HasBegun c.join.new.self.past c.in_ok-host.host owner) c.in-Some.is c.in_ok-host.ensures)

@@ -41,5 +41,5 @@ returns-clause-exact g c =
 pub returns-clause-begun : goal.returns-clause-begun
 returns-clause-begun g c =
     let welcome : Welcome Place = record { id = c.in-Ok-name_in.id; place = c.in-Ok-make.made.place; first = c.in-Ok-make.made.first } in
-    subst (λ (b : Bool). IsBegun b (g.T.Shelf.told c.add.new.self) c.args.ask.now welcome) c.is_some.ensures
-    (begun c.is_some.result (g.T.Shelf.told c.args.self.now.sessions.now) (g.T.Shelf.told c.add.new.self) c.args.ask.now welcome c.in-Ok-add.key _ c.in-Ok-name_in.ensures c.in-Ok-make.ensures.places c.in-Ok-make.ensures.started c.in-Ok-add.ensures.added)
+    subst (λ (b : Bool). IsBegun b c.args.self.now.faces (g.T.Shelf.told c.add.new.self) c.args.ask.now welcome) c.is_some.ensures
+    (begun c.is_some.result c.args.self.now.faces (g.T.Shelf.told c.args.self.now.sessions.now) (g.T.Shelf.told c.add.new.self) c.args.ask.now welcome c.in-Ok-add.key _ c.in-Ok-name_in.ensures c.in-Ok-make.ensures.places c.in-Ok-make.ensures.started c.in-Ok-add.ensures.added)
