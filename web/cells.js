@@ -9,7 +9,7 @@ import { indexOf } from './palette.js';
 export const PICTURE = -1;
 const UNREAD = -2;
 
-/** The number of a cell. @returns {number} */
+/** The number of a cell. Its face is below 2^14. @returns {number} */
 export function cellOf(face, ink, paper, isUnderlined) {
   return (face << 17) | (isUnderlined ? 1 << 16 : 0) | (ink << 8) | paper;
 }

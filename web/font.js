@@ -1,6 +1,8 @@
-// The gateway's font (docs/TERMINAL.md, "Font"), read backwards: from the pixels of a cell to its character. The 95
-// pictures, the box and its two halves are all different, so the reading is exact; a cell that shows none of them is a
-// picture.
+// The gateway's font (docs/TERMINAL.md, "Font" and "Faces"), read backwards: from the pixels of a cell to its character.
+// All pictures are different, so the reading is exact; a cell that shows none of them is a picture.
+
+import { BARS, COLUMNS } from './faces.js';
+import { pixelOf } from './palette.js';
 
 /** How many pixels a cell has. */
 export const CELL_WIDTH = 8;
@@ -12,7 +14,10 @@ export const BOX = 0x7f;
 /** The faces of the two halves of a character that takes two cells: together a box as wide as both. */
 export const [LEFT, RIGHT] = [0x80, 0x81];
 
-// From U+0020 on, then the box and its halves, five columns each, bit r of a column for row r.
+/** Whether a face is line drawing or a block element, which reach the edges of the cell. */
+export const hasBars = (face) => face >= 0x2500 && face <= 0x259f;
+
+// From U+0020 on, then the box and its halves, five columns each, bit r of a column for the pixel lines 2 + 2r and 3 + 2r.
 const GLYPHS = `0000000000 00005F0000 0007000700 147F147F14 242A7F2A12 2313086462 3649552250 0005030000
 001C224100 0041221C00 082A1C2A08 08083E0808 0050300000 0808080808 0060600000 2010080402
 3E5149453E 00427F4000 4261514946 2141454B31 1814127F10 2745454539 3C4A494930 0171090503
@@ -27,62 +32,100 @@ const GLYPHS = `0000000000 00005F0000 0007000700 147F147F14 242A7F2A12 231308646
 4428102844 0C5050503C 4464544C44 0008364100 00007F0000 0041360800 0804081008 7F4141417F
 7F41414141 414141417F`.split(/\s+/);
 
-/** The seven rows of five bits that a face has lit, the leftmost pixel in bit 0. @returns {number[]} */
-export function rowsOf(face) {
-  const columns = GLYPHS[face - 0x20].match(/../g).map((hex) => parseInt(hex, 16));
-  return [0, 1, 2, 3, 4, 5, 6].map((row) => columns.reduce((bits, column, x) => bits | (((column >> row) & 1) << x), 0));
+// Where a face has its picture: five columns, of whose bits the first is that of the pixel lines 0 and 1, or bars.
+/** @type {Map<number, number[]>} */
+const columns = new Map();
+GLYPHS.forEach((word, k) => columns.set(0x20 + k, bytesOf(word).map((column) => 2 * column)));
+let next = 0;
+for (const word of COLUMNS.split(/\s+/)) {
+  if (word.length === 4) next = parseInt(word, 16);
+  else columns.set(next++, bytesOf(word));
+}
+const bars = BARS.split(/\s+/);
+
+function bytesOf(word) {
+  return word.match(/../g).map((hex) => parseInt(hex, 16));
 }
 
-const numberOf = (rows) => rows.reduce((sum, bits) => sum * 32 + bits, 0);
-const FACES = new Map(GLYPHS.map((_, k) => [numberOf(rowsOf(0x20 + k)), 0x20 + k]));
+/** All faces. @returns {number[]} */
+export const allFaces = () => [...columns.keys(), ...bars.map((_, k) => 0x2500 + k)];
 
-// Which of the eight pixels of a line aren't the paper, or -1 where one is neither paper nor ink.
-function litOf(pixels, at, paper, ink) {
-  let lit = 0;
-  for (let x = 0; x < CELL_WIDTH; x++) {
-    const pixel = pixels[at + x];
-    if (pixel === ink) lit |= 1 << x;
-    else if (pixel !== paper) return -1;
+/** The sixteen pixel lines of a face, of eight bits each, the leftmost pixel in bit 0. @returns {number[]} */
+export function linesOf(face) {
+  return hasBars(face) ? linesOfBars(bars[face - 0x2500]) : linesOfColumns(columns.get(face));
+}
+
+function linesOfColumns(five) {
+  const lines = Array(CELL_HEIGHT).fill(0);
+  for (let y = 0; y < CELL_HEIGHT; y++) for (let x = 0; x < 5; x++) lines[y] |= ((five[x] >> (y >> 1)) & 1) << (x + 1);
+  return lines;
+}
+
+// (in a word the width and the height of a bar are less by 1)
+const barsOfWord = (word) => word.match(/..../g).map((bar) => [...bar].map((hex, k) => parseInt(hex, 16) + (k >> 1)));
+
+/** The bars of a face that has some: their left and upper pixel, width and height. @returns {number[][]} */
+export const barsOf = (face) => barsOfWord(bars[face - 0x2500]);
+
+function linesOfBars(word) {
+  const lines = Array(CELL_HEIGHT).fill(0);
+  for (const [x, y, width, height] of barsOfWord(word)) {
+    for (let line = y; line < y + height; line++) lines[line] |= ((1 << width) - 1) << x;
   }
-  return lit;
+  return lines;
 }
 
-// The first pixel that isn't the paper, or the paper where all are.
-function inkOf(pixels, at, width, paper) {
-  for (let y = 2; y < CELL_HEIGHT; y++) {
-    for (let x = 0; x < 6; x++) {
-      const pixel = pixels[at + y * width + x];
-      if (pixel !== paper) return pixel;
+// The lines as a text, of one character for two. Of two pictures that are alike, of a face and an underlined one that has
+// the last line already, the one that isn't underlined is told.
+const textOf = (it) => String.fromCharCode(it[0] | it[1] << 8, it[2] | it[3] << 8, it[4] | it[5] << 8, it[6] | it[7] << 8, it[8] | it[9] << 8, it[10] | it[11] << 8, it[12] | it[13] << 8, it[14] | it[15] << 8);
+/** @type {Map<string, { face: number, isUnderlined: boolean }>} */
+const PICTURES = new Map();
+for (const face of allFaces()) {
+  const lines = linesOf(face);
+  PICTURES.set(textOf(lines), { face, isUnderlined: false });
+  if (lines[15] !== 0xff) PICTURES.set(textOf([...lines.slice(0, 15), 0xff]), { face, isUnderlined: true });
+}
+
+const BLACK = pixelOf([0, 0, 0]);
+const LINES = new Uint8Array(CELL_HEIGHT);
+
+// The colour of a cell that isn't that of its first pixel, or that where all have it; LINES then tells which pixels have
+// the other. It is 0 where there are more colours.
+function otherAt(pixels, at, width) {
+  const first = pixels[at];
+  let other = first;
+  for (let y = 0; y < CELL_HEIGHT; y++, at += width) {
+    let line = 0;
+    for (let x = 0; x < CELL_WIDTH; x++) {
+      const pixel = pixels[at + x];
+      if (pixel === first) continue;
+      if (other === first) other = pixel;
+      else if (pixel !== other) return 0;
+      line |= 1 << x;
     }
+    LINES[y] = line;
   }
-  return paper;
+  return other;
+}
+
+function exchange() {
+  for (let y = 0; y < CELL_HEIGHT; y++) LINES[y] ^= 0xff;
+  return LINES;
 }
 
 /**
  * What the cell shows whose first pixel has this place in the pixels of a layer of this width: its face, its ink and
- * paper as pixels, and whether it is underlined; or null where it shows none of the font's pictures. Of a blank the
- * ink is the paper, for nothing of it is seen.
+ * paper as pixels, and whether it is underlined; or null where it shows none of the font's pictures. A cell of one colour
+ * is a blank, whose ink is the paper, for nothing of it is seen. Where two faces are each other's picture in exchanged
+ * colours, as the upper and the lower half, the one on black is told, or else the one on the first pixel's colour.
  * @returns {{ face: number, ink: number, paper: number, isUnderlined: boolean } | null}
  */
 export function seenAt(pixels, at, width) {
-  const paper = pixels[at];
-  if (paper === 0) return null;
-  const ink = inkOf(pixels, at, width, paper);
-  if (ink === paper) return isPlain(pixels, at, width, paper) ? { face: 0x20, ink, paper, isUnderlined: false } : null;
-  const line = (y) => litOf(pixels, at + y * width, paper, ink);
-  const isUnderlined = line(15) === 0xff;
-  if (line(0) !== 0 || line(1) !== 0) return null;
-  let glyph = 0;
-  for (let row = 0; row < 7; row++) {
-    const lit = line(2 + 2 * row);
-    if ((lit & ~0x3e) !== 0 || (line(3 + 2 * row) !== lit && !(row === 6 && isUnderlined))) return null;
-    glyph = glyph * 32 + (lit >> 1);
-  }
-  const face = FACES.get(glyph);
-  return face === undefined ? null : { face, ink, paper, isUnderlined };
-}
-
-function isPlain(pixels, at, width, paper) {
-  for (let y = 0; y < CELL_HEIGHT; y++) if (litOf(pixels, at + y * width, paper, paper) !== 0xff) return false;
-  return true;
+  const [first, other] = [pixels[at], otherAt(pixels, at, width)];
+  if (first === 0 || other === 0) return null;
+  if (other === first) return { face: 0x20, ink: first, paper: first, isUnderlined: false };
+  const onFirst = PICTURES.get(textOf(LINES));
+  const seen = (picture, ink, paper) => picture && { face: picture.face, ink, paper, isUnderlined: picture.isUnderlined };
+  if (onFirst !== undefined && other !== BLACK) return seen(onFirst, other, first);
+  return seen(PICTURES.get(textOf(exchange())), first, other) ?? seen(onFirst, other, first) ?? null;
 }

@@ -9,16 +9,18 @@ import { BACK, LOST, THROWN, rightsOf, wayOn, wordsOf, wordsOfLink } from './mes
 import { Paster } from './paste.js';
 import { faultOf, formOf, joinBy, linkOf, remember, remembered, requestOf, sessionOf, sizeOf, titleOf } from './request.js';
 import { Mouse, copyAsLines, copySelected, selectedText } from './selection.js';
+import { Links, Share } from './share.js';
 import { Speech } from './speech.js';
 import { buttonsOf } from './touch.js';
-import { HttpTunnel } from './tunnel.js';
 import { View } from './view.js';
+import { addressesBeside, waysTo } from './ways.js';
 
 /** @type {(id: string) => any} */
 const at = (id) => document.getElementById(id);
-// Beside the page, without the login that an address may have: no request can be made to an address that has one.
-const PATH = location.origin + new URL('tunnel', location.href).pathname;
+const ADDRESSES = addressesBeside(location);
+const makeTunnel = waysTo(ADDRESSES);
 const IS_MAC = /^(Mac|iP)/.test(navigator.platform);
+const FOLDS = ['share', 'panel'];
 const FIELDS = ['hostname', 'port', 'columns', 'rows', 'terminal-type'];
 // How long, in milliseconds, what happened is told, and what a page that leaves is given to be gone.
 const NOTICED = 20000;
@@ -31,6 +33,7 @@ const speech = new Speech(at('news'));
 speech.isOn = kept().speaks;
 const follow = new Follow((size) => view?.resize(size));
 const display = new Display(at, kept(), speech, (size) => follow.fits(size));
+const share = new Share(at('share'), new Links(ADDRESSES.links), () => request.keepsSize);
 const choices = choose(at('choices'), kept(), (chosen) => {
   display.choices = chosen;
   speech.isOn = chosen.speaks;
@@ -59,13 +62,14 @@ function tellTrouble(words) {
 const told = {
   shown(stamp) {
     document.body.dataset.stamp = stamp;
+    delete document.body.dataset.bare;
     follow.shows(display.size);
   },
   changed(state) {
     const before = document.body.dataset.state;
     if (state === before) return;
     tell(state, wordsOfLink(state, view?.types));
-    at('rights').textContent = state === 'open' ? rightsOf(request) : '';
+    at('rights').textContent = state === 'open' ? rightsOf(request, view?.session) : '';
     at('again').hidden = state !== 'lost';
     if (state === 'lost') keyboard.letGo();
     if (state !== 'open') return;
@@ -73,7 +77,7 @@ const told = {
     else notice(`${BACK} ${trouble}`.trim());
     trouble = '';
   },
-  answered(isAnswered) { at('rights').textContent = rightsOf(request, isAnswered); },
+  answered(isAnswered) { at('rights').textContent = rightsOf(request, view?.session, isAnswered); },
   lost() {
     keyboard.letGo();
     tellTrouble(LOST);
@@ -96,19 +100,12 @@ function surround() {
     focusKeys();
   };
   at('rights').textContent = '';
-  at('links').hidden = !request.id;
-  at('type').hidden = request.readOnly;
+  share.use('');
   document.body.toggleAttribute('data-types', !request.readOnly);
   at('keys').disabled = request.readOnly;
   at('keep').checked = request.keepsSize;
   at('keep').parentElement.hidden = request.readOnly;
   document.title = titleOf(request);
-  if (request.id) linkOthers();
-}
-
-function linkOthers() {
-  at('look').href = linkOf({ ...request, readOnly: true }, location.href);
-  at('type').href = linkOf(request, location.href);
 }
 
 function letFollow(isOn) {
@@ -121,9 +118,10 @@ async function start(asked) {
   tell('opening', 'Opening …');
   notice('');
   display.clear();
+  document.body.dataset.bare = '';
   const size = sizeOf(request, display.measured());
   follow.begin(request.id ? null : size);
-  view = new View(() => new HttpTunnel(PATH), display, request.readOnly, told);
+  view = new View(makeTunnel, display, request.readOnly, told);
   const end = await view.run(formOf(request, size));
   // A page that is about to be another one needs no word of it.
   if (end.by === 'left') await new Promise((passed) => setTimeout(passed, LEAVING));
@@ -132,9 +130,10 @@ async function start(asked) {
   finish(end);
 }
 
-// The session is there.
+// The session is there. Links to it are made by who types and knows its ID.
 function opened() {
-  remember(request);
+  remember({ ...request, id: view.session });
+  share.use(request.isLink || request.readOnly ? '' : view.session);
   letFollow(!request.readOnly && !request.keepsSize);
   focusKeys();
 }
@@ -143,9 +142,9 @@ function finish(end) {
   const { word, isAgain, isReload } = wayOn(end, request);
   if (end.by !== 'left') remember(null);
   paster.forget();
-  tell('ended', wordsOf(end, !request.id));
+  tell('ended', wordsOf(end, request, document.body.dataset.state !== 'opening'));
   at('rights').textContent = '';
-  at('links').hidden = true;
+  share.use('');
   at('again').textContent = word;
   at('again').onclick = () => {
     if (isReload) location.reload();
@@ -155,6 +154,8 @@ function finish(end) {
   at('again').hidden = false;
   at('again').focus();
 }
+
+const isInAddress = () => requestOf(location.hash)?.id === request?.id && Boolean(request?.id);
 
 // A session that is over goes from the address, so that the same link can be given again.
 function toStart() {
@@ -187,7 +188,8 @@ const act = {
     document.getSelection()?.removeAllRanges();
     focusKeys();
   },
-  leave: () => at('panel').querySelector('summary').focus(),
+  // To what stands next behind the terminal, so that one step leads back.
+  leave: () => FOLDS.map((id) => at(id).querySelector('summary')).find((it) => it.getClientRects().length > 0)?.focus(),
   hush() {
     choices.change({ speaks: !speech.isOn });
     at('news').replaceChildren(speech.isOn ? 'New lines are said.' : 'New lines are no longer said.');
@@ -217,12 +219,14 @@ buttonsOf(at('touch'), at('keys'), keyboard, paste);
 copyAsLines(at('screen'));
 new Mouse(at('screen'), focusKeys);
 
-at('keys').addEventListener('focus', () => { at('panel').open = false; });
-at('panel').addEventListener('keydown', (event) => {
-  if (event.key !== 'Escape') return;
-  at('panel').open = false;
-  act.leave();
-});
+at('keys').addEventListener('focus', () => FOLDS.forEach((id) => { at(id).open = false; }));
+for (const id of FOLDS) {
+  at(id).addEventListener('keydown', (event) => {
+    if (event.key !== 'Escape') return;
+    at(id).open = false;
+    at(id).querySelector('summary').focus();
+  });
+}
 
 function focusKeys() {
   if (view?.types) at('keys').focus({ preventScroll: true });
@@ -258,10 +262,8 @@ at('join').addEventListener('submit', (event) => {
 at('keep').addEventListener('change', () => {
   request.keepsSize = at('keep').checked;
   letFollow(view !== null && !request.keepsSize);
-  if (!request.id) return;
-  remember(request);
-  history.replaceState(null, '', linkOf(request, location.href));
-  linkOthers();
+  if (view?.session) remember({ ...request, id: view.session });
+  if (isInAddress()) history.replaceState(null, '', linkOf(request, location.href));
 });
 // What is wrong in a part of a form that is folded would be told nowhere.
 at('open').addEventListener('invalid', (event) => event.target.closest('details')?.setAttribute('open', ''), true);
@@ -272,12 +274,14 @@ addEventListener('hashchange', () => {
 addEventListener('pagehide', () => view?.leave());
 // A page that the browser has kept has left its session.
 addEventListener('pageshow', (event) => { if (event.persisted) location.reload(); });
-// Nobody can come back to a session that was opened here, so the browser asks before it is left. Any other is left now:
-// Firefox may end a page before it sends what is sent at its end.
+// A reload alone leads back to a session that isn't in the address, so the browser asks before it is left. Any other is
+// left now: Firefox may end a page before it sends what is sent at its end.
 addEventListener('beforeunload', (event) => {
   if (view === null || document.body.dataset.state === 'opening') return;
-  if (request.id) view.leave();
+  if (isInAddress()) view.leave();
   else event.preventDefault();
 });
-begin(requestOf(location.hash) ?? remembered());
+// What the tab has shown counts more than a host in the address, which was its way there.
+const asked = requestOf(location.hash);
+begin(asked?.id ? asked : remembered() ?? asked);
 for (const id of ['open', 'join']) judge(at(id));

@@ -4,8 +4,8 @@
 import { textOf } from './instructions.js';
 import { MODIFIERS } from './keysyms.js';
 
-// The most instructions that are sent together.
-const MOST_INSTRUCTIONS = 4096;
+// The most instructions that are sent together: one less than a gateway takes, since a tunnel may put another one before.
+const MOST_INSTRUCTIONS = 4095;
 // How long, in milliseconds, keys are kept.
 const KEPT = 10000;
 
@@ -17,7 +17,8 @@ export class Outbox {
   #waiting = [];
   /** @type {import('./tunnel.js').Tunnel | null} */
   #tunnel = null;
-  #isSending = false;
+  // How many texts are on their way.
+  #count = 0;
   #told;
   #timer = 0;
   #isThrown = false;
@@ -42,7 +43,7 @@ export class Outbox {
 
   /** Modifiers that were held before are released before anything else is sent. */
   release() {
-    this.#waiting.unshift(...RELEASES);
+    if (this.#waiting[0] !== RELEASES[0]) this.#waiting.unshift(...RELEASES);
   }
 
   /** The tunnel has another state. */
@@ -62,14 +63,17 @@ export class Outbox {
     this.#told.thrown();
   }
 
-  async #send() {
-    if (this.#isSending) return;
-    this.#isSending = true;
-    while (this.#tunnel?.state === 'open' && this.#waiting.length > 0) {
-      const part = this.#waiting.splice(0, MOST_INSTRUCTIONS);
-      await this.#tunnel.send(part.map(({ text }) => text).join('')).catch((fault) => this.#failed(part, fault));
-    }
-    this.#isSending = false;
+  #send() {
+    while (this.#tunnel?.state === 'open' && this.#count < this.#tunnel.most && this.#waiting.length > 0) this.#sendPart(this.#tunnel);
+  }
+
+  /** @param {import('./tunnel.js').Tunnel} tunnel */
+  async #sendPart(tunnel) {
+    const part = this.#waiting.splice(0, MOST_INSTRUCTIONS);
+    this.#count += 1;
+    await tunnel.send(part.map(({ text }) => text).join('')).catch((fault) => this.#failed(part, fault));
+    this.#count -= 1;
+    this.#send();
   }
 
   // What may have been done isn't sent again: a Return that comes twice does harm, and a key that is missing is seen.

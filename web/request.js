@@ -2,6 +2,7 @@
 //
 //   #id=$UUID                      joins a session, and types if the session lets joiners type
 //   #id=$UUID&read-only            joins a session, and only looks on
+//   #id=$UUID&link                 joins by a link that was made for it, whose ID isn't the session's; with &read-only, too
 //   #hostname=HOST&port=PORT&columns=80&rows=24&terminal-type=TYPE      fills the form that opens a session
 //
 // and with &keep-size the session's size stays, whatever the window's. One of given columns or rows stays, too.
@@ -16,12 +17,12 @@ export const TERMINAL_TYPE = 'linux';
 export function requestOf(fragment) {
   const given = new URLSearchParams(fragment.replace(/^#/, ''));
   const id = given.get('id');
-  if (id) return { id, readOnly: given.has('read-only'), keepsSize: given.has('keep-size') };
+  if (id) return { id, readOnly: given.has('read-only'), keepsSize: given.has('keep-size'), isLink: given.has('link') };
   if (!given.get('hostname')) return null;
   return sessionOf(given);
 }
 
-/** A session that is to be opened, of the fields of the form. Nobody is told its ID, so nobody else may join. */
+/** A session that is to be opened, of the fields of the form. */
 export function sessionOf(fields) {
   const field = (name, other) => String(fields.get(name) || other);
   const [columns, rows] = [field('columns', ''), field('rows', '')];
@@ -32,10 +33,11 @@ export function sessionOf(fields) {
 /** The size of a session that is opened: columns and rows that aren't given are those for which the window has room. */
 export const sizeOf = ({ columns, rows }, room) => ({ columns: Number(columns || room.columns), rows: Number(rows || room.rows) });
 
-/** The fields of the tunnel's form for it, and for a session that is opened its size. */
+/** The fields of the tunnel's form for it, and for a session that is opened its size. Who has its ID may join such a one,
+ *  so that its page can come back; and only that page is told it. */
 export function formOf({ id, readOnly, hostname, port, type }, size) {
   if (id) return { id, 'read-only': String(readOnly) };
-  return { hostname, port, 'terminal-type': type, sharing: 'none', width: String(size.columns * CELL_WIDTH), height: String(size.rows * CELL_HEIGHT) };
+  return { hostname, port, 'terminal-type': type, sharing: 'control', width: String(size.columns * CELL_WIDTH), height: String(size.rows * CELL_HEIGHT) };
 }
 
 /** What is wrong with a field of the form, in words, or nothing. The limits are the gateway's (docs/PROTOCOL.md). */
@@ -58,7 +60,8 @@ const KEY = 'guacgate';
 /** Keeps a session whose ID is known, so that a reload comes back to it, or forgets it. */
 export function remember(request) {
   try {
-    if (request?.id) sessionStorage.setItem(KEY, JSON.stringify({ id: request.id, readOnly: request.readOnly, keepsSize: request.keepsSize }));
+    const { id, readOnly, keepsSize, isLink } = request ?? {};
+    if (id) sessionStorage.setItem(KEY, JSON.stringify({ id, readOnly, keepsSize, isLink }));
     else sessionStorage.removeItem(KEY);
   } catch { /* Then the address alone leads back. */ }
 }
@@ -71,15 +74,16 @@ export function remembered() {
 
 const idIn = (text) => text.replace('%24', '$').match(/\$[0-9a-f]{8}(-[0-9a-f]{4}){3}-[0-9a-f]{12}/)?.[0];
 
-/** The address that others join by, where the session's ID is known. */
-export function linkOf({ id, readOnly, keepsSize = false }, address) {
-  return `${address.split('#')[0]}#id=${encodeURIComponent(id)}${readOnly ? '&read-only' : keepsSize ? '&keep-size' : ''}`;
+/** The address that joins by an ID. */
+export function linkOf({ id, readOnly, keepsSize = false, isLink = false }, address) {
+  return `${address.split('#')[0]}#id=${encodeURIComponent(id)}${isLink ? '&link' : ''}${readOnly ? '&read-only' : keepsSize ? '&keep-size' : ''}`;
 }
 
 /** The address that joins the session of a text, which is its ID or a link to it. A link keeps its own way. */
 export function joinBy(text, { readOnly = false, keepsSize = false }, address) {
   const has = (word) => new RegExp(`[#&]${word}`).test(text);
-  return linkOf({ id: idIn(text), readOnly: readOnly || has('read-only'), keepsSize: keepsSize || has('keep-size') }, /^https?:/.test(text) ? text : address);
+  const asked = { id: idIn(text), readOnly: readOnly || has('read-only'), keepsSize: keepsSize || has('keep-size'), isLink: has('link') };
+  return linkOf(asked, /^https?:/.test(text) ? text : address);
 }
 
 /** What a window with it is called. A session's first digits tell it from others, and lead nobody into it. */

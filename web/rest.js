@@ -1,9 +1,10 @@
 // How long a page waits before it asks again.
 
 /** Rests in milliseconds: between reads that found nothing, and between tries to come back to a gateway that isn't
- *  reached. `hidden` is the least one of a page that nobody sees. */
+ *  reached, the fourth of which comes before what is typed has been kept for 10 seconds and is thrown away. `hidden` is
+ *  the least one of a page that nobody sees. */
 export const READS = { lengths: [0, 10, 20, 40, 80, 160], hidden: 1000, events: ['visibilitychange'] };
-export const TRIES = { lengths: [300, 1000, 3000, 10000], hidden: 60000, events: ['online', 'visibilitychange'] };
+export const TRIES = { lengths: [300, 700, 2000, 6500, 10000], hidden: 60000, events: ['online', 'visibilitychange'] };
 
 /** Rests, each of the length that is listed behind the one before, and of the last one from there on. */
 export class Rest {

@@ -1,7 +1,8 @@
 // Sharp text: the cells of the screen, drawn with a font of the browser at the device's own pixels. Each picture of a
-// cell is made once, and then copied to where it stands; only cells that have changed are drawn.
+// cell is made once, and then copied to where it stands; only cells that have changed are drawn. Lines and blocks have
+// the gateway's pixels, as large as a cell is, so that they join.
 
-import { BOX, CELL_HEIGHT, CELL_WIDTH, LEFT, RIGHT } from './font.js';
+import { BOX, CELL_HEIGHT, CELL_WIDTH, LEFT, RIGHT, barsOf, hasBars } from './font.js';
 import { PICTURE, faceOf, inkOf, isUnderlined, paperOf } from './cells.js';
 import { inkColour, paperColour, pixelOf } from './palette.js';
 
@@ -161,7 +162,8 @@ export class Sharp {
 
   #drawn(cell) {
     const paper = paperColour(paperOf(cell));
-    const ink = inkColour(inkOf(cell), paperOf(cell));
+    // Lines and blocks are shown as they are drawn, in their own colours.
+    const ink = hasBars(faceOf(cell)) ? paperColour(inkOf(cell)) : inkColour(inkOf(cell), paperOf(cell));
     const strength = this.#face(faceOf(cell));
     const tile = Uint32Array.from(strength, (part) => pixelOf(/** @type {any} */ (paper.map((it, k) => Math.round(it + ((ink[k] - it) * part) / 255)))));
     if (isUnderlined(cell)) {
@@ -177,13 +179,19 @@ export class Sharp {
   #face(face) {
     let strength = this.#faces.get(face);
     if (strength !== undefined) return strength;
-    const { width, height, font } = this.#cell;
-    this.#pen.clearRect(0, 0, width, height);
-    if (face === BOX || face === LEFT || face === RIGHT) this.#strokeBox(face);
-    else this.#pen.fillText(String.fromCharCode(face), 0, this.#baseline);
-    strength = this.#pen.getImageData(0, 0, width, height).data.filter((_, k) => k % 4 === 3);
+    strength = hasBars(face) ? barred(face, this.#cell.width, this.#cell.height) : this.#penned(face);
     this.#faces.set(face, strength);
     return strength;
+  }
+
+  #penned(face) {
+    const { width, height } = this.#cell;
+    this.#pen.clearRect(0, 0, width, height);
+    if (face === BOX || face === LEFT || face === RIGHT) this.#strokeBox(face);
+    else if (face < 0x80) this.#pen.fillText(String.fromCharCode(face), 0, this.#baseline);
+    // What the font hasn't comes from another one, whose characters may be wider.
+    else this.#pen.fillText(String.fromCharCode(face), 0, this.#baseline, width);
+    return this.#pen.getImageData(0, 0, width, height).data.filter((_, k) => k % 4 === 3);
   }
 
   // The box, or its half, which goes on in the next cell.
@@ -202,4 +210,27 @@ export class Sharp {
     const at = (k, x) => Math.floor(((k - x) / width / height) * CELL_HEIGHT) * CELL_WIDTH + Math.floor((x / width) * CELL_WIDTH);
     return Uint32Array.from({ length: width * height }, (_, k) => picture[at(k, k % width)]);
   }
+}
+
+/**
+ * How much of each pixel of a cell a face of bars covers, 0 or 255. A bar ends where the next one would begin, so that what
+ * meets in the gateway's pixels meets here. But one of a single pixel, as those of double lines, is as thick wherever it
+ * begins, and seen in small cells too.
+ */
+export function barred(face, width, height) {
+  const strength = new Uint32Array(width * height);
+  for (const [x, y, wide, high] of barsOf(face)) {
+    const [left, right] = span(x, wide, CELL_WIDTH, width);
+    const [top, bottom] = span(y, high, CELL_HEIGHT, height);
+    for (let line = top; line < bottom; line++) strength.fill(255, line * width + left, line * width + right);
+  }
+  return strength;
+}
+
+// From where to where what begins at a part of a cell, and takes so many of its parts, goes in a cell of this length.
+function span(at, size, parts, length) {
+  const edge = (part) => Math.ceil((part * length) / parts);
+  const start = Math.min(edge(at), length - 1);
+  const thick = Math.max(1, size === 1 ? Math.round(length / parts) : edge(at + size) - start);
+  return [start, Math.min(start + thick, length)];
 }

@@ -19,12 +19,16 @@ import { READS, Rest, TRIES } from './rest.js';
  * @typedef {object} Tunnel
  * @property {State} state
  * @property {string} session  the ID of the session once it is open, or nothing where the tunnel isn't told it
+ * @property {number} most  how many texts may be on their way at once
  * @property {(form: Record<string, string>, hearer: Hearer) => void} connect  opens a session, or joins one
  * @property {(text: string) => Promise<void>} send  sends whole instructions, and ends once they have come to the gateway
  * @property {() => void} cut  gives the link up, as if it was lost
  * @property {() => void} disconnect  leaves, also while the page goes away
  * @property {() => Promise<void>} giveBack  gives back the place of a closed tunnel, or fails where nothing is reached
  */
+
+/** Why a tunnel was never open: its kind can't be had here. Another kind may lead to the gateway. */
+export class NoWay extends Error {}
 
 const NO_MEMORY = 512;
 
@@ -52,18 +56,16 @@ export class Refusal extends Error {
   }
 }
 
+/** In milliseconds: how long a session may take to open, and any other answer but that of a read which waits for news;
+ *  after which time without an answer a link counts as unstable; how often it is looked at. */
+export const TIMES = { opening: 120000, limit: 15000, stalled: 5000, betweenLooks: 500 };
+// How long a page that is seen hears nothing, in milliseconds, before it asks whether the gateway is there.
+const QUIET = 10000;
 // Behind what a read gives.
 const END = '0.;';
-// In milliseconds: how long a session may take to open, and any other request but a read, which waits for news; after
-// which time without an answer a link counts as unstable; how long a page that is seen hears nothing before it asks
-// whether the gateway is there.
-const OPENING = 120000;
-const LIMIT = 15000;
-const STALLED = 5000;
-const QUIET = 10000;
-const BETWEEN_LOOKS = 500;
 
-const isLast = ([opcode]) => opcode === 'disconnect' || opcode === 'error';
+/** Whether an instruction is the last of a session. @param {string[]} instruction */
+export const isLast = ([opcode]) => opcode === 'disconnect' || opcode === 'error';
 
 /** A tunnel over plain HTTP requests (docs/PROTOCOL.md, "The HTTP tunnel"): one request opens it, others read what the
  *  viewer is given and write what it sends. @implements {Tunnel} */
@@ -71,7 +73,9 @@ export class HttpTunnel {
   /** @type {State} */
   state = 'connecting';
   session = '';
+  most = 1;
   #path;
+  #opened;
   #id = '';
   /** @type {Hearer} */
   #hearer = { changed() {}, given() {} };
@@ -87,17 +91,22 @@ export class HttpTunnel {
   /** @type {Promise<void>} */
   #ended = new Promise((resolve) => { this.#end = resolve; });
 
-  constructor(path) {
+  /** @param {string} path  @param {() => void} [opened]  is told once it is open */
+  constructor(path, opened = () => {}) {
     this.#path = path;
+    this.#opened = opened;
   }
 
   async connect(form, hearer) {
     this.#hearer = hearer;
     this.session = form.id ?? '';
     try {
-      this.#id = await this.#answerTo('connect', new URLSearchParams(form), this.session !== '' ? LIMIT : OPENING);
+      // Nobody is told the ID of a session that is opened here, so that it may as well be closed once its viewer has left.
+      const asked = new URLSearchParams(this.session !== '' ? form : { ...form, sharing: 'none' });
+      this.#id = await this.#answerTo('connect', asked, this.session !== '' ? TIMES.limit : TIMES.opening);
+      this.#opened();
       this.#become('open');
-      this.#looks = setInterval(() => this.#look(), BETWEEN_LOOKS);
+      this.#looks = setInterval(() => this.#look(), TIMES.betweenLooks);
       while (this.state !== 'closed') await this.#read();
     } catch (fault) {
       this.#close(fault);
@@ -126,7 +135,7 @@ export class HttpTunnel {
   async send(text) {
     this.#rest.cut();
     try {
-      await this.#answerTo('write', text, LIMIT);
+      await this.#answerTo('write', text, TIMES.limit);
     } catch (fault) {
       // The read that is under way tells that a session is over, and why.
       if (fault.isOver) return this.#ended;
@@ -150,7 +159,7 @@ export class HttpTunnel {
   async giveBack() {
     if (this.#id === '') return;
     try {
-      await this.#answerTo('write', textOf('disconnect'), LIMIT);
+      await this.#answerTo('write', textOf('disconnect'), TIMES.limit);
     } catch (fault) {
       if (fault.mayPass) throw fault;
     }
@@ -176,10 +185,10 @@ export class HttpTunnel {
   // Whether the link gives answers. A read may wait as long as nothing happens, so it tells nothing of that.
   #look() {
     const now = performance.now();
-    const isSilent = now - Math.min(...this.#asked) > STALLED;
+    const isSilent = now - Math.min(...this.#asked) > TIMES.stalled;
     this.#become(isSilent || this.#isLost ? 'unstable' : 'open');
     // A machine without a network may be the gateway's own.
-    const quiet = globalThis.navigator?.onLine === false ? BETWEEN_LOOKS : QUIET;
+    const quiet = globalThis.navigator?.onLine === false ? TIMES.betweenLooks : QUIET;
     if (this.state === 'open' && this.#asked.size === 0 && now - this.#answered > quiet && !globalThis.document?.hidden) this.send('').catch(() => {});
   }
 
@@ -192,7 +201,7 @@ export class HttpTunnel {
     while (this.#isLost && this.state !== 'closed') {
       await rest.once();
       try {
-        await this.#answerTo('write', '', LIMIT);
+        await this.#answerTo('write', '', TIMES.limit);
         this.#isLost = false;
       } catch (fault) {
         if (!fault.mayPass && !fault.isOver) this.#close(fault);

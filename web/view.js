@@ -5,7 +5,7 @@ import { Unreadable, textOf } from './instructions.js';
 import { isModifier } from './keysyms.js';
 import { Outbox } from './outbox.js';
 import { Rest, TRIES } from './rest.js';
-import { Refusal } from './tunnel.js';
+import { NoWay, Refusal } from './tunnel.js';
 
 /**
  * How a view ended: by the host, by whoever left, by an `error` of the gateway or a refusal of it, by a link that is lost
@@ -84,6 +84,11 @@ export class View {
     return !this.#readOnly;
   }
 
+  /** The ID by which the session can be joined, or nothing where it isn't known. */
+  get session() {
+    return this.#form.id ?? '';
+  }
+
   /** Shows what the viewer is given until the session is over or can't be reached, and answers how it ended. The form
    *  opens a session, or joins one by its ID. It is joined again where the link was lost and its ID is known.
    *  @returns {Promise<End>} */
@@ -113,7 +118,8 @@ export class View {
         await tunnel.giveBack();
         this.#past.delete(tunnel);
       }
-      fault = await this.#hear();
+      do fault = await this.#hear();
+      while (fault instanceof NoWay && !this.#hasLeft);
     } catch (caught) {
       fault = caught;
     }

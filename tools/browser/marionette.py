@@ -25,6 +25,7 @@ COMMANDS = {
     "/clear": "ElementClear",
     "/value": "ElementSendKeys",
     "/window/rect": "SetWindowRect",
+    "/refresh": "Refresh",
 }
 # Scripts may write to the clipboard, and a first start opens no other page.
 SETTINGS = {
@@ -59,6 +60,10 @@ class Driver:
             return open_page()
         finally:
             self.ratio = -1.0
+
+    def processes(self):
+        """The IDs of all that the browsers run as."""
+        return [it for page in self.pages for it in (page.process.pid, *webdriver.below(page.process.pid))]
 
     def page(self, address, *_):
         """Opens an address in a browser of its own. The words for Chromium have no meaning here."""

@@ -52,13 +52,9 @@ def site(name, room, port, gateways):
         ("listen 443 ssl http2 so_keepalive=60s::;", f"listen {ADDRESS}:{port} ssl http2;"),
         ("server_name gate.example.org;", "server_name localhost;"),
         ("/var/log/nginx/guacgate.log", f"{room}/access.log"),
+        ("/etc/nginx/guacgate/", f"{room}/"),
+        ("/srv/guacgate/web", str(TOP / "web")),
     ]
-    return part(changed(text, changes), room, gateways)
-
-
-def part(text, room, gateways):
-    """A text of deploy/ with the files and the gateways of this run."""
-    changes = [("/etc/nginx/guacgate/", f"{room}/"), ("/srv/guacgate/web", str(TOP / "web"))]
     return changed(text, changes + [(f"{ADDRESS}:{old}", f"{ADDRESS}:{new}") for old, new in gateways.items()])
 
 
@@ -71,7 +67,9 @@ def make_certificate(room):
 
 
 def make_login(file, user, password):
-    file.write_text(f"{user}:{run_quietly(program('openssl'), 'passwd', '-6', password)}")
+    """Adds a login to a file."""
+    with file.open("a") as into:
+        into.write(f"{user}:{run_quietly(program('openssl'), 'passwd', '-6', password)}")
 
 
 def wait_for(process, pid_file):

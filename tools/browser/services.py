@@ -11,6 +11,7 @@ import subprocess
 import threading
 import time
 
+import sockets
 from checks import PATIENCE, until
 
 TOP = pathlib.Path(__file__).resolve().parent.parent.parent
@@ -80,11 +81,13 @@ class Gateway:
 
 
 class WebServer:
-    """Hands out the page's files, and hands requests of `/tunnel` on. It keeps the texts that reads were given and what
-    was written, by tunnel. Where `forged` is set, reads are answered with that instead, while `holds` is, writes have no
-    answer, and while `refuses` is set, they aren't handed on: they are answered with that status, or with nothing for 0."""
+    """Hands out the page's files, and hands on requests of `/tunnel`, and where it `has_sockets` those of `/links` and
+    WebSockets, which count as tunnels. It keeps the texts that reads were given and what was written, by tunnel. Where `forged` is set,
+    reads are answered with that instead, while `holds` is, writes have no answer, and while `refuses` is set, those over
+    HTTP aren't handed on: they are answered with that status, or with nothing for 0."""
 
-    def __init__(self, gateway_port):
+    def __init__(self, gateway_port, has_sockets=True):
+        self.has_sockets = has_sockets
         self.texts = {}
         self.written = {}
         self.forged = None
@@ -100,13 +103,20 @@ class WebServer:
                 pass
 
             def do_GET(self):
-                if self.path.partition("?")[0] == "/tunnel":
+                path = self.path.partition("?")[0]
+                if path == "/tunnel":
                     self.hand_on()
+                elif path == "/websocket-tunnel" and owner.has_sockets:
+                    self.close_connection = True
+                    sockets.carry(owner, self, gateway_port)
                 else:
                     super().do_GET()
 
             def do_POST(self):
-                self.hand_on()
+                if self.path.startswith("/links") and not owner.has_sockets:
+                    self.send_error(404)
+                else:
+                    self.hand_on()
 
             def hand_on(self):
                 body = self.rfile.read(int(self.headers.get("Content-Length", 0)))

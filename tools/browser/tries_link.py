@@ -8,9 +8,10 @@ import time
 from checks import PATIENCE, check, eventually, until
 from services import ADDRESS, Link, instruction, owner, screen_of, until_prompt
 from sessions import CONTROL, HEAR, HEARD, MESSAGE, NOTICE, RETURN, STATE, check_picture, check_text, opened, until_latest, until_ready, until_shown
+from webdriver import asleep
 
 ONLINE = "dispatchEvent(new Event('online'))"
-UNREACHABLE = "The link to the gateway was lost, and this session can’t be reached from here any more."
+UNREACHABLE = "The connection to the gateway was lost, and this session can’t be reached from here any more."
 LOST = "Some keys may be lost."
 THROWN = "What you typed was thrown away."
 PRESS = "document.getElementById('keys').dispatchEvent(new KeyboardEvent(arguments[0], { key: 'Control', code: 'ControlLeft', ctrlKey: arguments[1] }))"
@@ -58,7 +59,7 @@ def typed_over(page, link, stream, seconds):
             page.type(letter)
         time.sleep(seconds / 80)
     told = lambda: page.run(HEARD, "notice")[heard:]  # noqa: E731
-    eventually(f"that it is back is told behind {seconds} seconds", True, lambda: "The link is back." in told())
+    eventually(f"that it is back is told behind {seconds} seconds", True, lambda: "The connection is back." in told())
     page.shows(f"a page is back behind {seconds} seconds", "open", STATE)
     page.type(RETURN)
     until(True, lambda: len(screen_of(stream()).rstrip().split("\n")) >= 4 and screen_of(stream()).rstrip()[-1:] in ("$", "#"))
@@ -66,12 +67,12 @@ def typed_over(page, link, stream, seconds):
 
 
 def try_blips(driver, gateway, telnet, web):
-    """The link is cut for 0.7, 5 and 20 seconds while a person types."""
+    """The link is cut for 0.7, 5 and 60 seconds, or 20, while a person types."""
     first, link = owner(gateway.port, telnet.port, "control"), Link(web.port)
     stream = lambda: first.text  # noqa: E731
     until_prompt(stream)
     page = joined(driver, link, first)
-    for seconds in (0.7, 5, 20):
+    for seconds in (0.7, 5, 60 if web.has_sockets else 20):
         typed, came, told = typed_over(page, link, stream, seconds)
         check(f"no letter comes twice or too early over {seconds} seconds", True, is_part(came, typed))
         check(f"where one is missing it is told, over {seconds} seconds", True, came == typed or LOST in told or THROWN in told)
@@ -91,7 +92,7 @@ def try_kept(driver, gateway, telnet, web):
     page = joined(driver, link, first)
     link.cut()
     page.shows("a page whose link is lost", "lost", STATE)
-    check("what it says", "The link is lost. This page comes back by itself. Keys are kept for 10 seconds.", page.run(MESSAGE))
+    check("what it says", "The connection is lost. This page comes back by itself. Keys are kept for 10 seconds.", page.run(MESSAGE))
     page.shows("it offers to try at once", "Try now", "const it = document.getElementById('again'); return it.hidden ? '' : it.textContent")
     began = time.time()
     page.type(*"echo kept", RETURN)
@@ -110,7 +111,7 @@ def try_kept(driver, gateway, telnet, web):
     link.mend()
     page.run(ONLINE)
     page.shows("the event online brings it back", "open", STATE)
-    eventually("and so it is told when it is back", True, lambda: f"The link is back. {THROWN}" in page.run(HEARD, "notice"))
+    eventually("and so it is told when it is back", True, lambda: f"The connection is back. {THROWN}" in page.run(HEARD, "notice"))
     page.type(*"echo then", RETURN)
     until_shown(page, stream, "\nthen\n")
     check("what was thrown away doesn't come", (False, False), ("gone" in screen_of(stream()), "late" in screen_of(stream())))
@@ -191,6 +192,26 @@ def try_quiet(driver, gateway, telnet, web):
     first.close()
 
 
+def try_sleep(driver, gateway, telnet, web):
+    """A machine that sleeps for a minute, while something is shown: its browser is stopped, and then goes on."""
+    first = owner(gateway.port, telnet.port, "control")
+    stream = lambda: first.text  # noqa: E731
+    until_prompt(stream)
+    page = joined(driver, web, first)
+    with asleep(driver):
+        first.socket.sendall(b"".join(instruction("key", str(ord(it)), "1") for it in "echo meanwhile") + instruction("key", "65293", "1"))
+        until(True, lambda: "\nmeanwhile\n" in screen_of(stream()))
+        time.sleep(60)
+    until_shown(page, stream, "\nmeanwhile\n")
+    page.shows("a page that has slept is open", "open", STATE)
+    eventually("it has joined again", True, lambda: "The connection is back." in page.run(HEARD, "notice"))
+    page.type(*"echo awake", RETURN)
+    until_shown(page, stream, "\nawake\n")
+    eventually("and has one place", MOST_VIEWERS - 2, lambda: places_left(gateway.port, first.id))
+    page.close()
+    first.close()
+
+
 def try_release(page, stream, web):
     """The write with the release of Control is lost. The letter behind it is a letter all the same, and ends no program."""
     until_ready(page, stream)
@@ -204,19 +225,65 @@ def try_release(page, stream, web):
     web.refuses = None
     page.run(ONLINE)
     page.shows("it goes on", "open", STATE)
-    eventually("that keys may be lost is told", True, lambda: f"The link is back. {LOST}" in page.run(HEARD, "notice"))
+    eventually("that keys may be lost is told", True, lambda: f"The connection is back. {LOST}" in page.run(HEARD, "notice"))
     page.type("c", RETURN)
     until_shown(page, stream, "\nc\nc\n")
     page.type([CONTROL, "d"])
     until_ready(page, stream)
 
 
+def try_held(driver, gateway, telnet, web):
+    """The link is lost while Control is held. The letter behind it is a letter all the same, and ends no program."""
+    first, link = owner(gateway.port, telnet.port, "control"), Link(web.port)
+    stream = lambda: first.text  # noqa: E731
+    until_prompt(stream)
+    page = joined(driver, link, first)
+    page.type(*"cat", RETURN, *"one", RETURN)
+    until_shown(page, stream, "\none\none\n")
+    page.run(PRESS, "keydown", True)
+    until(True, lambda: any(it.endswith(instruction("key", "65507", "1")) for it in web.written.values()))
+    link.cut()
+    page.shows("the link is lost", "lost", STATE)
+    page.run(PRESS, "keyup", False)
+    link.mend()
+    page.run(ONLINE)
+    page.shows("it is back", "open", STATE)
+    page.type("c", RETURN)
+    until_shown(page, stream, "\nc\nc\n")
+    page.type([CONTROL, "d"])
+    until_ready(page, stream)
+    page.close()
+    link.close()
+    first.close()
+
+
+def opened_over(driver, telnet, web):
+    """A link, and a page that has opened a session over it."""
+    link = Link(web.port)
+    near = type("Near", (), {"port": link.port, "texts": web.texts, "given": staticmethod(web.given)})
+    return link, *opened(driver, telnet, near)
+
+
+def try_own(driver, telnet, web):
+    """A page that has opened its session knows its ID: it comes back, and so does a reload."""
+    link, page, _ = opened_over(driver, telnet, web)
+    stream = lambda: web.given(list(web.texts)[-1])  # noqa: E731
+    for name, lose in ("a blip", lambda: (link.cut(), until("lost", lambda: page.run(STATE)), link.mend())), ("a reload", page.reload):
+        tunnels = len(web.texts)
+        lose()
+        until(True, lambda: len(web.texts) > tunnels)
+        page.shows(f"it is open behind {name}", "open", STATE)
+        until_ready(page, stream)
+        page.type(*f"echo on{len(name)}", RETURN)
+        until_shown(page, stream, f"\non{len(name)}\n")
+    page.close()
+    link.close()
+
+
 def try_alone(driver, telnet, web):
     """A session that nobody can join: a write that wasn't done is done again, one that may have been done isn't, and a
     lost link is the end."""
-    link = Link(web.port)
-    near = type("Near", (), {"port": link.port, "texts": web.texts, "given": staticmethod(web.given)})
-    page, stream = opened(driver, telnet, near)
+    link, page, stream = opened_over(driver, telnet, web)
     page.run(HEAR, "notice")
     web.refuses = 502
     began = time.time()
@@ -244,4 +311,9 @@ def try_links(driver, gateway, telnet, web):
     try_kept(driver, gateway, telnet, web)
     try_places(driver, gateway, telnet, web)
     try_quiet(driver, gateway, telnet, web)
-    try_alone(driver, telnet, web)
+    if web.has_sockets:
+        try_sleep(driver, gateway, telnet, web)
+        try_own(driver, telnet, web)
+        try_held(driver, gateway, telnet, web)
+    else:
+        try_alone(driver, telnet, web)

@@ -128,7 +128,6 @@ def try_others(driver, gateway, telnet, web):
         page.rest()
     check("who looks on, and who keeps the size, tell none", [[], []], [sizes_of(web, tunnel) for _, tunnel in (looking, kept)])
     kept[0].shows("the session has its own size", [90, 26], CELLS)
-    kept[0].shows("the link to type keeps it too", True, "return document.getElementById('type').href.endsWith('&keep-size')")
     one = joined(driver, web, first)
     told = turned_to(one[0], web, one[1], 0)
     # Its window is as large, so it has nothing to tell yet.

@@ -2,6 +2,9 @@
 import base64
 import contextlib
 import json
+import os
+import pathlib
+import signal
 import subprocess
 import time
 import urllib.error
@@ -24,6 +27,34 @@ REST = """
     look();
 """
 ELEMENT = "element-6066-11e4-a52e-4f735466cecf"
+
+
+def below(process):
+    """The IDs of all processes that a process has started, and these in turn."""
+    children = {}
+    for it in pathlib.Path("/proc").glob("[0-9]*/stat"):
+        with contextlib.suppress(OSError):
+            children.setdefault(int(it.read_text().rpartition(")")[2].split()[1]), []).append(int(it.parent.name))
+    found, queue = [], [process]
+    while queue:
+        more = children.get(queue.pop(), [])
+        found += more
+        queue += more
+    return found
+
+
+@contextlib.contextmanager
+def asleep(driver):
+    """Stops the browsers within the `with` block, as a machine does that sleeps."""
+    stopped = driver.processes()
+    try:
+        for it in stopped:
+            os.kill(it, signal.SIGSTOP)
+        yield
+    finally:
+        for it in stopped:
+            with contextlib.suppress(ProcessLookupError):
+                os.kill(it, signal.SIGCONT)
 
 
 class Driver:
@@ -64,6 +95,10 @@ class Driver:
         self.process.terminate()
         self.process.wait()
 
+    def processes(self):
+        """The IDs of all that the browsers run as."""
+        return below(self.process.pid)
+
     def call(self, method, path, given=None):
         body = json.dumps(given).encode() if given is not None else None
         request = urllib.request.Request(f"http://127.0.0.1:{self.port}{path}", data=body, method=method)
@@ -86,6 +121,10 @@ class Page:
         """Opens another address anew, even one that differs behind its `#` alone."""
         self.post("/url", url="about:blank")
         self.post("/url", url=address)
+
+    def reload(self):
+        """Loads the page again, whatever it would have the browser ask."""
+        self.post("/refresh")
 
     def post(self, path, **given):
         return self.driver.call("POST", self.path + path, given)

@@ -3,7 +3,7 @@ import assert from 'node:assert/strict';
 import test from 'node:test';
 import { module } from './page.mjs';
 
-const { meaningOf, rightsOf, wayOn, wordsOf, wordsOfLink } = await module('messages');
+const { meaningOf, rightsOf, wayOn, wordsOf, wordsOfLink, wordsOfLinks } = await module('messages');
 const [JOINED, OPENED] = [{ id: '$1' }, { hostname: 'h' }];
 
 test('each status of docs/PROTOCOL.md has words of its own', () => {
@@ -19,8 +19,10 @@ test('a refusal without a code is told by its status', () => {
 
 test('a view that the gateway no longer knows isn’t told as one that never was', () => {
   const end = { by: 'refusal', code: 516, status: 404 };
-  assert.equal(wordsOf(end, false), 'There is no such session. It may be over.');
-  assert.match(wordsOf(end, true), /no longer knows/);
+  assert.equal(wordsOf(end, JOINED, false), 'There is no such session. It may be over.');
+  assert.match(wordsOf(end, OPENED, true), /no longer knows/);
+  assert.match(wordsOf(end, { ...JOINED, isLink: true }, false), /used up, was taken back/);
+  assert.match(wordsOf(end, OPENED, false), /No session can be opened/);
 });
 
 const ways = [
@@ -37,12 +39,21 @@ test('how the link is', () => {
     assert.match(wordsOfLink(state, true), /kept for 10 seconds/);
     assert.doesNotMatch(wordsOfLink(state, false), /Keys/);
   }
-  assert.match(wordsOf({ by: 'unreachable' }, true), /can’t be reached from here/);
+  assert.match(wordsOf({ by: 'unreachable' }, OPENED, true), /can’t be reached from here/);
 });
 
 test('who may type', () => {
   assert.match(rightsOf({ id: '$1', readOnly: true }), /not sent/);
-  assert.equal(rightsOf({ hostname: 'h' }), 'You may type. Nobody else may join.');
-  assert.equal(rightsOf({ hostname: 'h' }, false), rightsOf({ hostname: 'h' }));
-  assert.notEqual(rightsOf({ id: '$1' }, true), rightsOf({ id: '$1' }, false));
+  assert.equal(rightsOf({ hostname: 'h' }, ''), 'You may type. Nobody else may join.');
+  assert.equal(rightsOf({ hostname: 'h' }, '$1', false), 'You may type.');
+  assert.notEqual(rightsOf({ id: '$1' }, '$1', true), rightsOf({ id: '$1' }, '$1', false));
+});
+
+test('why no link is made', () => {
+  const words = (code, status, what = 'make') => wordsOfLinks({ code, status }, what);
+  assert.equal(words(0, 404), 'Links can’t be made at this address.');
+  assert.equal(words(516, 404), 'The gateway makes no links to this session.');
+  assert.equal(words(517, 409), 'The gateway couldn’t name the link. Try again.');
+  assert.equal(words(0, 0, 'revoke'), 'The connection to the gateway is lost. The link was not taken back.');
+  assert.equal(words(0, 403), 'You may not do this. No link was made.');
 });

@@ -18,7 +18,7 @@ function outbox(t) {
 /** A tunnel that ends what is sent as it is told. */
 function tunnel(...ends) {
   const sent = [];
-  return { state: 'open', sent, send(text) { sent.push(text); const end = ends.shift(); return end instanceof Error ? Promise.reject(end) : (end ?? Promise.resolve()); } };
+  return { state: 'open', most: 1, sent, send(text) { sent.push(text); const end = ends.shift(); return end instanceof Error ? Promise.reject(end) : (end ?? Promise.resolve()); } };
 }
 
 const settled = async () => { for (let n = 0; n < 20; n++) await null; };
@@ -33,6 +33,29 @@ test('what waits while something is sent goes together behind it', async (t) => 
   release();
   await settled();
   assert.deepEqual(link.sent, ['a', 'bc']);
+});
+
+test('a tunnel has as many texts on their way as it takes, none of more than 4,095 instructions', async (t) => {
+  const { it, told } = outbox(t);
+  const ends = [];
+  const link = tunnel(...Array.from({ length: 3 }, () => new Promise((_, fail) => ends.push(() => fail(new Refusal(0, 0))))));
+  link.most = 2;
+  it.use(link);
+  for (let n = 0; n < 4098; n++) it.add(`${n};`, true);
+  assert.deepEqual(link.sent, ['0;', '1;']);
+  ends[0]();
+  await settled();
+  assert.deepEqual([link.sent.length, link.sent[2].split(';').length - 1], [3, 4095]);
+  link.state = 'closed';
+  ends[1]();
+  ends[2]();
+  await settled();
+  assert.deepEqual([link.sent.length, told], [3, ['lost', 'lost', 'lost']]);
+  const next = tunnel();
+  it.use(next);
+  it.turn();
+  await settled();
+  assert.deepEqual(next.sent, [`${RELEASES}${[4093, 4094, 4095, 4096, 4097].map((it) => `${it};`).join('')}`]);
 });
 
 test('keys that are typed without a link are sent by the next one, and what was for the last one isn’t', async (t) => {

@@ -25,11 +25,11 @@ function page(t, hidden) {
   return { lengths, window };
 }
 
-test('tries are made after 0.3, 1, 3, 10 seconds, and then every 10', async (t) => {
+test('tries are made 0.3, 1, 3 and 9.5 seconds behind the loss, and then every 10', async (t) => {
   const { lengths } = page(t, false);
   const rest = new Rest(TRIES);
   for (let n = 0; n < 6; n++) await rest.once();
-  assert.deepEqual(lengths, [300, 1000, 3000, 10000, 10000, 10000]);
+  assert.deepEqual(lengths, [300, 700, 2000, 6500, 10000, 10000]);
 });
 
 test('a page that nobody sees tries once a minute, and at once where it is seen or online again', async (t) => {

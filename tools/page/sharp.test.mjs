@@ -1,9 +1,9 @@
-// The cell of a screen that fits a room.
+// The cell of a screen that fits a room, and lines in cells of any size.
 import assert from 'node:assert/strict';
 import test from 'node:test';
 import { module } from './page.mjs';
 
-const { cellFor, sizeFor } = await module('sharp');
+const { barred, cellFor, sizeFor } = await module('sharp');
 
 test('a cell fits the room, in whole pixels, as large as it may be', () => {
   for (const [columns, rows] of [[80, 24], [132, 50], [40, 10], [512, 256], [1, 1]]) {
@@ -43,4 +43,49 @@ test('a screen that has what a room has fills it with cells of the size that was
     assert.equal(shown.width, cell.width);
     assert.ok(shown.height >= cell.height && shown.height * size.rows <= height, `${width} by ${height}`);
   }
+});
+
+// The lengths of what is lit along a row or a column of a cell of 255s.
+const runs = (cells) => [...cells].map((it) => (it ? 'x' : ' ')).join('').split(/ +/).filter(Boolean).map((it) => it.length);
+const row = (cell, width, y) => cell.slice(y * width, (y + 1) * width);
+const column = (cell, width, x) => cell.filter((_, k) => k % width === x);
+const code = (character) => character.codePointAt(0);
+
+const SIZES = [5, 6, 7, 8, 9, 10, 11, 12, 13, 16, 18, 24].flatMap((width) => [9, 11, 12, 16, 19, 24, 31, 48].map((height) => [width, height]));
+const SIDES = { left: (cell, width) => column(cell, width, 0), right: (cell, width) => column(cell, width, width - 1), up: (cell, width) => row(cell, width, 0), down: (cell, width) => row(cell, width, cell.length / width - 1) };
+
+test('a line is seen in a cell of any size, from edge to edge, and the two of a double one are equally thick', () => {
+  for (const [width, height] of SIZES) {
+    for (const [across, down, count] of [['─', '│', 1], ['━', '┃', 1], ['═', '║', 2]]) {
+      const name = `${across} ${down} ${width} by ${height}`;
+      const [lying, standing] = [across, down].map((it) => barred(code(it), width, height));
+      const thick = [runs(column(lying, width, 0)), runs(row(standing, width, 0))];
+      for (const it of thick) assert.deepEqual(it, Array(count).fill(it[0]), name);
+      for (let x = 0; x < width; x++) assert.deepEqual(column(lying, width, x), column(lying, width, 0), name);
+      for (let y = 0; y < height; y++) assert.deepEqual(row(standing, width, y), row(standing, width, 0), name);
+    }
+  }
+});
+
+test('what meets at the edge of a cell is lit on both sides, whatever its size', () => {
+  for (const [width, height] of SIZES) {
+    const edge = (face, side) => SIDES[side](barred(code(face), width, height), width);
+    for (const [corners, across, down] of [['┌┐└┘', '─', '│'], ['┏┓┗┛', '━', '┃'], ['╔╗╚╝', '═', '║'], ['╭╮╰╯', '─', '│']]) {
+      [...corners].forEach((face, k) => {
+        const [side, other] = [k % 2 ? 'left' : 'right', k < 2 ? 'down' : 'up'];
+        for (const [line, at] of [[across, side], [down, other]]) {
+          const [found, wanted] = [edge(face, at), edge(line, at)];
+          // In a cell smaller than the gateway's an arm may lie at another edge too.
+          if (width < 8 || height < 16) assert.ok(wanted.every((it, k) => it <= found[k]), `${face} ${width} by ${height}`);
+          else assert.deepEqual(found, wanted, `${face} ${width} by ${height}`);
+        }
+      });
+    }
+  }
+});
+
+test('in a cell of the gateway\'s size lines have its pixels', () => {
+  const lit = (face) => barred(code(face), 8, 16);
+  assert.deepEqual([...row(lit('║'), 8, 0)], [0, 0, 255, 0, 0, 255, 0, 0]);
+  assert.deepEqual([...column(lit('═'), 8, 0)].map((it) => it / 255), [0, 0, 0, 0, 0, 0, 1, 0, 0, 1, 0, 0, 0, 0, 0, 0]);
 });

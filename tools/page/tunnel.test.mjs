@@ -63,6 +63,12 @@ for (const refusal of [answer('', 404, '516'), answer('', 410, '523')]) {
   });
 }
 
+test('a session that is opened is its viewer’s alone', async () => {
+  const { asked, closed } = network({ read: [END] }, { hostname: 'h', sharing: 'control' });
+  await closed;
+  assert.equal(asked[0], 'POST /tunnel?connect hostname=h&sharing=none');
+});
+
 test('a read that has no memory is made again', async () => {
   const { asked, closed } = network({ read: [answer('', 500, '512'), END] });
   assert.equal(await closed, undefined);

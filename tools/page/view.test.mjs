@@ -5,7 +5,7 @@ import { module } from './page.mjs';
 
 const { View } = await module('view');
 const { Reader, Unreadable } = await module('instructions');
-const { Refusal } = await module('tunnel');
+const { NoWay, Refusal } = await module('tunnel');
 
 /** A view whose tunnels do what a list tells: a text is given, a fault closes a tunnel, and a function is called. One that
  *  begins with a fault is never open. */
@@ -16,6 +16,7 @@ function view(lives, { readOnly = false, session = '' } = {}) {
     const tunnel = {
       state: 'connecting',
       session,
+      most: 1,
       async connect(form, hearer) {
         note('connect')(JSON.stringify(form));
         tunnel.session ||= form.id ?? '';
@@ -107,6 +108,14 @@ test('a session whose tunnel tells its ID is joined by it, as what it was', asyn
   const { happened, it } = view([['', LOST], [OVER]], { session: '$7' });
   assert.deepEqual(await it.run({ hostname: 'h' }), { by: 'host' });
   assert.deepEqual(happened.filter((did) => did.startsWith('connect')), ['connect {"hostname":"h"}', 'connect {"id":"$7","read-only":"false"}']);
+});
+
+test('where a kind of tunnel can’t be had the next is made at once, and its ID is told', async () => {
+  const { happened, it } = view([[new NoWay()], ['', OVER]], { session: '$7' });
+  assert.equal(it.session, '');
+  assert.deepEqual(await it.run({ hostname: 'h' }), { by: 'host' });
+  assert.deepEqual(happened, [...Array(2).fill('connect {"hostname":"h"}'), 'link open', 'disconnect']);
+  assert.equal(it.session, '$7');
 });
 
 test('tries go on while nothing is reached, and end where the session is over', async () => {
