@@ -1,16 +1,19 @@
 //! What the service notes. An ID is cut to its first eight digits, so that a note gives nobody a session.
 
-use gate_model::{Cause, Role};
+use gate_model::{Cause, Role, Text};
 use log::{Log, info, warn};
 use uuid::Uuid;
 
-/// The service listens.
-pub(crate) fn note_listening<L: Log>(log: &L, port: u16) {
+/// The service listens, to the operator too where an address and a port are given for that.
+pub(crate) fn note_listening<L: Log>(log: &L, port: u16, admin: &Option<(Text, u16)>) {
     info!(log; port; "listening on port {port}");
+    if let Some((address, port)) = admin {
+        note_admin(log, address.as_str(), *port);
+    }
 }
 
-/// The operator is listened to.
-pub(crate) fn note_admin<L: Log>(log: &L, address: &str, port: u16) {
+// The operator is listened to.
+fn note_admin<L: Log>(log: &L, address: &str, port: u16) {
     info!(log; address, port; "listening for the operator on {address}, port {port}");
 }
 

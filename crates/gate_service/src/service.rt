@@ -6,7 +6,7 @@ ghost use Rattle.serve_words.specs.Given.{options_given};
 
 use crate::accepting::Service;
 use crate::jobs::Links;
-use crate::notes::{note_admin, note_listening};
+use crate::notes::note_listening;
 use crate::paging::Page;
 use crate::seen::{Seen, WatchedShelf};
 use gate_model::NoMemory;
@@ -79,23 +79,16 @@ where
     let Ok((sessions, tunnels, links)) = tables(alloc, options.silence) else {
         return 6;
     };
-    let Ok(helper) = net.helper(alloc) else {
-        return 6;
-    };
-    let Ok(bell) = net.bell(alloc) else {
-        return 6;
-    };
-    let Ok(list) = list.another() else {
-        return 6;
-    };
-    let Ok(page) = page_of(alloc, files, options.page) else {
+    let (Ok(helper), Ok(bell), Ok(list), Ok(page)) = (
+        net.helper(alloc),
+        net.bell(alloc),
+        list.another(),
+        page_of(alloc, files, options.page),
+    ) else {
         return 6;
     };
     let log = Logged::new(*rt, options.level, log);
-    note_listening(&log, options.port);
-    if let Some((address, port)) = &options.admin {
-        note_admin(&log, address.as_str(), *port);
-    }
+    note_listening(&log, options.port, &options.admin);
     let mut service = Service {
         alloc,
         sessions,

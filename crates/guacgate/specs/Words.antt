@@ -1,6 +1,6 @@
 -- The words that ask for a text in place of a run (this project's own).
 use Rattle.std.specs.Prelude.{ℕ, List, [], ◌∷◌, Bool, false, ◌&&◌, ◌||◌, Option, Some, None, if◌then◌else◌, codes, bytes_eq}
-use Rattle.guacgate.specs.declared.TheConstants.{HELP, VERSION}
+use Rattle.guacgate.specs.declared.help.TheConstants.{HELP, VERSION}
 
 -- the text that a word asks for
 abbrev pub text_of : List ℕ → Option (List ℕ)

@@ -31,42 +31,50 @@ const LOOKS: u32 = 250;
 
 const BETWEEN: u64 = 20;
 
-/// Looks until the process is asked to end, and then ends the net, at SIGINT at once. A signal that the process was started without, as by
-/// `env --block-signal=TERM`, stays pending, and the system tells so; also where the process is the first of a
-/// container, for which the system has no action of its own. Meanwhile the list is told the time,
-/// and the service manager that the service lives.
-pub(crate) fn look_after<R>(
-    rt: &R,
-    watch: &Watch,
-    notes: Notes,
-    list: &SessionList,
-    manager: Option<Manager>,
-)
-where
-    R: Files + AllocGlobal + Clock + Wait + Copy + Drop,
-{
-    let log = Logged::new(*rt, LevelFilter::Warn, notes.log(rt));
-    let mut told = 0u64;
-    let mut quiet = QUIET;
-    let mut manager = manager;
-    let began = Instant::now(rt).ok();
-    for _ in rt.forever() {
-        thread::sleep(rt, Duration::from_millis(PAUSE));
-        tell_time(rt, began, list);
-        let pending = pending(rt);
-        tell_manager(&mut manager, watch.is_listening(), pending);
-        if pending & INT != 0 {
-            return watch.end_at_once();
-        }
-        if pending & TERM != 0 {
-            return watch.end();
-        }
-        quiet = quiet.saturating_add(1);
-        let refused = watch.refused();
-        if refused > told && quiet > QUIET {
-            warn!(log; "who comes can't be let in, since no descriptor is free");
-            told = refused;
-            quiet = 0;
+/// What a service is looked after by: what is seen of its net, its notes, the list of what runs, and the service manager.
+#[derive(Drop)]
+pub(crate) struct Lookout {
+    pub(crate) watch: Watch,
+    pub(crate) notes: Notes,
+    pub(crate) list: SessionList,
+    pub(crate) manager: Option<Manager>,
+}
+
+impl Lookout {
+    /// Looks until the process is asked to end, and then ends the net, at SIGINT at once. A signal that the process was
+    /// started without, as by `env --block-signal=TERM`, stays pending, and the system tells so; also where the process
+    /// is the first of a container, for which the system has no action of its own. Meanwhile the list is told the time,
+    /// and the service manager that the service lives.
+    pub(crate) fn look_after<R>(self, rt: &R)
+    where
+        R: Files + AllocGlobal + Clock + Wait + Copy + Drop,
+    {
+        let Lookout {
+            watch,
+            notes,
+            list,
+            mut manager,
+        } = self;
+        let log = Logged::new(*rt, LevelFilter::Warn, notes.log(rt));
+        let (mut told, mut quiet) = (0u64, QUIET);
+        let began = Instant::now(rt).ok();
+        for _ in rt.forever() {
+            thread::sleep(rt, Duration::from_millis(PAUSE));
+            tell_time(rt, began, &list);
+            let pending = pending(rt);
+            tell_manager(&mut manager, watch.is_listening(), pending);
+            if pending & INT != 0 {
+                return watch.end_at_once();
+            }
+            if pending & TERM != 0 {
+                return watch.end();
+            }
+            quiet = quiet.saturating_add(1);
+            let refused = watch.refused();
+            if refused > told && quiet > QUIET {
+                warn!(log; "who comes can't be let in, since no descriptor is free");
+                (told, quiet) = (refused, 0);
+            }
         }
     }
 }

@@ -40,25 +40,44 @@ where
     }
 }
 
-/// Serves the operator for good, each connection in a thread of its own.
-pub(crate) fn serve_operator<R>(rt: &R, listener: &TcpListener, office: Office)
-where
-    R: Threads + Wait + Clock + RandomSource + AllocGlobal + Eprint + Copy + Send + Drop + 'static,
-{
-    let desk = Desk {
-        office,
-        busy: AtomicU64::new(0),
-    };
-    let Ok(desk) = Arc::new(rt.alloc(), desk) else {
-        return say(
-            rt,
-            "error: the operator can't be served, since memory is wanting",
-        );
-    };
-    for _ in rt.forever() {
-        match listener.accept() {
-            Ok((stream, _peer)) => begin(rt, &desk, stream),
-            Err(_) => thread::sleep(rt, Duration::from_millis(PAUSE)),
+/// Where the operator asks, and what the operator is told of.
+#[derive(Drop)]
+pub(crate) struct Counter {
+    pub(crate) listener: TcpListener,
+    pub(crate) office: Office,
+}
+
+impl Counter {
+    /// Serves the operator for good, each connection in a thread of its own.
+    pub(crate) fn serve<R>(self, rt: &R)
+    where
+        R: Threads
+            + Wait
+            + Clock
+            + RandomSource
+            + AllocGlobal
+            + Eprint
+            + Copy
+            + Send
+            + Drop
+            + 'static,
+    {
+        let Counter { listener, office } = self;
+        let desk = Desk {
+            office,
+            busy: AtomicU64::new(0),
+        };
+        let Ok(desk) = Arc::new(rt.alloc(), desk) else {
+            return say(
+                rt,
+                "error: the operator can't be served, since memory is wanting",
+            );
+        };
+        for _ in rt.forever() {
+            match listener.accept() {
+                Ok((stream, _peer)) => begin(rt, &desk, stream),
+                Err(_) => thread::sleep(rt, Duration::from_millis(PAUSE)),
+            }
         }
     }
 }

@@ -10,7 +10,7 @@ mod id_table;
 mod locked_shelf;
 mod plain_shelf;
 mod shelf;
-//#[cfg(test)]
+#[cfg(test)]
 mod tests;
 
 pub use add_refusal::AddRefusal;

@@ -15,7 +15,7 @@ mod linked;
 mod refusal;
 mod route;
 mod table;
-//#[cfg(test)]
+#[cfg(test)]
 mod tests;
 
 pub use answering::link_request;

@@ -1,5 +1,7 @@
 //! One spot.
 
+ghost use Rattle.std.specs.Prelude.{◌≡◌, ◌%◌};
+
 use std::sync::Wait;
 use std::sync::atomic::AtomicU64;
 use std::sync::atomic::Ordering::SeqCst;
@@ -48,16 +50,22 @@ impl Spot {
     /// the number counts as the same.
     pub fn wait<R: Wait>(&self, rt: &R, seen: u64) {
         self.sleepers.fetch_add(1, SeqCst);
-        self.rings.park(rt, (seen & 0xffff_ffff) as u32);
+        self.rings.park(rt, low(seen));
         self.sleepers.fetch_sub(1, SeqCst);
     }
 
     /// The same, but for `most` at most. It answers whether it was rung.
     pub fn wait_at_most<R: Wait>(&self, rt: &R, seen: u64, most: Duration) -> bool {
         self.sleepers.fetch_add(1, SeqCst);
-        self.rings
-            .park_timeout(rt, (seen & 0xffff_ffff) as u32, most);
+        self.rings.park_timeout(rt, low(seen), most);
         self.sleepers.fetch_sub(1, SeqCst);
         self.rings() != seen
     }
+}
+
+// What a sleep compares of a number of rings: its low 32 bits (futex(2)).
+fn low(rings: u64) -> u32
+    ensures { result ≡ rings % 4294967296 }
+{
+    (rings % 0x1_0000_0000) as u32
 }
