@@ -65,6 +65,9 @@ def end(*ends):
 def carry(owner, handler, port):
     """Hands a handshake on to the gateway, and all that follows, until one side ends it."""
     near, far = handler.connection, socket.create_connection((ADDRESS, port))
+    # A web server sends on at once (nginx: tcp_nodelay), and a small message behind another would else wait for an answer.
+    for it in (near, far):
+        it.setsockopt(socket.IPPROTO_TCP, socket.TCP_NODELAY, 1)
     # The server may have read the browser's first message, which none sends before the answer.
     far.sendall(f"{handler.requestline}\r\n{handler.headers}".replace("\r\n", "\n").replace("\n", "\r\n").encode())
     head = b""
