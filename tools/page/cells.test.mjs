@@ -58,10 +58,10 @@ function play(cells, text, atSync = () => {}) {
 const shownBy = (cells) => Array.from({ length: cells.rows }, (_, y) => textOf(cells.row(y)));
 
 test('the pictures of all faces are different, underlined or not', () => {
-  assert.equal(new Set(ALL).size, 536);
+  assert.equal(new Set(ALL).size, 542);
   // Those that have the whole last line look underlined alike.
   const isFull = (face) => linesOf(face)[15] === 0xff;
-  assert.equal(PICTURES.size, 2 * 536 - ALL.filter(isFull).length);
+  assert.equal(PICTURES.size, 2 * 542 - ALL.filter(isFull).length);
   for (const face of ALL) assert.ok(face < 2 ** 14);
 });
 
@@ -123,7 +123,8 @@ for (const [character, lines] of [
   ['\u2572', twice(['#.......', '.#......', '..#.....', '...#....', '....#...', '.....#..', '......#.', '.......#'])],
   ['\u2590', Array(16).fill('....####')],
   ['\u2591', Array(4).fill(['##..##..', '##..##..', '........', '........']).flat()],
-  ['\u00e9', twice(['....#...', '...#....', '........', '..###...', '.#...#..', '.#####..', '.#......', '..###...'])],
+  ['\u00e9', twice(['........', '....#...', '...#....', '..###...', '.#...#..', '.#####..', '.#......', '..###...'])],
+  ['\u2014', twice([...Array(4).fill('........'), '.####...', ...Array(3).fill('........')])],
   ['\u00c4', twice(['..#.#...', '........', '..###...', '.#...#..', '.#...#..', '.#####..', '.#...#..', '.#...#..'])],
   ['\u25a0', twice(['........', '........', ...Array(5).fill('.#####..'), '........'])],
 ]) test(`the picture of ${character}`, () => assert.deepEqual(drawn(character.charCodeAt(0)), lines));

@@ -38,11 +38,11 @@ unfolding lit number_of
 letter = (refl, refl, refl, refl, refl)
 
 -- the capital E with a diaeresis: the first line has the two dots, the second and the third are free, and the letter's own
--- first line is the fifth; é has its accent above the letter, and Ą its ogonek below
-marked : (lit 0xCB false 2 0 ≡ true) × (lit 0xCB false 2 2 ≡ false) × (lit 0xCB false 1 4 ≡ true) × (lit 0xE9 false 4 0 ≡ true) × (lit 0xE9 false 3 2 ≡ true) × (lit 0xE9 false 3 4 ≡ false)
-    × (lit 0xE9 false 3 6 ≡ true) × (lit 0x104 false 5 14 ≡ true) × (lit 0x104 false 2 14 ≡ false)
+-- first line is the fifth; ë has its dots on the third, é its accent from there to the letter, and Ą its ogonek below
+marked : (lit 0xCB false 2 0 ≡ true) × (lit 0xCB false 2 2 ≡ false) × (lit 0xCB false 1 4 ≡ true) × (lit 0xEB false 2 1 ≡ false) × (lit 0xEB false 2 2 ≡ true) × (lit 0xEB false 2 4 ≡ false)
+    × (lit 0xE9 false 4 1 ≡ false) × (lit 0xE9 false 4 2 ≡ true) × (lit 0xE9 false 3 4 ≡ true) × (lit 0xE9 false 3 6 ≡ true) × (lit 0x104 false 5 14 ≡ true) × (lit 0x104 false 2 14 ≡ false)
 unfolding lit number_of
-marked = (refl, refl, refl, refl, refl, refl, refl, refl, refl)
+marked = (refl, refl, refl, refl, refl, refl, refl, refl, refl, refl, refl, refl)
 
 -- the cursor on one blank cell
 smallest : (picture (shown (screen (in_ascii 1 1) [] [])) 0 0 ≡ grey) × (picture (shown (screen (in_ascii 1 1) [] [])) 7 15 ≡ grey)

@@ -374,11 +374,11 @@ length-bars face under = length-map (bars face) (bar_patch under)
 -- ---- letters and signs by their number
 
 -- how many there are
-count : length more_columns ≡ 278
+count : length more_columns ≡ 284
 count = refl
 
-pub found_columns : (n : ℕ) → n < 278 → get_or more_columns n [] ≡ columns_by (Some n)
+pub found_columns : (n : ℕ) → n < 284 → get_or more_columns n [] ≡ columns_by (Some n)
 found_columns n lt = get_or_default more_columns n [] (moved_down box) (omega (arith, lt, count))
 
-pub no_columns : (n : ℕ) → 278 ≤ n → moved_down box ≡ columns_by (Some n)
+pub no_columns : (n : ℕ) → 284 ≤ n → moved_down box ≡ columns_by (Some n)
 no_columns n le = sym (get_or_past more_columns n (moved_down box) (omega (arith, le, count)))

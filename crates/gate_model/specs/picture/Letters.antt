@@ -45,6 +45,16 @@ double_acute = 0 ∷ 2 ∷ 1 ∷ 2 ∷ 1 ∷ []
 abbrev pub comma : List ℕ
 comma = 0 ∷ 0 ∷ 3 ∷ 1 ∷ 0 ∷ []
 
+-- .. above small letters, into which the marks of capitals would run
+abbrev pub small_tilde : List ℕ
+small_tilde = 1 ∷ 1 ∷ 0 ∷ 2 ∷ 2 ∷ []
+
+abbrev pub small_breve : List ℕ
+small_breve = 1 ∷ 1 ∷ 2 ∷ 1 ∷ 1 ∷ []
+
+abbrev pub small_double_acute : List ℕ
+small_double_acute = 2 ∷ 1 ∷ 0 ∷ 2 ∷ 1 ∷ []
+
 -- .. and by the lowest bit, below a letter
 
 abbrev pub cedilla : List ℕ
@@ -55,7 +65,8 @@ ogonek = 0 ∷ 0 ∷ 0 ∷ 1 ∷ 1 ∷ []
 
 -- ---- a letter and its mark
 
--- a letter of ASCII with a mark above it, or below it; or one that neither makes, by its columns
+-- a letter of ASCII with a mark above it, or below it; or one that neither makes, by its columns. So are d, l, L and t with a
+-- caron, which stands beside them, and u, w and y with a mark that would meet their arms: those are shorter by one bit
 pub data Letter : Type 0 where
   Above : List ℕ → ℕ → Letter
   Below : List ℕ → ℕ → Letter
@@ -84,21 +95,23 @@ moved column = 2 * column
 abbrev pub lowered : ℕ → ℕ
 lowered column = 4 * (column % 2) + 8 * (column / 4)
 
-abbrev pub beneath_mark : List ℕ → List ℕ
-beneath_mark columns = if list_any is_high columns then map lowered columns else map moved columns
-
--- a mark below has the lowest bit
-abbrev pub with_low : ℕ → ℕ → ℕ
-with_low mark column = 128 * mark + column
-
 -- two lists, number by number
 abbrev pub joined : (ℕ → ℕ → ℕ) → List ℕ → List ℕ → List ℕ
 joined f (m ∷ ms) (n ∷ ns) = f m n ∷ joined f ms ns
 joined f ms ns = []
 
+-- a small letter leaves the two upper lines of bits of the font free: its mark takes those, and moves down with it
+abbrev pub with_high : List ℕ → List ℕ → List ℕ
+with_high mark columns =
+    if list_any is_high columns then joined (λ m n. m + n) mark (map lowered columns) else map moved (joined (λ m n. m + n) mark columns)
+
+-- a mark below has the lowest bit
+abbrev pub with_low : ℕ → ℕ → ℕ
+with_low mark column = 128 * mark + column
+
 -- the columns of a letter
 abbrev pub letter_columns : Letter → List ℕ
-letter_columns (Above mark base) = joined (λ m n. m + n) mark (beneath_mark (base_columns base))
+letter_columns (Above mark base) = with_high mark (base_columns base)
 letter_columns (Below mark base) = joined with_low mark (font_columns base)
 letter_columns (Drawn columns) = columns
 
@@ -117,7 +130,7 @@ letters =
     ∷ Drawn (0x90 ∷ 0xaa ∷ 0xaa ∷ 0x9a ∷ 0xbc ∷ [])
     ∷ Drawn (0x20 ∷ 0x50 ∷ 0xa8 ∷ 0x50 ∷ 0x88 ∷ [])
     ∷ Drawn (0x10 ∷ 0x10 ∷ 0x10 ∷ 0x10 ∷ 0x70 ∷ [])
-    ∷ Drawn (0x00 ∷ 0x10 ∷ 0x10 ∷ 0x10 ∷ 0x00 ∷ [])
+    ∷ Drawn (0x00 ∷ 0x10 ∷ 0x10 ∷ 0x00 ∷ 0x00 ∷ [])
     ∷ Drawn (0x7c ∷ 0xba ∷ 0xea ∷ 0x92 ∷ 0x7c ∷ [])
     ∷ Drawn (0x02 ∷ 0x02 ∷ 0x02 ∷ 0x02 ∷ 0x02 ∷ [])
     ∷ Drawn (0x04 ∷ 0x0a ∷ 0x0a ∷ 0x04 ∷ 0x00 ∷ [])
@@ -171,7 +184,7 @@ letters =
     ∷ Above grave 97
     ∷ Above acute 97
     ∷ Above circumflex 97
-    ∷ Above tilde 97
+    ∷ Above small_tilde 97
     ∷ Above diaeresis 97
     ∷ Above ring 97
     ∷ Drawn (0x48 ∷ 0xa8 ∷ 0xf0 ∷ 0xa8 ∷ 0xb0 ∷ [])
@@ -184,26 +197,26 @@ letters =
     ∷ Above acute 105
     ∷ Above circumflex 105
     ∷ Above diaeresis 105
-    ∷ Drawn (0x70 ∷ 0x88 ∷ 0x8a ∷ 0x8f ∷ 0x7a ∷ [])
-    ∷ Above tilde 110
+    ∷ Drawn (0x60 ∷ 0x90 ∷ 0x9a ∷ 0x94 ∷ 0x7a ∷ [])
+    ∷ Above small_tilde 110
     ∷ Above grave 111
     ∷ Above acute 111
     ∷ Above circumflex 111
-    ∷ Above tilde 111
+    ∷ Above small_tilde 111
     ∷ Above diaeresis 111
     ∷ Drawn (0x10 ∷ 0x10 ∷ 0x54 ∷ 0x10 ∷ 0x10 ∷ [])
     ∷ Drawn (0xf0 ∷ 0xc8 ∷ 0xa8 ∷ 0x98 ∷ 0x78 ∷ [])
     ∷ Above grave 117
     ∷ Above acute 117
-    ∷ Above circumflex 117
+    ∷ Drawn (0x70 ∷ 0x84 ∷ 0x82 ∷ 0x44 ∷ 0xf0 ∷ [])
     ∷ Above diaeresis 117
     ∷ Above acute 121
-    ∷ Drawn (0xfe ∷ 0x28 ∷ 0x28 ∷ 0x28 ∷ 0x10 ∷ [])
+    ∷ Drawn (0xfe ∷ 0x50 ∷ 0x48 ∷ 0x48 ∷ 0x30 ∷ [])
     ∷ Above diaeresis 121
     ∷ Above macron 65
     ∷ Above macron 97
     ∷ Above breve 65
-    ∷ Above breve 97
+    ∷ Above small_breve 97
     ∷ Below ogonek 65
     ∷ Below ogonek 97
     ∷ Above acute 67
@@ -215,13 +228,13 @@ letters =
     ∷ Above caron 67
     ∷ Above caron 99
     ∷ Above caron 68
-    ∷ Above caron 100
-    ∷ Drawn (0xaa ∷ 0xfe ∷ 0x82 ∷ 0x92 ∷ 0x7c ∷ [])
-    ∷ Drawn (0x70 ∷ 0x88 ∷ 0x8a ∷ 0x97 ∷ 0xfa ∷ [])
+    ∷ Drawn (0x70 ∷ 0x88 ∷ 0xfe ∷ 0x00 ∷ 0x06 ∷ [])
+    ∷ Drawn (0x10 ∷ 0xfe ∷ 0x92 ∷ 0x82 ∷ 0x7c ∷ [])
+    ∷ Drawn (0x70 ∷ 0x88 ∷ 0x94 ∷ 0xfe ∷ 0x04 ∷ [])
     ∷ Above macron 69
     ∷ Above macron 101
     ∷ Above breve 69
-    ∷ Above breve 101
+    ∷ Above small_breve 101
     ∷ Above dot 69
     ∷ Above dot 101
     ∷ Below ogonek 69
@@ -231,27 +244,27 @@ letters =
     ∷ Above circumflex 71
     ∷ Above circumflex 103
     ∷ Above breve 71
-    ∷ Above breve 103
+    ∷ Above small_breve 103
     ∷ Above dot 71
     ∷ Above dot 103
-    ∷ Above comma 71
+    ∷ Below cedilla 71
     ∷ Above comma 103
     ∷ Above circumflex 72
     ∷ Above circumflex 104
-    ∷ Drawn (0xff ∷ 0x12 ∷ 0x12 ∷ 0x12 ∷ 0xff ∷ [])
-    ∷ Drawn (0xff ∷ 0x12 ∷ 0x0a ∷ 0x08 ∷ 0xf0 ∷ [])
+    ∷ Drawn (0xfe ∷ 0x14 ∷ 0x14 ∷ 0x14 ∷ 0xfe ∷ [])
+    ∷ Drawn (0x04 ∷ 0xfe ∷ 0x14 ∷ 0x08 ∷ 0xf0 ∷ [])
     ∷ Above tilde 73
-    ∷ Above tilde 105
+    ∷ Above small_tilde 105
     ∷ Above macron 73
     ∷ Above macron 105
     ∷ Above breve 73
-    ∷ Above breve 105
+    ∷ Above small_breve 105
     ∷ Below ogonek 73
     ∷ Below ogonek 105
     ∷ Above dot 73
     ∷ Above no_mark 105
     ∷ Drawn (0xfe ∷ 0x40 ∷ 0x80 ∷ 0x82 ∷ 0x7e ∷ [])
-    ∷ Drawn (0xfd ∷ 0x04 ∷ 0x00 ∷ 0x84 ∷ 0x7d ∷ [])
+    ∷ Drawn (0x08 ∷ 0xfa ∷ 0x00 ∷ 0x88 ∷ 0x7a ∷ [])
     ∷ Above circumflex 74
     ∷ Above circumflex 106
     ∷ Below cedilla 75
@@ -261,8 +274,8 @@ letters =
     ∷ Above acute 108
     ∷ Below cedilla 76
     ∷ Below cedilla 108
-    ∷ Above caron 76
-    ∷ Above caron 108
+    ∷ Drawn (0xfe ∷ 0x80 ∷ 0x80 ∷ 0x86 ∷ 0x80 ∷ [])
+    ∷ Drawn (0x00 ∷ 0x82 ∷ 0xfe ∷ 0x80 ∷ 0x06 ∷ [])
     ∷ Drawn (0xfe ∷ 0x80 ∷ 0x80 ∷ 0x90 ∷ 0x80 ∷ [])
     ∷ Drawn (0x82 ∷ 0xfe ∷ 0x80 ∷ 0x00 ∷ 0x10 ∷ [])
     ∷ Drawn (0x20 ∷ 0xfe ∷ 0x88 ∷ 0x84 ∷ 0x80 ∷ [])
@@ -273,15 +286,15 @@ letters =
     ∷ Below cedilla 110
     ∷ Above caron 78
     ∷ Above caron 110
-    ∷ Drawn (0x0b ∷ 0xf0 ∷ 0x08 ∷ 0x08 ∷ 0xf0 ∷ [])
+    ∷ Drawn (0x06 ∷ 0xf8 ∷ 0x10 ∷ 0x08 ∷ 0xf0 ∷ [])
     ∷ Drawn (0x3f ∷ 0x02 ∷ 0x8c ∷ 0x90 ∷ 0x7f ∷ [])
     ∷ Drawn (0x3c ∷ 0x08 ∷ 0x84 ∷ 0x84 ∷ 0x78 ∷ [])
     ∷ Above macron 79
     ∷ Above macron 111
     ∷ Above breve 79
-    ∷ Above breve 111
+    ∷ Above small_breve 111
     ∷ Above double_acute 79
-    ∷ Above double_acute 111
+    ∷ Above small_double_acute 111
     ∷ Drawn (0x7c ∷ 0x82 ∷ 0xfe ∷ 0x92 ∷ 0x82 ∷ [])
     ∷ Drawn (0x70 ∷ 0x88 ∷ 0xf0 ∷ 0xa8 ∷ 0xb0 ∷ [])
     ∷ Above acute 82
@@ -301,25 +314,25 @@ letters =
     ∷ Below cedilla 84
     ∷ Below cedilla 116
     ∷ Above caron 84
-    ∷ Above caron 116
+    ∷ Drawn (0x08 ∷ 0x7e ∷ 0x88 ∷ 0x80 ∷ 0x46 ∷ [])
     ∷ Drawn (0x02 ∷ 0x12 ∷ 0xfe ∷ 0x12 ∷ 0x02 ∷ [])
     ∷ Drawn (0x14 ∷ 0x7e ∷ 0x94 ∷ 0x84 ∷ 0x40 ∷ [])
     ∷ Above tilde 85
-    ∷ Above tilde 117
+    ∷ Drawn (0x72 ∷ 0x82 ∷ 0x80 ∷ 0x44 ∷ 0xf4 ∷ [])
     ∷ Above macron 85
     ∷ Above macron 117
     ∷ Above breve 85
-    ∷ Above breve 117
+    ∷ Above small_breve 117
     ∷ Above ring 85
-    ∷ Above ring 117
+    ∷ Drawn (0x70 ∷ 0x86 ∷ 0x8a ∷ 0x46 ∷ 0xf0 ∷ [])
     ∷ Above double_acute 85
-    ∷ Above double_acute 117
+    ∷ Drawn (0x74 ∷ 0x82 ∷ 0x80 ∷ 0x44 ∷ 0xf2 ∷ [])
     ∷ Below ogonek 85
     ∷ Below ogonek 117
     ∷ Above circumflex 87
-    ∷ Above circumflex 119
+    ∷ Drawn (0x70 ∷ 0x84 ∷ 0x62 ∷ 0x84 ∷ 0x70 ∷ [])
     ∷ Above circumflex 89
-    ∷ Above circumflex 121
+    ∷ Drawn (0x10 ∷ 0xa4 ∷ 0xa2 ∷ 0xa4 ∷ 0x70 ∷ [])
     ∷ Above diaeresis 89
     ∷ Above acute 90
     ∷ Above acute 122
@@ -335,9 +348,12 @@ letters =
 -- in the order of their characters
 abbrev pub signs : List (List ℕ)
 signs =
-    (0x10 ∷ 0x10 ∷ 0x10 ∷ 0x10 ∷ 0x00 ∷ [])
-    ∷ (0x20 ∷ 0x20 ∷ 0x20 ∷ 0x20 ∷ 0x20 ∷ [])
-    ∷ (0x08 ∷ 0x08 ∷ 0x08 ∷ 0x08 ∷ 0x08 ∷ [])
+    (0x10 ∷ 0x10 ∷ 0x10 ∷ 0x00 ∷ 0x00 ∷ [])
+    ∷ (0x00 ∷ 0x00 ∷ 0x10 ∷ 0x10 ∷ 0x00 ∷ [])
+    ∷ (0x00 ∷ 0x00 ∷ 0x10 ∷ 0x10 ∷ 0x10 ∷ [])
+    ∷ (0x00 ∷ 0x10 ∷ 0x10 ∷ 0x10 ∷ 0x00 ∷ [])
+    ∷ (0x10 ∷ 0x10 ∷ 0x10 ∷ 0x10 ∷ 0x00 ∷ [])
+    ∷ (0x10 ∷ 0x10 ∷ 0x00 ∷ 0x10 ∷ 0x10 ∷ [])
     ∷ (0x00 ∷ 0x1c ∷ 0x1a ∷ 0x00 ∷ 0x00 ∷ [])
     ∷ (0x00 ∷ 0x16 ∷ 0x0e ∷ 0x00 ∷ 0x00 ∷ [])
     ∷ (0x00 ∷ 0xb0 ∷ 0x70 ∷ 0x00 ∷ 0x00 ∷ [])
@@ -348,7 +364,7 @@ signs =
     ∷ (0x24 ∷ 0x24 ∷ 0xfe ∷ 0x24 ∷ 0x24 ∷ [])
     ∷ (0x00 ∷ 0x38 ∷ 0x38 ∷ 0x38 ∷ 0x00 ∷ [])
     ∷ (0x80 ∷ 0x00 ∷ 0x80 ∷ 0x00 ∷ 0x80 ∷ [])
-    ∷ (0x89 ∷ 0x24 ∷ 0x82 ∷ 0x00 ∷ 0xa0 ∷ [])
+    ∷ (0xc6 ∷ 0xd6 ∷ 0x08 ∷ 0xc4 ∷ 0xc2 ∷ [])
     ∷ (0x00 ∷ 0x00 ∷ 0x0c ∷ 0x02 ∷ 0x00 ∷ [])
     ∷ (0x08 ∷ 0x06 ∷ 0x08 ∷ 0x06 ∷ 0x00 ∷ [])
     ∷ (0x00 ∷ 0x20 ∷ 0x50 ∷ 0x88 ∷ 0x00 ∷ [])
@@ -376,14 +392,17 @@ signs =
     ∷ (0x78 ∷ 0x78 ∷ 0x78 ∷ 0x78 ∷ 0x00 ∷ [])
     ∷ (0x78 ∷ 0x48 ∷ 0x48 ∷ 0x78 ∷ 0x00 ∷ [])
     ∷ (0xc0 ∷ 0xf0 ∷ 0xfc ∷ 0xf0 ∷ 0xc0 ∷ [])
+    ∷ (0xc0 ∷ 0xb0 ∷ 0x8c ∷ 0xb0 ∷ 0xc0 ∷ [])
     ∷ (0xfe ∷ 0x7c ∷ 0x38 ∷ 0x38 ∷ 0x10 ∷ [])
     ∷ (0x00 ∷ 0x7c ∷ 0x38 ∷ 0x10 ∷ 0x00 ∷ [])
     ∷ (0x7c ∷ 0x38 ∷ 0x38 ∷ 0x10 ∷ 0x10 ∷ [])
     ∷ (0x0c ∷ 0x3c ∷ 0xfc ∷ 0x3c ∷ 0x0c ∷ [])
+    ∷ (0x0c ∷ 0x34 ∷ 0xc4 ∷ 0x34 ∷ 0x0c ∷ [])
     ∷ (0x10 ∷ 0x38 ∷ 0x38 ∷ 0x7c ∷ 0xfe ∷ [])
     ∷ (0x10 ∷ 0x10 ∷ 0x38 ∷ 0x38 ∷ 0x7c ∷ [])
     ∷ (0x10 ∷ 0x38 ∷ 0xfe ∷ 0x38 ∷ 0x10 ∷ [])
     ∷ (0x38 ∷ 0x44 ∷ 0x44 ∷ 0x44 ∷ 0x38 ∷ [])
+    ∷ (0x28 ∷ 0x00 ∷ 0x44 ∷ 0x00 ∷ 0x28 ∷ [])
     ∷ (0x38 ∷ 0x7c ∷ 0x7c ∷ 0x7c ∷ 0x38 ∷ [])
     ∷ (0x00 ∷ 0x38 ∷ 0x28 ∷ 0x38 ∷ 0x00 ∷ [])
     ∷ (0x20 ∷ 0xc0 ∷ 0x40 ∷ 0x30 ∷ 0x0c ∷ [])
@@ -401,39 +420,39 @@ more_columns = map letter_columns letters ++ signs
 abbrev pub runs : List (List ℕ)
 runs =
     (0x00a1 ∷ 0x017f ∷ 0 ∷ [])
-    ∷ (0x2013 ∷ 0x2015 ∷ 223 ∷ [])
-    ∷ (0x2018 ∷ 0x201a ∷ 226 ∷ [])
-    ∷ (0x201c ∷ 0x201e ∷ 229 ∷ [])
-    ∷ (0x2020 ∷ 0x2022 ∷ 232 ∷ [])
-    ∷ (0x2026 ∷ 0x2026 ∷ 235 ∷ [])
-    ∷ (0x2030 ∷ 0x2030 ∷ 236 ∷ [])
-    ∷ (0x2032 ∷ 0x2033 ∷ 237 ∷ [])
-    ∷ (0x2039 ∷ 0x203a ∷ 239 ∷ [])
-    ∷ (0x203c ∷ 0x203c ∷ 241 ∷ [])
-    ∷ (0x20ac ∷ 0x20ac ∷ 242 ∷ [])
-    ∷ (0x2122 ∷ 0x2122 ∷ 243 ∷ [])
-    ∷ (0x2190 ∷ 0x2195 ∷ 244 ∷ [])
-    ∷ (0x2212 ∷ 0x2212 ∷ 250 ∷ [])
-    ∷ (0x2219 ∷ 0x221a ∷ 251 ∷ [])
-    ∷ (0x221e ∷ 0x221e ∷ 253 ∷ [])
-    ∷ (0x2248 ∷ 0x2248 ∷ 254 ∷ [])
-    ∷ (0x2260 ∷ 0x2261 ∷ 255 ∷ [])
-    ∷ (0x2264 ∷ 0x2265 ∷ 257 ∷ [])
-    ∷ (0x25a0 ∷ 0x25a1 ∷ 259 ∷ [])
-    ∷ (0x25aa ∷ 0x25ab ∷ 261 ∷ [])
-    ∷ (0x25b2 ∷ 0x25b2 ∷ 263 ∷ [])
-    ∷ (0x25b6 ∷ 0x25b6 ∷ 264 ∷ [])
-    ∷ (0x25b8 ∷ 0x25b8 ∷ 265 ∷ [])
-    ∷ (0x25ba ∷ 0x25ba ∷ 266 ∷ [])
-    ∷ (0x25bc ∷ 0x25bc ∷ 267 ∷ [])
-    ∷ (0x25c0 ∷ 0x25c0 ∷ 268 ∷ [])
-    ∷ (0x25c4 ∷ 0x25c4 ∷ 269 ∷ [])
-    ∷ (0x25c6 ∷ 0x25c6 ∷ 270 ∷ [])
-    ∷ (0x25cb ∷ 0x25cb ∷ 271 ∷ [])
-    ∷ (0x25cf ∷ 0x25cf ∷ 272 ∷ [])
-    ∷ (0x25e6 ∷ 0x25e6 ∷ 273 ∷ [])
-    ∷ (0x2713 ∷ 0x2714 ∷ 274 ∷ [])
-    ∷ (0x2717 ∷ 0x2718 ∷ 276 ∷ [])
+    ∷ (0x2010 ∷ 0x2015 ∷ 223 ∷ [])
+    ∷ (0x2018 ∷ 0x201a ∷ 229 ∷ [])
+    ∷ (0x201c ∷ 0x201e ∷ 232 ∷ [])
+    ∷ (0x2020 ∷ 0x2022 ∷ 235 ∷ [])
+    ∷ (0x2026 ∷ 0x2026 ∷ 238 ∷ [])
+    ∷ (0x2030 ∷ 0x2030 ∷ 239 ∷ [])
+    ∷ (0x2032 ∷ 0x2033 ∷ 240 ∷ [])
+    ∷ (0x2039 ∷ 0x203a ∷ 242 ∷ [])
+    ∷ (0x203c ∷ 0x203c ∷ 244 ∷ [])
+    ∷ (0x20ac ∷ 0x20ac ∷ 245 ∷ [])
+    ∷ (0x2122 ∷ 0x2122 ∷ 246 ∷ [])
+    ∷ (0x2190 ∷ 0x2195 ∷ 247 ∷ [])
+    ∷ (0x2212 ∷ 0x2212 ∷ 253 ∷ [])
+    ∷ (0x2219 ∷ 0x221a ∷ 254 ∷ [])
+    ∷ (0x221e ∷ 0x221e ∷ 256 ∷ [])
+    ∷ (0x2248 ∷ 0x2248 ∷ 257 ∷ [])
+    ∷ (0x2260 ∷ 0x2261 ∷ 258 ∷ [])
+    ∷ (0x2264 ∷ 0x2265 ∷ 260 ∷ [])
+    ∷ (0x25a0 ∷ 0x25a1 ∷ 262 ∷ [])
+    ∷ (0x25aa ∷ 0x25ab ∷ 264 ∷ [])
+    ∷ (0x25b2 ∷ 0x25b3 ∷ 266 ∷ [])
+    ∷ (0x25b6 ∷ 0x25b6 ∷ 268 ∷ [])
+    ∷ (0x25b8 ∷ 0x25b8 ∷ 269 ∷ [])
+    ∷ (0x25ba ∷ 0x25ba ∷ 270 ∷ [])
+    ∷ (0x25bc ∷ 0x25bd ∷ 271 ∷ [])
+    ∷ (0x25c0 ∷ 0x25c0 ∷ 273 ∷ [])
+    ∷ (0x25c4 ∷ 0x25c4 ∷ 274 ∷ [])
+    ∷ (0x25c6 ∷ 0x25c6 ∷ 275 ∷ [])
+    ∷ (0x25cb ∷ 0x25cc ∷ 276 ∷ [])
+    ∷ (0x25cf ∷ 0x25cf ∷ 278 ∷ [])
+    ∷ (0x25e6 ∷ 0x25e6 ∷ 279 ∷ [])
+    ∷ (0x2713 ∷ 0x2714 ∷ 280 ∷ [])
+    ∷ (0x2717 ∷ 0x2718 ∷ 282 ∷ [])
     ∷ []
 
 -- the number of a character among them, if it has such a face
