@@ -16,11 +16,13 @@ const types = (...words) => run(join(TOP, 'tools/terminal-types'), ...words).std
 
 test('the best type of ncurses-base', { skip }, () => assert.equal(types().split(':')[0], TERMINAL_TYPE));
 
-test('the entry of our own', { skip }, () => {
+test('the entries of our own', { skip }, () => {
   const entries = mkdtempSync(join(tmpdir(), 'entries-'));
   try {
     assert.equal(run('tic', '-x', '-o', entries, join(TOP, 'deploy/guacgate.ti')).stderr, '');
-    assert.equal(types('--entries', entries, 'guacgate'), 'guacgate: 0 promises broken, 0 read over, 0 keys others\n');
+    for (const type of ['guacgate', 'guacgate-256color']) {
+      assert.equal(types('--entries', entries, type), `${type}: 0 promises broken, 0 read over, 0 keys others\n`);
+    }
   } finally {
     rmSync(entries, { recursive: true });
   }
