@@ -11,4 +11,4 @@ pub mod Telling
 pub mod InMemory
 mod AskFacts
 mod Undone
-pub mod Pairs
+pub mod PairLaws

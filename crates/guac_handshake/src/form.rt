@@ -1,16 +1,15 @@
 //! The form of a connection, as an HTTP request has it.
 
-ghost use Rattle.std.specs.Prelude.{◌≡◌, ℕ, List, All, IfOk, IfErr, IsUtf8, OnOk, map};
-ghost use Rattle.form_urlencoded.specs.Form.{decode as decoded, parse, plus_to_space};
+ghost use Rattle.std.specs.Prelude.{◌≡◌, ℕ, List, All, IfOk, IfErr};
+ghost use Rattle.form_urlencoded.specs.Form.{parse};
 ghost use Rattle.guac_handshake.specs.Forms.{IsForm, IsNoForm, IsText, StoppedBy, ask_in, asked_by, fields_of, is_size_text, no_fields, role_of, size_of, text_of, with_pair};
 
 use crate::connecting::read_ask;
+use crate::pairs::read_pairs;
 use crate::{Ask, FormRefusal, Request};
-use form_urlencoded::raw_pairs;
 use gate_model::{Asked, NoMemory, Text};
 use guac_instr::{number, number_within};
-use percent_encoding::percent_decode;
-use std::alloc::{AllocError, Global};
+use std::alloc::Global;
 
 /// The greatest width and height in pixels (this project's own).
 const MOST_SIZE: u64 = i32::MAX as u64;
@@ -63,63 +62,14 @@ impl Fields {
     }
 }
 
-// The bytes with a space for each `+`.
-fn spaced(alloc: Global, raw: &[u8]) -> Result<Vec<u8>, AllocError>
-    ensures { IfOk result (λ bytes. bytes.items ≡ map plus_to_space raw.now) }
-{
-    let mut bytes = Vec::with_capacity(alloc, raw.len())?;
-    for byte in raw {
-        bytes.push(if *byte == b'+' { b' ' } else { *byte })?;
-    }
-    Ok(bytes)
-}
-
-// The text of these bytes, where they are UTF-8.
-fn text_in(bytes: Vec<u8>) -> Result<Text, FormRefusal>
-    ensures text { IfOk result (λ text. text ≡ bytes.items) }
-    ensures utf8 { IfOk result (λ _. IsUtf8 bytes.items) }
-    ensures refused { IfErr result (StoppedBy (IsUtf8 bytes.items → ⊥)) }
-{
-    match String::from_utf8(bytes) {
-        Ok(text) => Ok(Text::of(text)),
-        Err(_) => Err(FormRefusal::Form),
-    }
-}
-
-// The text that a name or a value stands for.
-fn decoded(alloc: Global, raw: &[u8]) -> Result<Text, FormRefusal>
-    ensures text { IfOk result (λ text. text ≡ decoded raw.now) }
-    ensures utf8 { IfOk result (λ _. IsUtf8 (decoded raw.now)) }
-    ensures refused { IfErr result (StoppedBy (IsUtf8 (decoded raw.now) → ⊥)) }
-{
-    let spaced = spaced(alloc, raw)?;
-    let mut bytes = Vec::new(alloc);
-    percent_decode(&spaced).append_to(&mut bytes)?;
-    text_in(bytes)
-}
-
-impl Fields {
-    // One more pair as it was sent.
-    fn add(&mut self, alloc: Global, name: &[u8], value: &[u8]) -> Result<(), FormRefusal>
-        ensures ok { OnOk result (self.new ≡ with_pair self.old (decoded name.now, decoded value.now)) }
-        ensures text { OnOk result (IsText (decoded name.now, decoded value.now)) }
-        ensures refused { IfErr result (StoppedBy (IsText (decoded name.now, decoded value.now) → ⊥)) }
-    {
-        let name = decoded(alloc, name)?;
-        let value = decoded(alloc, value)?;
-        self.put(name.as_str(), value);
-        Ok(())
-    }
-}
-
 // The fields of a body.
 fn read_fields(alloc: Global, body: &[u8]) -> Result<Fields, FormRefusal>
     ensures fields { IfOk result (λ fields. All IsText (parse body.now) × (fields ≡ fields_of (parse body.now))) }
     ensures refused { IfErr result (StoppedBy (All IsText (parse body.now) → ⊥)) }
 {
     let mut fields = Fields::none();
-    for (name, value) in raw_pairs(body) {
-        fields.add(alloc, name, value)?;
+    for (name, value) in read_pairs(alloc, body)? {
+        fields.put(name.as_str(), value);
     }
     Ok(fields)
 }

@@ -1,4 +1,3 @@
 pub mod Counting
-pub mod Pairs
 pub mod Passing
 pub mod Making

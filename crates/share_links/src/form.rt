@@ -1,16 +1,14 @@
 //! The form of a link, as a request has it.
 
-ghost use Rattle.std.specs.Prelude.{◌≡◌, ◌≤◌, All, IfOk, IfErr, IfSome, IsUtf8, OnOk, map};
-ghost use Rattle.form_urlencoded.specs.Form.{decode as decoded, parse, plus_to_space};
+ghost use Rattle.std.specs.Prelude.{◌≡◌, ◌≤◌, All, IfOk, IfErr, IfSome};
+ghost use Rattle.form_urlencoded.specs.Form.{parse};
 ghost use Rattle.guac_handshake.specs.Forms.{IsText, StoppedBy};
 ghost use Rattle.share_links.specs.Forms.{IsForm, IsNoForm, control_of, fields_of, no_fields, uses_of, wanted_by, with_pair};
 
-use form_urlencoded::raw_pairs;
 use gate_model::Text;
-use guac_handshake::FormRefusal;
+use guac_handshake::{FormRefusal, read_pairs};
 use guac_instr::number_within;
-use percent_encoding::percent_decode;
-use std::alloc::{AllocError, Global};
+use std::alloc::Global;
 
 /// The most uses of a link (this project's own).
 const MOST_USES: u64 = 1_000_000;
@@ -54,53 +52,6 @@ impl Fields {
             _ => {}
         }
     }
-
-    // One more pair as it was sent.
-    fn add(&mut self, alloc: Global, name: &[u8], value: &[u8]) -> Result<(), FormRefusal>
-        ensures ok { OnOk result (self.new ≡ with_pair self.old (decoded name.now, decoded value.now)) }
-        ensures text { OnOk result (IsText (decoded name.now, decoded value.now)) }
-        ensures refused { IfErr result (StoppedBy (IsText (decoded name.now, decoded value.now) → ⊥)) }
-    {
-        let name = decoded(alloc, name)?;
-        let value = decoded(alloc, value)?;
-        self.put(name.as_str(), value);
-        Ok(())
-    }
-}
-
-// The bytes with a space for each `+`.
-fn spaced(alloc: Global, raw: &[u8]) -> Result<Vec<u8>, AllocError>
-    ensures { IfOk result (λ bytes. bytes.items ≡ map plus_to_space raw.now) }
-{
-    let mut bytes = Vec::with_capacity(alloc, raw.len())?;
-    for byte in raw {
-        bytes.push(if *byte == b'+' { b' ' } else { *byte })?;
-    }
-    Ok(bytes)
-}
-
-// The text of these bytes, where they are UTF-8.
-fn text_in(bytes: Vec<u8>) -> Result<Text, FormRefusal>
-    ensures text { IfOk result (λ text. text ≡ bytes.items) }
-    ensures utf8 { IfOk result (λ _. IsUtf8 bytes.items) }
-    ensures refused { IfErr result (StoppedBy (IsUtf8 bytes.items → ⊥)) }
-{
-    match String::from_utf8(bytes) {
-        Ok(text) => Ok(Text::of(text)),
-        Err(_) => Err(FormRefusal::Form),
-    }
-}
-
-// The text that a name or a value stands for.
-fn decoded(alloc: Global, raw: &[u8]) -> Result<Text, FormRefusal>
-    ensures text { IfOk result (λ text. text ≡ decoded raw.now) }
-    ensures utf8 { IfOk result (λ _. IsUtf8 (decoded raw.now)) }
-    ensures refused { IfErr result (StoppedBy (IsUtf8 (decoded raw.now) → ⊥)) }
-{
-    let spaced = spaced(alloc, raw)?;
-    let mut bytes = Vec::new(alloc);
-    percent_decode(&spaced).append_to(&mut bytes)?;
-    text_in(bytes)
 }
 
 // The fields of a body.
@@ -109,8 +60,8 @@ fn read_fields(alloc: Global, body: &[u8]) -> Result<Fields, FormRefusal>
     ensures refused { IfErr result (StoppedBy (All IsText (parse body.now) → ⊥)) }
 {
     let mut fields = Fields::none();
-    for (name, value) in raw_pairs(body) {
-        fields.add(alloc, name, value)?;
+    for (name, value) in read_pairs(alloc, body)? {
+        fields.put(name.as_str(), value);
     }
     Ok(fields)
 }
