@@ -1,5 +1,5 @@
 -- How one more character changes the parameters of a text.
-use Rattle.std.proofs.Common.{◌≡◌, ◌≢◌, ℕ, ◌+◌, ◌-◌, ◌≤◌, ◌<◌, min, List, [], ◌∷◌, ◌++◌, length, length-append, set, Bool, true, false, cond, ⊎_elim, append_assoc, refl, sym, ap, subst, ◌∙◌, arith}
+use Rattle.std.proofs.Common.{◌≡◌, ◌≢◌, ℕ, ◌+◌, ◌-◌, ◌≤◌, ◌<◌, min, List, [], ◌∷◌, ◌++◌, length, length-append, set, Bool, true, false, cond, ⊎_elim, append_assoc, refl, sym, ap, ◌∙◌, arith}
 use Rattle.std.proofs.lemmas.Bool.{cases_lt, cond-true, cond-false, ne_eqb, lt-ltb, le-ltb, lt-leb, le-leb, and_left, and_right, and_from}
 use Rattle.std.proofs.lemmas.Bool.Decides.{nat_tests}
 use Rattle.std.proofs.lemmas.List.Folds.{list_all-append}
@@ -9,7 +9,7 @@ use Rattle.gate_model.specs.declared.control.Control.TheVariants.{Csi}
 use Rattle.gate_model.specs.terminal.Controls.{has_effect, sequence}
 use Rattle.gate_model.specs.terminal.Parameters.{is_separator, private_mark, without_mark, is_plain, value, parts, params_of}
 use Rattle.ecma_parser.specs.declared.sequence.Sequence.{Sequence}
-use Rattle.ecma_parser.specs.Sequence.{Holds, Continues, IsVoid, next_value, with_digit, with_separator, csi_of}
+use Rattle.ecma_parser.specs.Sequence.{Holds, Continues, IsVoid, next_value, with_digit, csi_of}
 use Rattle.ecma_parser.proofs.PartLaws.{LastPart, last-part, filled, filled-next, filled-past, filled-at, filled-set, value-more}
 
 -- ---- the private mark
@@ -36,9 +36,10 @@ longer text c = let long = length-append text (c ∷ []) in omega arith
 last-place : (t : List ℕ) (part : LastPart t) → length (parts t) ≡ length part.front + 1
 last-place t part = ap length part.is ∙ (let long = length-append part.front (part.last ∷ []) in omega arith)
 
-pub kept-digit : (s : Sequence) (text : List ℕ) (c : ℕ) → Holds s text → Continues text c → s.length < 256 → 48 ≤ c → c ≤ 57
-    → Holds (with_digit (record s { length = s.length + 1 }) (c - 48)) (text ++ c ∷ [])
-kept-digit s text c h other below from to = ⊎_elim low high (cases_lt s.place 16)
+pub kept-digit : (s n : Sequence) (text : List ℕ) (c : ℕ) → Holds s text → s.length < 256 → 48 ≤ c → c ≤ 57
+    → n.private ≡ s.private → n.length ≡ s.length + 1 → n.place ≡ s.place → n.params.count ≡ s.params.count
+    → n.params.values ≡ with_digit s.place (c - 48) s.params.values → Holds n (text ++ c ∷ [])
+kept-digit s n text c h below from to same_mark longer_by_one same_place same_count new_values = ⊎_elim low high (cases_lt s.place 16)
   where
     t : List ℕ
     t = without_mark text
@@ -47,7 +48,7 @@ kept-digit s text c h other below from to = ⊎_elim low high (cases_lt s.place 
     part = last-part (without_mark text)
 
     keeps : KeepsMark text (c ∷ [])
-    keeps = keeps-mark text c [] other
+    keeps = keeps-mark text c [] (λ none eq. absurd (omega arith))
 
     isnt : is_separator c ≡ false
     isnt = grind (arith, nat_tests)
@@ -55,7 +56,7 @@ kept-digit s text c h other below from to = ⊎_elim low high (cases_lt s.place 
     parts-is : parts (without_mark (text ++ c ∷ [])) ≡ part.front ++ (part.last ++ c ∷ []) ∷ []
     parts-is = ap parts keeps.others ∙ part.more c isnt
 
-    old-is : filled (part.front ++ part.last ∷ []) ≡ s.values
+    old-is : filled (part.front ++ part.last ∷ []) ≡ s.params.values
     old-is = ap filled (sym part.is) ∙ h.values
 
     plain-is : list_all is_plain (without_mark (text ++ c ∷ [])) ≡ true
@@ -75,36 +76,45 @@ kept-digit s text c h other below from to = ⊎_elim low high (cases_lt s.place 
         one-less : (n : ℕ) → n + 1 - 1 ≡ n
         one-less n = omega arith
 
-    holds : (values : List ℕ) → filled (part.front ++ (part.last ++ c ∷ []) ∷ []) ≡ values → Holds (record s { length = s.length + 1; values = values }) (text ++ c ∷ [])
-    holds values is = record {
-      long = longer text c ∙ ap (λ n. n + 1) h.long;
+    holds : filled (part.front ++ (part.last ++ c ∷ []) ∷ []) ≡ n.params.values → Holds n (text ++ c ∷ [])
+    holds is = record {
+      long = longer text c ∙ ap (λ k. k + 1) h.long ∙ sym longer_by_one;
       few = omega (arith, longer text c, h.long);
-      mark = keeps.mark ∙ h.mark;
+      mark = keeps.mark ∙ h.mark ∙ sym same_mark;
       plain = plain-is;
-      place = new-place;
+      place = same_place ∙ new-place;
       values = ap filled parts-is ∙ is;
+      count = same_count ∙ h.count ∙ ap (λ k. min 16 (k + 1)) (sym same_place);
     }
 
-    low : s.place < 16 → Holds (with_digit (record s { length = s.length + 1 }) (c - 48)) (text ++ c ∷ [])
+    low : s.place < 16 → Holds n (text ++ c ∷ [])
     low lt =
         let at : s.place ≡ length part.front = omega (arith, place-is) in
-        let old : slice_index s.values s.place ≡ value part.last =
-        ap (slice_index s.values) at ∙ ap (λ vs. slice_index vs (length part.front)) (sym old-is) ∙ filled-at part.front part.last (omega (arith, at)) in
-        let new : filled (part.front ++ (part.last ++ c ∷ []) ∷ []) ≡ set s.values s.place (next_value (slice_index s.values s.place) (c - 48)) =
+        let old : slice_index s.params.values s.place ≡ value part.last =
+        ap (slice_index s.params.values) at ∙ ap (λ vs. slice_index vs (length part.front)) (sym old-is) ∙ filled-at part.front part.last (omega (arith, at)) in
+        let new : filled (part.front ++ (part.last ++ c ∷ []) ∷ []) ≡ set s.params.values s.place (next_value (slice_index s.params.values s.place) (c - 48)) =
         filled-set part.front part.last (part.last ++ c ∷ [])
         ∙ ap (λ vs. set vs (length part.front) (value (part.last ++ c ∷ []))) old-is
-        ∙ ap (λ i. set s.values i (value (part.last ++ c ∷ []))) (sym at)
-        ∙ ap (set s.values s.place) (value-more part.last c from to ∙ ap (λ v. next_value v (c - 48)) (sym old)) in
-        subst (λ q. Holds q (text ++ c ∷ [])) (sym (cond-true _ _ _ (lt-ltb _ _ lt))) (holds _ new)
+        ∙ ap (λ i. set s.params.values i (value (part.last ++ c ∷ []))) (sym at)
+        ∙ ap (set s.params.values s.place) (value-more part.last c from to ∙ ap (λ v. next_value v (c - 48)) (sym old)) in
+        holds (new ∙ sym (new_values ∙ cond-true _ _ _ (lt-ltb _ _ lt)))
 
-    high : 16 ≤ s.place → Holds (with_digit (record s { length = s.length + 1 }) (c - 48)) (text ++ c ∷ [])
+    high : 16 ≤ s.place → Holds n (text ++ c ∷ [])
     high past =
-        subst (λ q. Holds q (text ++ c ∷ [])) (sym (cond-false _ _ _ (le-ltb _ _ past)))
-        (holds s.values (filled-past part.front (part.last ++ c ∷ []) part.last (omega (arith, place-is)) ∙ old-is))
+        holds (filled-past part.front (part.last ++ c ∷ []) part.last (omega (arith, place-is)) ∙ old-is ∙ sym (new_values ∙ cond-false _ _ _ (le-ltb _ _ past)))
 
-kept-separator : (s : Sequence) (text : List ℕ) → Holds s text → s.length < 256
-    → Holds (with_separator (record s { length = s.length + 1 })) (text ++ 59 ∷ [])
-kept-separator s text h below = holds (min 16 (s.place + 1)) (omega (arith, h.place, some, long))
+pub kept-separator : (s n : Sequence) (text : List ℕ) → Holds s text → s.length < 256
+    → n.private ≡ s.private → n.length ≡ s.length + 1 → n.place ≡ min 16 (s.place + 1) → n.params.count ≡ min 16 (n.place + 1)
+    → n.params.values ≡ s.params.values → Holds n (text ++ 59 ∷ [])
+kept-separator s n text h below same_mark longer_by_one next_place counted same_values = record {
+  long = longer text 59 ∙ ap (λ k. k + 1) h.long ∙ sym longer_by_one;
+  few = omega (arith, longer text 59, h.long);
+  mark = keeps.mark ∙ h.mark ∙ sym same_mark;
+  plain = ap (list_all is_plain) keeps.others ∙ list_all-append is_plain (without_mark text) (59 ∷ []) ∙ and_from _ _ h.plain refl;
+  place = omega (arith, next_place, h.place, some, long);
+  values = ap filled parts-is ∙ filled-next (parts (without_mark text)) ∙ h.values ∙ sym same_values;
+  count = counted;
+}
   where
     part : LastPart (without_mark text)
     part = last-part (without_mark text)
@@ -120,20 +130,6 @@ kept-separator s text h below = holds (min 16 (s.place + 1)) (omega (arith, h.pl
 
     long : length (parts (without_mark (text ++ 59 ∷ []))) ≡ length (parts (without_mark text)) + 1
     long = ap length parts-is ∙ length-append (parts (without_mark text)) ([] ∷ [])
-
-    holds : (place : ℕ) → place ≡ min 16 (length (parts (without_mark (text ++ 59 ∷ []))) - 1) → Holds (record s { length = s.length + 1; place = place }) (text ++ 59 ∷ [])
-    holds place is = record {
-      long = longer text 59 ∙ ap (λ n. n + 1) h.long;
-      few = omega (arith, longer text 59, h.long);
-      mark = keeps.mark ∙ h.mark;
-      plain = ap (list_all is_plain) keeps.others ∙ list_all-append is_plain (without_mark text) (59 ∷ []) ∙ and_from _ _ h.plain refl;
-      place = is;
-      values = ap filled parts-is ∙ filled-next (parts (without_mark text)) ∙ h.values;
-    }
-
-pub kept-at : (s : Sequence) (text : List ℕ) (c : ℕ) → Holds s text → s.length < 256 → c ≡ 59
-    → Holds (with_separator (record s { length = s.length + 1 })) (text ++ c ∷ [])
-kept-at s text c h below is = subst (λ d. Holds (with_separator (record s { length = s.length + 1 })) (text ++ d ∷ [])) (sym is) (kept-separator s text h below)
 
 -- ---- sequences without effect
 
@@ -160,8 +156,8 @@ control-is s text last h =
     let part = last-part t in
     let some = last-place t part in
     let effect : has_effect text ≡ true = and_from _ _ (le-leb _ _ h.few) h.plain in
-    let counted : min 16 (length (parts t)) ≡ min 16 (s.place + 1) = omega (arith, h.place, some) in
+    let counted : min 16 (length (parts t)) ≡ s.params.count = omega (arith, h.place, h.count, some) in
     cond-true _ _ _ effect
     ∙ ap (λ b. Csi b (params_of t) last ∷ []) h.mark
     ∙ ap (λ vs. Csi s.private (record { values = vs; count = min 16 (length (parts t)) }) last ∷ []) h.values
-    ∙ ap (λ n. Csi s.private (record { values = s.values; count = n }) last ∷ []) counted
+    ∙ ap (λ n. Csi s.private (record { values = s.params.values; count = n }) last ∷ []) counted

@@ -14,7 +14,8 @@ pub record Holds (s : Sequence) (text : List ℕ) : Type 0 where
   pub mark : private_mark text ≡ s.private
   pub plain : list_all is_plain (without_mark text) ≡ true
   pub place : s.place ≡ min 16 (length (parts (without_mark text)) - 1)
-  pub values : (params_of (without_mark text)).values ≡ s.values
+  pub values : (params_of (without_mark text)).values ≡ s.params.values
+  pub count : s.params.count ≡ min 16 (s.place + 1)
 
 -- the text at the start
 abbrev pub opening : Bool → List ℕ
@@ -32,14 +33,14 @@ IsVoid text = (more : List ℕ) → has_effect (text ++ more) ≡ false
 abbrev pub next_value : ℕ → ℕ → ℕ
 next_value old digit = min 9999 ((if old == default then 0 else old) * 10 + digit)
 
--- past the sixteenth parameter nothing is kept
-abbrev pub with_digit : Sequence → ℕ → Sequence
-with_digit s digit = if nat_lt s.place 16 then record s { values = slice_set s.values s.place (next_value (slice_index s.values s.place) digit) } else s
+-- the values with one more digit at a place; past the sixteenth nothing is kept
+abbrev pub with_digit : ℕ → ℕ → List ℕ → List ℕ
+with_digit place digit values = if nat_lt place 16 then slice_set values place (next_value (slice_index values place) digit) else values
 
--- the place of the next parameter
-abbrev pub with_separator : Sequence → Sequence
-with_separator s = record s { place = min 16 (s.place + 1) }
+-- a digit or `;`
+abbrev pub IsPlain : ℕ → Type 0
+IsPlain c = is_plain c ≡ true
 
 -- the control sequence with this final character
 abbrev pub csi_of : Sequence → ℕ → Control
-csi_of s last = Csi s.private (record { values = s.values; count = min 16 (s.place + 1) }) last
+csi_of s last = Csi s.private s.params last

@@ -1,5 +1,5 @@
 -- What a state stands for: what the head of the characters so far finds, whatever follows them.
-use Rattle.std.specs.Prelude.{◌≡◌, ◌-◌, ◌<◌, ◌==◌, ℕ, List, [], ◌∷◌, ◌++◌, Some, None, true, false, if◌then◌else◌}
+use Rattle.std.specs.Prelude.{◌≡◌, ◌+◌, ◌-◌, ◌≤◌, ◌<◌, ◌==◌, ℕ, List, [], ◌∷◌, ◌++◌, All, length, take, Some, None, true, false, if◌then◌else◌}
 use Rattle.ecma_parser.specs.declared.machine.Machine.{Machine}
 use Rattle.ecma_parser.specs.declared.sequence.Sequence.{Sequence}
 use Rattle.ecma_parser.specs.declared.state.Completed.{Completed}
@@ -65,3 +65,12 @@ pub record Gives (cs : List ℕ) (given : List Control) (m : Machine) : Type 0 w
   pub rest : List ℕ
   pub is : read head_control cs ≡ (given, rest)
   pub stands : Stands m rest
+
+-- `ESC [` and perhaps `?` are so many bytes, and the sequence holds what was read of its parameters
+pub record Opened (count : ℕ) (bytes : List ℕ) (s : Sequence) : Type 0 where
+  pub within : count ≤ length bytes
+  pub text : List ℕ
+  pub long : count ≡ length text + 2
+  pub holds : Holds s text
+  pub reads : ReadsAs (take count bytes) (csi_after text)
+  pub ascii : All (λ b. b ≤ 0x7F) (take count bytes)

@@ -1,7 +1,8 @@
 //! The kinds of characters in control functions (ECMA-48, sections 5.2 to 5.6).
-ghost use Rattle.std.specs.Prelude.{◌≡◌, [], IfSome};
+ghost use Rattle.std.specs.Prelude.{◌≡◌, [], IfSome, IsTrue};
 ghost use Rattle.std.specs.List.{cons_option};
 ghost use Rattle.gate_model.specs.terminal.Controls as model;
+ghost use Rattle.ecma_parser.specs.Begun.{BeginsSequence};
 
 use gate_model::Control;
 
@@ -65,4 +66,11 @@ pub fn ends_string(c: char, by_bell: bool) -> bool
     ensures { result ≡ model.ends_string by_bell c }
 {
     c == CAN || c == SUB || (by_bell && c == BEL)
+}
+
+/// The bytes begin with a control sequence's `ESC [`.
+pub fn begins_sequence(piece: &[u8]) -> bool
+    ensures { IsTrue result → BeginsSequence piece.now }
+{
+    2 <= piece.len() && piece[0] == 0x1B && piece[1] == b'['
 }

@@ -23,6 +23,7 @@ mod machine;
 mod parser;
 mod sequence;
 mod state;
+mod values;
 
 pub use parser::{Pair, Parser};
 pub use state::Completed;

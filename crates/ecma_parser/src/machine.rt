@@ -1,15 +1,16 @@
 ghost use Rattle.std.specs.Prelude.{◌≡◌, ◌++◌, ◌∷◌, [], ◌<◌, ◌≤◌, All, length, slice_index, take, ℕ, List, None, IsTrue, ◌↔◌, true, false, IfSome};
 ghost use Rattle.std.specs.List.{cons_option};
 ghost use Rattle.gate_model.specs.terminal.Controls.{HasFewParameters, csi_after, escape_after, head_osc, head_palette, head_string, string_escape};
+ghost use Rattle.ecma_parser.specs.Begun.{BeginsSequence};
 ghost use Rattle.ecma_parser.specs.Sequence.{Holds, Continues};
 
 use crate::kinds::{
-    begins_string, control_of, ends_string, is_csi_final, is_escape_final, is_intermediate,
-    is_parameter,
+    begins_sequence, begins_string, control_of, ends_string, is_csi_final, is_escape_final,
+    is_intermediate, is_parameter,
 };
 use crate::sequence::Sequence;
 use crate::state::{Completed, State};
-use gate_model::Control;
+use gate_model::{Control, Params};
 
 const ESC: char = '\x1B';
 
@@ -22,7 +23,7 @@ pub struct Machine {
 
 impl Machine {
     ghost use Rattle.ecma_parser.specs.declared.state.State.TheVariants.{Ground};
-    ghost use Rattle.ecma_parser.specs.State.{Follows, Stands, Gives, control_by, csi_void, csi_void_end, palette_escape};
+    ghost use Rattle.ecma_parser.specs.State.{Follows, Opened, Stands, Gives, control_by, csi_void, csi_void_end, palette_escape};
 
     /// A machine that has read nothing.
     pub fn new() -> Machine
@@ -62,8 +63,56 @@ impl Machine {
         }
     }
 
-    /// Reads bytes below 0x80 until one completes something, and answers how many it has read.
+    /// Reads bytes below 0x80 until one completes something or comes seldom, and answers how many it has read.
     pub fn read_ascii(&mut self, piece: &[u8]) -> (Completed, usize)
+        ensures within { result.1 ≤ length piece.now }
+        ensures progress { 0 < length piece.now → slice_index piece.now 0 < 0x80 → 0 < result.1 }
+        ensures ascii { All (λ b. b ≤ 0x7F) (take result.1 piece.now) }
+        ensures gives { (rest : List ℕ) → Stands self.old rest → Gives (rest ++ take result.1 piece.now) (control_by result.0 self.new.sequence) self.new }
+    {
+        if self.is_ground() && begins_sequence(piece) {
+            return self.read_sequence(piece);
+        }
+        self.read_each(piece)
+    }
+
+    // Reads a control sequence from its ESC on, to its end or to what comes seldom in one.
+    fn read_sequence(&mut self, piece: &[u8]) -> (Completed, usize)
+        requires begins { BeginsSequence piece.now }
+        ensures within { result.1 ≤ length piece.now }
+        ensures progress { 0 < result.1 }
+        ensures ascii { All (λ b. b ≤ 0x7F) (take result.1 piece.now) }
+        ensures gives { Gives (take result.1 piece.now) (control_by result.0 self.new.sequence) self.new }
+    {
+        let start = self.open(piece);
+        let at = start + self.sequence.push_front(&piece[start..]);
+        self.state = if at == 2 {
+            State::CsiEntry
+        } else {
+            State::CsiParam
+        };
+        if at == piece.len() || !is_csi_final(piece[at] as char) {
+            return (Completed::Nothing, at);
+        }
+        self.state = State::Ground;
+        (Completed::ControlSequence(piece[at]), at + 1)
+    }
+
+    // Reads `ESC [`, and `?` where that comes next, and answers how many bytes these are.
+    fn open(&mut self, piece: &[u8]) -> usize
+        requires begins { BeginsSequence piece.now }
+        ensures { Opened result piece.now self.new.sequence }
+    {
+        if 3 <= piece.len() && piece[2] == b'?' {
+            self.sequence = Sequence::new(true);
+            return 3;
+        }
+        self.sequence = Sequence::new(false);
+        2
+    }
+
+    // Reads bytes below 0x80, one after the other, until one completes something, and answers how many it has read.
+    fn read_each(&mut self, piece: &[u8]) -> (Completed, usize)
         ensures within { result.1 ≤ length piece.now }
         ensures progress { 0 < length piece.now → slice_index piece.now 0 < 0x80 → 0 < result.1 }
         ensures ascii { All (λ b. b ≤ 0x7F) (take result.1 piece.now) }
@@ -80,6 +129,21 @@ impl Machine {
             }
         }
         (Completed::Nothing, piece.len())
+    }
+
+    /// Whether the control sequence that was completed last is private.
+    pub fn is_private(&self) -> bool
+        ensures { result ≡ self.now.sequence.private }
+    {
+        self.sequence.is_private()
+    }
+
+    /// Its parameters, lent.
+    pub fn params(&self) -> &Params
+        ensures params { result.now ≡ self.now.sequence.params }
+        ensures few { result.now.count ≤ 16 }
+    {
+        self.sequence.params()
     }
 
     /// The control function that the last character completed.

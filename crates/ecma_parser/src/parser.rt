@@ -8,7 +8,7 @@ ghost use Rattle.gate_model.specs.terminal.Printing.{IsPrintable};
 use crate::held::Held;
 use crate::machine::Machine;
 use crate::state::Completed;
-use gate_model::Control;
+use gate_model::{Control, Params};
 
 /// The control functions that one byte completes, in order.
 #[derive(Clone, Copy, Debug, PartialEq, Eq)]
@@ -130,6 +130,21 @@ impl Parser {
         ensures few { IfSome result HasFewParameters }
     {
         self.machine.control(completed)
+    }
+
+    /// Whether the control sequence that was completed last is private.
+    pub fn is_private(&self) -> bool
+        ensures { result ≡ self.now.machine.sequence.private }
+    {
+        self.machine.is_private()
+    }
+
+    /// The parameters of the control sequence that was completed last, lent.
+    pub fn params(&self) -> &Params
+        ensures params { result.now ≡ self.now.machine.sequence.params }
+        ensures few { result.now.count ≤ 16 }
+    {
+        self.machine.params()
     }
 
     // Reads a byte that is a character by itself.

@@ -1,6 +1,6 @@
 use Rattle.std.proofs.Common.{ℕ, List, [], ◌++◌, ◌≤◌, All, take}
 use Rattle.ecma_parser.specs.State.{Stands, Gives}
-use Rattle.ecma_parser.proofs.machine.Machine.read_ascii.Given as goal
+use Rattle.ecma_parser.proofs.machine.Machine.read_each.Given as goal
 
 -- the bytes before the place are below 0x80, and complete nothing
 abbrev pub invariant-loop-i : goal.invariant-loop-i
