@@ -3,13 +3,13 @@ use Rattle.std.specs.Prelude.{◌≡◌, ◌+◌, ◌-◌, ◌≤◌, ◌<◌, �
 use Rattle.ecma_parser.specs.declared.machine.Machine.{Machine}
 use Rattle.ecma_parser.specs.declared.sequence.Sequence.{Sequence}
 use Rattle.ecma_parser.specs.declared.state.Completed.{Completed}
-use Rattle.ecma_parser.specs.declared.state.Completed.TheVariants.{Nothing, Character, EscapeSequence, ControlSequence}
+use Rattle.ecma_parser.specs.declared.state.Completed.TheVariants.{Nothing, Text, ControlCharacter, EscapeSequence, ControlSequence}
 use Rattle.ecma_parser.specs.declared.state.State.{State}
 use Rattle.ecma_parser.specs.declared.state.State.TheVariants.{Ground, Escape, EscapeIntermediate, CsiEntry, CsiParam, CsiIntermediate, CsiIgnore, OscEntry, OscPalette, OscPaletteEscape, OscString, SosPmApcString, StringEscape}
 use Rattle.ecma_parser.specs.Sequence.{Holds, csi_of}
 use Rattle.gate_model.specs.declared.control.Control.{Control}
-use Rattle.gate_model.specs.declared.control.Control.TheVariants.{Esc}
-use Rattle.gate_model.specs.terminal.Controls.{Found, after_while, ended_by, no_control, is_parameter, is_intermediate, is_csi_final, csi_after, string_escape, head_string, head_palette, head_osc, escape_after, control_of, head_control}
+use Rattle.gate_model.specs.declared.control.Control.TheVariants.{Print, Code, Esc}
+use Rattle.gate_model.specs.terminal.Controls.{Found, after_while, ended_by, no_control, is_parameter, is_intermediate, is_csi_final, csi_after, string_escape, head_string, head_palette, head_osc, escape_after, head_control}
 use Rattle.gate_model.specs.text.Reading.{read}
 
 -- within a control sequence without effect: from its intermediates on
@@ -56,7 +56,8 @@ Stands m rest = StandsFor m.state m.sequence rest
 -- the control functions of what is completed, with the parameters that came before it
 abbrev pub control_by : Completed → Sequence → List Control
 control_by Nothing s = []
-control_by (Character c) s = control_of c
+control_by (Text c) s = Print c ∷ []
+control_by (ControlCharacter code) s = Code code ∷ []
 control_by (EscapeSequence last) s = Esc last ∷ []
 control_by (ControlSequence last) s = csi_of s last ∷ []
 

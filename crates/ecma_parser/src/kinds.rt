@@ -1,10 +1,11 @@
 //! The kinds of characters in control functions (ECMA-48, sections 5.2 to 5.6).
-ghost use Rattle.std.specs.Prelude.{◌≡◌, [], IfSome, IsTrue};
-ghost use Rattle.std.specs.List.{cons_option};
+ghost use Rattle.std.specs.Prelude.{◌≡◌, IsTrue};
 ghost use Rattle.gate_model.specs.terminal.Controls as model;
+ghost use Rattle.ecma_parser.specs.declared.sequence.Sequence.{Sequence};
 ghost use Rattle.ecma_parser.specs.Begun.{BeginsSequence};
+ghost use Rattle.ecma_parser.specs.State.{control_by};
 
-use gate_model::Control;
+use crate::state::Completed;
 
 const BEL: char = '\x07';
 
@@ -12,17 +13,16 @@ const CAN: char = '\x18';
 
 const SUB: char = '\x1A';
 
-/// What a character outside a sequence gives; DEL and the C1 set have no effect. ESC isn't one.
-pub fn control_of(c: char) -> Option<Control>
-    ensures control { model.control_of c ≡ cons_option result [] }
-    ensures few { IfSome result model.HasFewParameters }
+/// What a character outside a sequence completes; DEL and the C1 set have no effect. ESC isn't one.
+pub fn completed_by(c: char) -> Completed
+    ensures { (s : Sequence) → control_by result s ≡ model.control_of c }
 {
     if c < ' ' {
-        Some(Control::Code(c as u8))
+        Completed::ControlCharacter(c as u8)
     } else if matches!(c, '\x7F'..='\u{9F}') {
-        None
+        Completed::Nothing
     } else {
-        Some(Control::Print(c))
+        Completed::Text(c)
     }
 }
 

@@ -5,7 +5,7 @@ ghost use Rattle.ecma_parser.specs.Begun.{BeginsSequence};
 ghost use Rattle.ecma_parser.specs.Sequence.{Holds, Continues};
 
 use crate::kinds::{
-    begins_sequence, begins_string, control_of, ends_string, is_csi_final, is_escape_final,
+    begins_sequence, begins_string, completed_by, ends_string, is_csi_final, is_escape_final,
     is_intermediate, is_parameter,
 };
 use crate::sequence::Sequence;
@@ -154,7 +154,8 @@ impl Machine {
     {
         match completed {
             Completed::Nothing => None,
-            Completed::Character(c) => control_of(c),
+            Completed::Text(c) => Some(Control::Print(c)),
+            Completed::ControlCharacter(code) => Some(Control::Code(code)),
             Completed::EscapeSequence(last) => Some(Control::Esc(last)),
             Completed::ControlSequence(last) => Some(self.sequence.control(last)),
         }
@@ -183,7 +184,7 @@ impl Machine {
             return Completed::Nothing;
         }
         self.state = State::Ground;
-        Completed::Character(c)
+        completed_by(c)
     }
 
     fn escape(&mut self, c: char) -> Completed
