@@ -119,20 +119,19 @@ text_showed old s bytes text a (n, within, is) some completes reads printed =
 
 -- ---- a control function
 
-pub next_showed : (old : Host) (p : Parser) (v : Terminal) (control : Option Control) (completed : List Control) (bytes a d : List ℕ) (n : ℕ) → 1 ≤ n → n ≤ length bytes
+pub next_showed : (old : Host) (p : Parser) (v : Terminal) (completed : List Control) (bytes a d : List ℕ) (n : ℕ) → 1 ≤ n → n ≤ length bytes
     → ((heard : List ℕ) → HasRead old.parser heard → controls (characters (heard ++ take n bytes)) ≡ controls (characters heard) ++ completed)
     → ((heard : List ℕ) → HasRead old.parser heard → HasRead p (heard ++ take n bytes))
-    → completed ≡ cons_option control []
-    → v ≡ after_controls old.screen (cons_option control []) → d ≡ a ++ doubled (reports_from old.screen (cons_option control []))
+    → v ≡ after_controls old.screen completed → d ≡ a ++ doubled (reports_from old.screen completed)
     → ShowedSome old record { wire = old.wire; options = old.options; parser = p; screen = v } n bytes a d
-next_showed old p v control completed bytes a d n some within completes reads is screen said = record {
+next_showed old p v completed bytes a d n some within completes reads screen said = record {
   some = some;
   within = within;
   showed = record {
     parser = reads;
     shows = λ heard h. record {
-      completed = cons_option control [];
-      completes = completes heard h ∙ ap (λ (cs : List Control). controls (characters heard) ++ cs) is;
+      completed = completed;
+      completes = completes heard h;
       screen = screen;
       appended = said;
     };

@@ -15,7 +15,7 @@ use crate::host::Host;
 use ecma_parser::{Completed, Parser};
 use gate_model::{Control, NoMemory};
 use telnet_wire::escape;
-use vt_screen::Screen;
+use vt_screen::{Reply, Screen};
 
 impl Host {
     ghost use Rattle.desk_core.specs.Host.{Showed, ShowedSome};
@@ -58,8 +58,7 @@ impl Host {
         if count == 0 {
             return self.show_byte(bytes, into);
         }
-        let control = self.parser.control(completed);
-        apply(&mut self.screen, control, into)?;
+        apply_completed(&self.parser, &mut self.screen, completed, into)?;
         Ok(count)
     }
 
@@ -91,6 +90,50 @@ fn read_next(parser: &mut Parser, bytes: &[u8]) -> (Completed, usize)
     }
 }
 
+// Does what was completed last says, and appends its report. The parameters of a control sequence stay where they were
+// read.
+fn apply_completed(
+    parser: &Parser,
+    screen: &mut Screen,
+    completed: Completed,
+    into: &mut Vec<u8>,
+) -> Result<(), NoMemory>
+    ensures screen { screen.new ≡ after_controls screen.old (control_by completed parser.now.machine.sequence) }
+    ensures appended { OnOk result (into.new.items ≡ into.old.items ++ doubled (reports_from screen.old (control_by completed parser.now.machine.sequence))) }
+{
+    match completed {
+        Completed::Nothing => Ok(()),
+        Completed::Text(c) => {
+            screen.print(c);
+            Ok(())
+        }
+        Completed::ControlCharacter(code) => {
+            screen.apply_character(code);
+            Ok(())
+        }
+        Completed::EscapeSequence(last) => {
+            screen.apply_final(last);
+            Ok(())
+        }
+        Completed::ControlSequence(last) => {
+            let reply = screen.apply_control(parser.is_private(), parser.params(), last);
+            report(&reply, into)
+        }
+    }
+}
+
+// Appends a report, if there is one.
+#[inline]
+fn report(reply: &Reply, into: &mut Vec<u8>) -> Result<(), NoMemory>
+    ensures { OnOk result (into.new.items ≡ into.old.items ++ doubled reply.now) }
+{
+    let bytes = reply.as_slice();
+    if bytes.is_empty() {
+        return Ok(());
+    }
+    escape(bytes, into)
+}
+
 // Does what the control function says, if there is one, and appends its report.
 fn apply(screen: &mut Screen, control: Option<Control>, into: &mut Vec<u8>) -> Result<(), NoMemory>
     requires { IfSome control HasFewParameters }
@@ -101,5 +144,5 @@ fn apply(screen: &mut Screen, control: Option<Control>, into: &mut Vec<u8>) -> R
         return Ok(());
     };
     let reply = screen.apply(&control);
-    escape(reply.as_slice(), into)
+    report(&reply, into)
 }

@@ -9,7 +9,7 @@ use gate_model::{Control, NoMemory, Shown, Token};
 use std::alloc::Global;
 use telnet_options::Options;
 use telnet_wire::{Part, Wire, escape};
-use vt_screen::Screen;
+use vt_screen::{Reply, Screen};
 
 const COLS: u16 = 80;
 
@@ -101,8 +101,7 @@ impl Host {
         if count == 0 {
             return self.show_byte(bytes);
         }
-        let control = self.parser.control(completed);
-        self.apply(control)?;
+        self.apply_completed(completed)?;
         Ok(count)
     }
 
@@ -116,6 +115,31 @@ impl Host {
         Ok(1)
     }
 
+    fn apply_completed(&mut self, completed: Completed) -> Result<(), NoMemory> {
+        match completed {
+            Completed::Nothing => Ok(()),
+            Completed::Text(c) => {
+                self.screen.print(c);
+                Ok(())
+            }
+            Completed::ControlCharacter(code) => {
+                self.screen.apply_character(code);
+                Ok(())
+            }
+            Completed::EscapeSequence(last) => {
+                self.screen.apply_final(last);
+                Ok(())
+            }
+            Completed::ControlSequence(last) => {
+                let private = self.parser.is_private();
+                let reply = self
+                    .screen
+                    .apply_control(private, self.parser.params(), last);
+                report(&reply, &mut self.replies)
+            }
+        }
+    }
+
     fn apply(&mut self, control: Option<Control>) -> Result<(), NoMemory>
         requires { IfSome control HasFewParameters }
     {
@@ -123,8 +147,17 @@ impl Host {
             return Ok(());
         };
         let reply = self.screen.apply(&control);
-        escape(reply.as_slice(), &mut self.replies)
+        report(&reply, &mut self.replies)
     }
+}
+
+#[inline]
+fn report(reply: &Reply, into: &mut Vec<u8>) -> Result<(), NoMemory> {
+    let bytes = reply.as_slice();
+    if bytes.is_empty() {
+        return Ok(());
+    }
+    escape(bytes, into)
 }
 
 fn read_next(parser: &mut Parser, bytes: &[u8]) -> (Completed, usize)

@@ -12,6 +12,6 @@ returns-then-count-eq0 c = IfOk-weaker c.show_byte.result _ _
 pub returns : goal.returns
 returns c =
     let read = c.read_next-completed in
-    next_showed c.args.self.now read.new.parser c.apply.new.screen c.control-control.result (control_by read.result.0 read.new.parser.machine.sequence)
-    c.args.bytes.now c.args.into.now.items c.apply.new.into.items read.result.1 (omega (arith, c.if-count-eq0.false)) read.ensures.within
-    read.ensures.controls read.ensures.state c.control-control.ensures.control c.apply.ensures.screen c.in_ok-apply.ensures.appended
+    next_showed c.args.self.now read.new.parser c.apply_completed.new.screen (control_by read.result.0 read.new.parser.machine.sequence)
+    c.args.bytes.now c.args.into.now.items c.apply_completed.new.into.items read.result.1 (omega (arith, c.if-count-eq0.false)) read.ensures.within
+    read.ensures.controls read.ensures.state c.apply_completed.ensures.screen c.in_ok-apply_completed.ensures.appended
