@@ -1,6 +1,7 @@
 -- The longest end within the limits: it is what is left when the oldest frames are taken away while there are too many.
-use Rattle.std.proofs.Common.{◌≡◌, ℕ, ◌+◌, ◌≤◌, List, [], ◌∷◌, ◌++◌, length, Bool, true, false, ◌&&◌, refl, ap, sym, ◌∙◌, subst, arith, length-append}
+use Rattle.std.proofs.Common.{◌≡◌, ℕ, ◌+◌, ◌<◌, ◌≤◌, List, [], ◌∷◌, ◌++◌, length, Option, None, Some, Bool, true, false, ◌&&◌, refl, ap, sym, ◌∙◌, subst, arith, length-append}
 use Rattle.std.specs.Prelude.{nat_le, if◌then◌else◌}
+use Rattle.std.specs.List.{last_or}
 use Rattle.std.proofs.lemmas.Bool.Decides.{nat_tests}
 use Rattle.gate_model.specs.Limits.{most_kept_frames, most_kept_text}
 use Rattle.display_history.specs.Keeping.{text_bytes, may_stay, kept_end, last_stamp, HistoryState}
@@ -63,6 +64,33 @@ kept_end-few (f ∷ fs) = cases (may_stay (f ∷ fs)) refl (kept_end-few fs)
     cases : (b : Bool) → may_stay (f ∷ fs) ≡ b → Few (kept_end fs) → Few (kept_end (f ∷ fs))
     cases true e more = subst Few (sym (kept_end-stays f fs e)) (stayed (f ∷ fs) e)
     cases false e more = subst Few (sym (kept_end-drops f fs e)) more
+
+-- ---- the newest frame
+
+last_more : (o : Option (ℕ × List ℕ)) (fs : List (ℕ × List ℕ)) (f : ℕ × List ℕ) → last_or o (fs ++ f ∷ []) ≡ Some f
+last_more o [] f = refl
+last_more o (g ∷ fs) f = last_more (Some g) fs f
+
+pub newest_kept : (fs : List (ℕ × List ℕ)) (f : ℕ × List ℕ) → length f.1 ≤ most_kept_text → last_or None (kept_end (fs ++ f ∷ [])) ≡ Some f
+newest_kept [] f le = ap (last_or None) (kept_end-stays f [] (stays (f ∷ []) (omega arith) (omega (arith, le))))
+newest_kept (g ∷ fs) f le = cases (may_stay (g ∷ (fs ++ f ∷ []))) refl (newest_kept fs f le)
+  where
+    cases : (b : Bool) → may_stay (g ∷ (fs ++ f ∷ [])) ≡ b → last_or None (kept_end (fs ++ f ∷ [])) ≡ Some f → last_or None (kept_end (g ∷ (fs ++ f ∷ []))) ≡ Some f
+    cases true e more = ap (last_or None) (kept_end-stays g (fs ++ f ∷ []) e) ∙ last_more None (g ∷ fs) f
+    cases false e more = ap (last_or None) (kept_end-drops g (fs ++ f ∷ []) e) ∙ more
+
+too_long : (fs : List (ℕ × List ℕ)) (f : ℕ × List ℕ) → most_kept_text < length f.1 → may_stay (fs ++ f ∷ []) ≡ false
+too_long fs f lt = cases (may_stay (fs ++ f ∷ [])) refl
+  where
+    cases : (b : Bool) → may_stay (fs ++ f ∷ []) ≡ b → may_stay (fs ++ f ∷ []) ≡ false
+    cases false e = e
+    cases true e =
+        let limits = stayed (fs ++ f ∷ []) e in
+        absurd (omega (arith, limits.1, text_bytes-append fs (f ∷ []), lt))
+
+pub none_kept : (fs : List (ℕ × List ℕ)) (f : ℕ × List ℕ) → most_kept_text < length f.1 → kept_end (fs ++ f ∷ []) ≡ []
+none_kept [] f lt = kept_end-drops f [] (too_long [] f lt)
+none_kept (g ∷ fs) f lt = kept_end-drops g (fs ++ f ∷ []) (too_long (g ∷ fs) f lt) ∙ none_kept fs f lt
 
 -- ---- the oldest taken away, while there are too many
 

@@ -1,7 +1,7 @@
 -- Where the frames above a stamp begin, and the frames behind a place.
-use Rattle.std.proofs.Common.{◌≡◌, ℕ, zero, suc, ◌+◌, ◌-◌, ◌<◌, ◌≤◌, List, [], ◌∷◌, ◌++◌, length, take, drop, true, false, ap, sym, ◌∙◌, subst, arith, length-append}
-use Rattle.std.specs.Prelude.{nat_lt, nat_le, slice_index_or, slice_set}
-use Rattle.std.specs.List.{AllAdjacentBelow}
+use Rattle.std.proofs.Common.{◌≡◌, ℕ, zero, suc, ◌+◌, ◌-◌, ◌<◌, ◌≤◌, List, [], ◌∷◌, ◌++◌, length, take, drop, None, true, false, refl, ap, sym, ◌∙◌, subst, arith, length-append}
+use Rattle.std.specs.Prelude.{nat_lt, nat_le, slice_get, slice_index_or, slice_set}
+use Rattle.std.specs.List.{AllAdjacentBelow, last_or}
 use Rattle.std.specs.List.Sorted.{IsPartitionedBy, IsPartitionPoint}
 use Rattle.std.proofs.lemmas.List.Sorted.{IsNonDecreasingBy-from_all_adjacent, IsPartitionedBy-leb}
 use Rattle.std.proofs.lemmas.Bool.Decides.{nat_tests}
@@ -39,6 +39,14 @@ from_place t (f ∷ fs) (suc i) p =
 
 pub rest_whole : (i : ℕ) (fs : List (ℕ × List ℕ)) → take (length fs - i) (drop i fs) ≡ drop i fs
 rest_whole i fs = subst (λ (n : ℕ). take n (drop i fs) ≡ drop i fs) (length-drop i fs) (take-length (drop i fs))
+
+-- the frame at the last place
+pub last_at : (fs : List (ℕ × List ℕ)) → slice_get fs (length fs - 1) ≡ last_or None fs
+last_at [] = refl
+last_at (f ∷ []) = refl
+last_at (f ∷ g ∷ fs) =
+    let place : length (f ∷ g ∷ fs) - 1 ≡ suc (length (g ∷ fs) - 1) = omega arith in
+    ap (slice_get (f ∷ g ∷ fs)) place ∙ last_at (g ∷ fs)
 
 -- the frame at the place is taken away, and something else is put there
 pub taken_away : (fs now : List (ℕ × List ℕ)) (i : ℕ) (f other : ℕ × List ℕ) → drop i fs ≡ now → 0 < length now → f ≡ slice_index_or fs i f → now ≡ f ∷ drop (i + 1) (slice_set fs i other)

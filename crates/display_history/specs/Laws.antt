@@ -1,6 +1,7 @@
 -- The laws about what is kept, which public functions of `laws` prove: what they say of the frames of a session's
 -- history, as gate_model has it.
-use Rattle.std.specs.Prelude.{◌≡◌, ◌↔◌, ℕ, ◌≤◌, List, length, map, IsTrue}
+use Rattle.std.specs.Prelude.{◌≡◌, ◌↔◌, ℕ, ◌<◌, ◌≤◌, List, [], ◌∷◌, ◌++◌, None, Some, length, map, IsTrue}
+use Rattle.std.specs.List.{last_or}
 use Rattle.gate_model.specs.declared.instr.Instr.{Instr}
 use Rattle.gate_model.specs.Limits.{most_kept_frames, most_kept_text}
 use Rattle.gate_model.specs.text.Text.{texts}
@@ -24,6 +25,11 @@ TextsGoAfter = (t : ℕ) (fs : List (ℕ × List Instr)) → texts_of (frames_af
 -- the newest stamp is that of the last frame
 abbrev pub NewestIsLast : Type 0
 NewestIsLast = (s : HistoryState) (all : List (ℕ × List ℕ)) → HasKept s all → newest s ≡ last_stamp 0 all
+
+-- of all frames the newest is the last that is kept; where its text alone is beyond the limit none is kept
+abbrev pub NewestIsKept : Type 0
+NewestIsKept = (fs : List (ℕ × List ℕ)) (f : ℕ × List ℕ)
+    → (length f.1 ≤ most_kept_text → last_or None (kept_end (fs ++ f ∷ [])) ≡ Some f) × (most_kept_text < length f.1 → kept_end (fs ++ f ∷ []) ≡ [])
 
 -- within both limits
 abbrev pub KeptAreFew : Type 0

@@ -1,4 +1,5 @@
-ghost use Rattle.std.specs.Prelude.{◌≡◌, ◌↔◌, ℕ, ◌<◌, List, ◌∷◌, ◌++◌, [], IsTrue, OnErr, OnOk};
+ghost use Rattle.std.specs.Prelude.{◌≡◌, ◌↔◌, ℕ, ◌<◌, List, ◌∷◌, ◌++◌, [], None, option_copied, IsTrue, OnErr, OnOk};
+ghost use Rattle.std.specs.List.{last_or};
 ghost use Rattle.display_history.specs.Keeping.{HasKept, IsHistory, after_stamp, covers, newest, nothing};
 
 use crate::kept::Kept;
@@ -77,5 +78,13 @@ impl History {
         ensures all { (all : List (ℕ × List ℕ)) → HasKept self.now all → result.now ≡ after_stamp stamp all }
     {
         self.frames.after(stamp)
+    }
+
+    /// The newest of the kept frames, lent. It is the newest that was pushed, but for one whose text has more
+    /// than 8,388,608 bytes: then none is kept (this project's own rule).
+    pub fn last(&self) -> Option<&Kept>
+        ensures { option_copied result ≡ last_or None self.now.kept }
+    {
+        self.frames.last()
     }
 }

@@ -1,6 +1,6 @@
 //! The laws about what is kept: each function's contract is a law.
 
-ghost use Rattle.display_history.specs.Laws.{CoversHistory, KeptAreFew, NewestIsLast, TextsAreKept, TextsGoAfter};
+ghost use Rattle.display_history.specs.Laws.{CoversHistory, KeptAreFew, NewestIsKept, NewestIsLast, TextsAreKept, TextsGoAfter};
 
 use gate_model::laws::frames::{covers_by_stamp, kept_are_last};
 
@@ -14,6 +14,12 @@ pub fn texts_are_kept()
 /// The newest stamp is that of the last frame that was pushed, kept or not (this project's own).
 pub fn newest_is_last()
     ensures { NewestIsLast }
+{}
+
+/// The newest frame is the last that is kept, or, where it has more text than is kept, nothing is (this project's
+/// own).
+pub fn newest_is_kept()
+    ensures { NewestIsKept }
 {}
 
 /// At most 256 frames with at most 8,388,608 bytes of text are kept (this project's own).

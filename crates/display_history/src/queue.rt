@@ -1,4 +1,5 @@
-ghost use Rattle.std.specs.Prelude.{◌≡◌, ℕ, ◌+◌, ◌<◌, ◌^◌, ◌∷◌, ◌++◌, [], length, drop, OnErr, OnOk};
+ghost use Rattle.std.specs.Prelude.{◌≡◌, ℕ, ◌+◌, ◌<◌, ◌^◌, ◌∷◌, ◌++◌, [], None, length, drop, option_copied, OnErr, OnOk};
+ghost use Rattle.std.specs.List.{last_or};
 ghost use Rattle.display_history.specs.Keeping.{AreRising, TakesOldest, after_stamp, text_bytes};
 
 use crate::kept::Kept;
@@ -99,5 +100,12 @@ impl Queue {
         let frames = &self.frames[self.front..];
         let first = frames.partition_point(|frame| frame.stamp() <= stamp);
         &frames[first..]
+    }
+
+    /// The newest frame, lent, where there is one.
+    pub(crate) fn last(&self) -> Option<&Kept>
+        ensures { option_copied result ≡ last_or None self.now }
+    {
+        self.frames[self.front..].last()
     }
 }
