@@ -68,7 +68,7 @@ pub has_run_short : (h : History) (es : List Event) (told : List Answer) (mid ne
 has_run_short h es told mid new before held after k same kept =
     subst (λ (d : DeskState). HasRun h es told d before after) (sym same) (subst (λ (w : List ℕ). HasRun h es told mid before w) (sym kept) k)
 
--- it stops, and what was done before stands
-pub run_stops : (h : History) (events : List Event) (count : ℕ) (told : List Answer) (r : Result (List Answer) NoMemory) (new : DeskState) (before after : List ℕ) → IsErr r → HasRun h (take count events) told new before after → RunEnds h events r new before after
-run_stops h events count told (Ok answers) new before after e k = absurd (let w : false ≡ true = e in cc)
-run_stops h events count told (Err want) new before after e k = (count, told, k)
+-- it stops at a call, and what was done before it stands
+pub run_stops : (h : History) (events : List Event) (count : ℕ) (told : List Answer) (r : Result (List Answer) NoMemory) (new : DeskState) (before after : List ℕ) → IsErr r → count < length events → HasRun h (take count events) told new before after → RunEnds h events r new before after
+run_stops h events count told (Ok answers) new before after e at k = absurd (let w : false ≡ true = e in cc)
+run_stops h events count told (Err want) new before after e at k = (count, told, at, k)

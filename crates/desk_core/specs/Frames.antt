@@ -1,5 +1,6 @@
 -- What a desk keeps of the frames (this project's own).
-use Rattle.std.specs.Prelude.{◌≡◌, ℕ, List, [], ◌∷◌, ◌++◌, flat_map}
+use Rattle.std.specs.Prelude.{◌≡◌, ℕ, List, [], ◌∷◌, ◌++◌, None, flat_map, option_map, unwrap_or}
+use Rattle.std.specs.List.{last_or}
 use Rattle.gate_model.specs.declared.instr.Instr.{Instr}
 use Rattle.gate_model.specs.text.Text.{texts}
 use Rattle.gate_model.specs.session.History.{History, frames, newest, newest_frame}
@@ -15,6 +16,10 @@ pub record FramesState : Type 0 where
 -- there was no frame yet
 abbrev pub no_frames : FramesState
 no_frames = record { kept = nothing; newest = []; stamp = 0 }
+
+-- the text of the newest frame: that of the last which is kept, or, where none is, what stands beside them
+abbrev pub newest_text : List (ℕ × List ℕ) → List ℕ → List ℕ
+newest_text kept beside = unwrap_or (option_map (λ f. f.1) (last_or None kept)) beside
 
 -- what is kept are the last of some frames, of which the newest has the stamp
 abbrev pub EndsAt : HistoryState → ℕ → Type 0

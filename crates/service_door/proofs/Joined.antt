@@ -1,5 +1,5 @@
 -- How a session's host lets a viewer join, and what its history tells of the answer.
-use Rattle.std.proofs.Common.{◌≡◌, true, ℕ, List, [], ◌∷◌, ◌++◌, ⊎_elim, Option, Some, None, refl, ap, sym, ◌∙◌, subst}
+use Rattle.std.proofs.Common.{◌≡◌, true, ℕ, List, [], ◌∷◌, ◌++◌, Option, Some, None, refl, ap, sym, ◌∙◌, subst}
 use Rattle.std.specs.Prelude.{Ok, Err}
 use Rattle.std.specs.Option.{option_map}
 use Rattle.gate_model.specs.Sequences.{IsLater}
@@ -17,12 +17,11 @@ use Rattle.gate_model.specs.declared.sharing.Role.{Role}
 use Rattle.turn_lock.specs.declared.view.View.{View}
 use Rattle.guac_handshake.specs.Doors.{IsAbsent, MeetsTold, refused_of}
 use Rattle.guac_handshake.specs.declared.refused.Refused.{Refused}
+use Rattle.guac_handshake.specs.declared.refused.Refused.TheVariants as refused
 use Rattle.shared_desk.specs.Called.{Gives, Turned}
 use Rattle.shared_desk.specs.Hosts.{HasJoined, HostState, JoinEnds}
 use Rattle.shared_desk.specs.declared.place.Place.{Place}
 use Rattle.service_door.specs.Begun.{HasJoinedLast}
-use Rattle.service_door.specs.Doors.{GoesOn}
-use Rattle.service_door.specs.Sessions.{SessionState}
 use Rattle.service_door.proofs.Owned.{join_adds}
 
 -- a turn finds a history after what was seen, and what is seen then begins with that
@@ -104,19 +103,28 @@ meets_refused A v w asked (TooMany l j) before after e = told_rule w asked (TooM
 meets_refused A v w asked (Worn n) before after e = told_rule w asked (Worn n) (ruled v w asked (Worn n) before after e)
 meets_refused A v w asked NoMemory before after e = tt
 
--- a session to which nothing was done goes on
-pub stays : (s : SessionState) → GoesOn s s
-stays s = record { session = refl; seen = ([], refl) }
-
-same_later : (v w : View Entry) → w ≡ v → IsLater v.seen w.seen
-same_later v w is = ([], ap (λ (u : View Entry). u.seen) is)
-
 pub refused_later : (v w : View Entry) (asked : Asked) (r : JoinRefusal) (before after : List ℕ) → JoinEnds v asked (Err r) w before after → IsLater v.seen w.seen
-refused_later v w asked (Closed c) before after e = later_turn v w _ e
-refused_later v w asked Forbidden before after e = later_turn v w _ e
-refused_later v w asked (TooMany l j) before after e = later_turn v w _ e
-refused_later v w asked (Worn n) before after e = later_turn v w _ e
-refused_later v w asked NoMemory before after e = ⊎_elim (λ same. same_later v w same) (λ t. later_turn v w _ t) e
+refused_later v w asked r before after e = later_turn v w _ e
+
+-- want of memory is told where the rules refuse nothing
+unrefused : (v w : View Entry) (asked : Asked) (before after : List ℕ) → JoinEnds v asked (Err NoMemory) w before after → join_refusal w.seen asked ≡ None
+unrefused v w asked before after t =
+    ap (λ (h : History). join_refusal h asked) (ap (λ (u : View Entry). u.seen) t.after ∙ ap (λ (es : List Entry). es ++ t.before) t.did_it.1) ∙ none (join_refusal t.before asked) t.did_it.0
+  where
+    none : (o : Option JoinRefusal) → option_map (λ x. joined_as (Err x)) o ≡ None → o ≡ None
+    none None e = refl
+    none (Some x) e = absurd (let w : Some (joined_as (Err x)) ≡ None = e in cc)
+
+unrefused_as : (v w : View Entry) (asked : Asked) (r : JoinRefusal) (before after : List ℕ) → JoinEnds v asked (Err r) w before after → refused_of r ≡ refused.NoMemory → join_refusal w.seen asked ≡ None
+unrefused_as v w asked (Closed c) before after e is = absurd (let x : refused.Closed ≡ refused.NoMemory = is in cc)
+unrefused_as v w asked Forbidden before after e is = absurd (let x : refused.Forbidden ≡ refused.NoMemory = is in cc)
+unrefused_as v w asked (TooMany l j) before after e is = absurd (let x : refused.TooMany ≡ refused.NoMemory = is in cc)
+unrefused_as v w asked (Worn n) before after e is = absurd (let x : refused.Worn ≡ refused.NoMemory = is in cc)
+unrefused_as v w asked NoMemory before after e is = unrefused v w asked before after e
+
+-- .. of the door's answer
+pub unrefused_by : (v w : View Entry) (asked : Asked) (r : JoinRefusal) (x : Refused) (before after : List ℕ) → x ≡ refused_of r → JoinEnds v asked (Err r) w before after → x ≡ refused.NoMemory → join_refusal w.seen asked ≡ None
+unrefused_by v w asked r x before after is e none = unrefused_as v w asked r before after e (sym is ∙ none)
 
 -- .. of the door's refusal for it
 pub meets_refusal : (A : Type 0) (v w : View Entry) (asked : Asked) (r : JoinRefusal) (x : Refused) (before after : List ℕ) → x ≡ refused_of r → JoinEnds v asked (Err r) w before after → MeetsTold {A = A} w.seen asked (Err x)

@@ -247,7 +247,8 @@ impl<'a, T: Shelf<Session>, H: Helper, B: Bell + Send + 'static> Door for Servic
 }
 
 // Lets a viewer join a session that is there under the key. The text of its ID is taken before the viewer joins, so
-// that one who joined can be told of it.
+// that one who joined can be told of it; where memory is wanting for it the session says whether something else refuses
+// the viewer.
 fn welcome<R: Wait>(
     rt: &R,
     alloc: Global,
@@ -263,7 +264,7 @@ fn welcome<R: Wait>(
     ensures leaves { JoinLeaves role result session.old session.new }
 {
     let Ok(id) = name_of(alloc, key) else {
-        return Err(Refused::NoMemory);
+        return Err(refused_of(session.refuse(rt, role)));
     };
     let mut first = Vec::new(alloc);
     match session.join(rt, role, &mut first) {

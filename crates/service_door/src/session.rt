@@ -1,6 +1,6 @@
 //! A session in the table.
 
-ghost use Rattle.std.specs.Prelude.{◌≡◌, ◌≤◌, IfOk, IfSome, IsTrue, OnErr, length};
+ghost use Rattle.std.specs.Prelude.{◌≡◌, ◌≤◌, ℕ, List, Err, IfOk, IfSome, IsTrue, OnErr, length};
 
 use crate::marks::SharedMarks;
 use gate_model::{Asked, Cause};
@@ -58,6 +58,15 @@ impl Session {
         let place = self.host.join(rt, role, into)?;
         self.places = self.places.saturating_add(1);
         Ok(place)
+    }
+
+    /// Why a viewer is refused that asks so, where memory is wanting for it, by `HostPass::refuse`.
+    pub(crate) fn refuse<R: Wait>(&mut self, rt: &R, role: Asked) -> JoinRefusal
+        ensures step { (text : List ℕ) → JoinEnds self.old.host.view role (Err result) self.new.host.view text text }
+        ensures session { self.new.host.session ≡ self.old.host.session }
+        ensures unchanged { self.new.places ≡ self.old.places }
+    {
+        self.host.refuse(rt, role)
     }
 
     /// Counts a place that is back.

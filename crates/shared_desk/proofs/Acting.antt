@@ -1,6 +1,7 @@
 -- What a call of the desk comes to in a turn of a pass.
-use Rattle.std.proofs.Common.{◌≡◌, ◌⊎◌, ℕ, ◌≤◌, List, [], ◌∷◌, length, true, false, sym, subst}
+use Rattle.std.proofs.Common.{◌≡◌, ◌⊎◌, ℕ, ◌<◌, ◌≤◌, List, [], ◌∷◌, length, true, false, refl, sym, subst, arith}
 use Rattle.std.specs.Prelude.{None, Result, nat_lt}
+use Rattle.std.proofs.lemmas.Bool.{ltb-true}
 use Rattle.gate_model.specs.declared.answer.Answer.{Answer}
 use Rattle.gate_model.specs.declared.entry.Entry.{Entry}
 use Rattle.gate_model.specs.declared.event.Event.{Event}
@@ -12,10 +13,11 @@ use Rattle.desk_core.specs.Desk.{DeskState, Stands}
 use Rattle.turn_lock.specs.declared.view.View.{View}
 use Rattle.turn_lock.specs.Passes.{IsNext}
 use Rattle.turn_lock.specs.Places.{ArePlaces}
-use Rattle.turn_lock.specs.Views.{with_ticket, entered, Owns}
+use Rattle.turn_lock.specs.Views.{with_ticket, entered, passed, HasPlaces, Owns}
 use Rattle.shared_desk.specs.declared.held.Held.{Held}
 use Rattle.shared_desk.specs.Marks.{mark_of, mark_for}
 use Rattle.shared_desk.specs.Called.{Answers, Turned}
+use Rattle.shared_desk.specs.Members.{IsSound}
 use Rattle.shared_desk.proofs.Turns.{Leaves, leaves, leaves_at, AreCounts, next_entry, same_value, Ends, turned, gave}
 
 -- in a turn whose view is u the desk was called so, which had n entries before and has m after. What the turn's end is told
@@ -49,3 +51,12 @@ module _ (u : View Entry) (w0 w1 : Held) (event : Event) (answer : Result Answer
       (turned v0 v w u u.seen event answer (record { desk = new }) b b1 w1.desk n m same
       (record { later = later; known = known; ticket = ticket; outside = outside; within = within; owns = subst (λ (z : View Entry). Owns mark_of u.seen z) enters owns; legal = stood.legal; turn = turn; entered = enters })
       stood counts told ends)
+
+-- in a turn whose view is u the desk was asked, and is what it was: nothing was added
+pub asked_turn : (u : View Entry) (w0 w1 : Held) (event : Event) (answer : Result Answer NoMemory) (text : List ℕ) → w1 ≡ w0 → Stands w0.desk u.seen → ((h : History) → Stands w1.desk h → Ended h event answer w1.desk w1.desk text text)
+    → (v0 v w : View Entry) (turn : ℕ) → v ≡ v0 → IsLater v.seen u.seen → v.known ≤ length u.seen → v.ticket ≡ None → v.inside ≡ false → ArePlaces (length v.seen) v.mine → Owns mark_of u.seen u → u ≡ entered u.seen (with_ticket turn v)
+    → w ≡ passed u → HasPlaces mark_of w → IsSound w.seen → Turned v0 w (Answers event answer text text)
+asked_turn u w0 w1 event answer text is stands step v0 v w turn same later known ticket outside within owns enters ended places sound =
+    let n : ℕ = w1.desk.entries in
+    turns u w0 w1 event answer text text text w1.desk n n is stands step (λ h s. s.entries) (λ h s. s.entries) (λ k. refl) v0 v w turn same later known ticket outside within owns enters
+    (record { added = λ more. absurd (let lt : n < n = ltb-true n n more in omega (arith, lt)); same = λ less. ended; places = places; sound = sound })

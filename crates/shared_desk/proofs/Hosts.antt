@@ -1,5 +1,5 @@
 -- What a host's pass keeps, and what the passes are that it gives out.
-use Rattle.std.proofs.Common.{◌≡◌, ◌≢◌, ◌⊎◌, ℕ, ◌+◌, ◌*◌, ◌≤◌, ◌<◌, List, [], ◌∷◌, ◌++◌, length, Bool, true, false, inl, inr, ⊎_elim, refl, ap, sym, ◌∙◌, subst, arith, length-append}
+use Rattle.std.proofs.Common.{◌≡◌, ◌≢◌, ◌⊎◌, ℕ, ◌+◌, ◌*◌, ◌≤◌, ◌<◌, List, [], ◌∷◌, ◌++◌, length, Bool, true, false, ⊎_elim, refl, ap, sym, ◌∙◌, subst, arith, length-append}
 use Rattle.std.specs.Prelude.{Option, Some, None, Contains, Ok, Err, Result, is_none, if◌then◌else◌}
 use Rattle.std.specs.Option.{option_map}
 use Rattle.atomic_table.specs.Seated.{TableId}
@@ -17,7 +17,6 @@ use Rattle.gate_model.specs.declared.entry.Entry.TheVariants.{Join as Joins}
 use Rattle.gate_model.specs.declared.event.Event.TheVariants.{Join}
 use Rattle.gate_model.specs.declared.instr.Instr.{Instr}
 use Rattle.gate_model.specs.declared.join_refusal.JoinRefusal.{JoinRefusal}
-use Rattle.gate_model.specs.declared.join_refusal.JoinRefusal.TheVariants.{Closed as join_closed, Forbidden, TooMany, Worn as join_worn, NoMemory as join_no_memory}
 use Rattle.gate_model.specs.declared.joined.Joined.{Joined}
 use Rattle.gate_model.specs.declared.sharing.Asked.{Asked}
 use Rattle.gate_model.specs.declared.sharing.Role.{Role}
@@ -215,11 +214,7 @@ pub room_joined : (m n : PassState) (spare : Option TableId) (out : ℕ) (asked 
 room_joined m n spare out asked j b0 b1 k t = let l = join_leaves m.view n.view asked j b0 b1 t in omega (arith, k.host.few, l.later)
 
 pub join_refused : (v0 v w : View Entry) (asked : Asked) (r : JoinRefusal) (b0 b1 : List ℕ) → v ≡ v0 → Gives v (Join asked) (join_answer (Err r)) w b0 b1 → JoinEnds v0 asked (Err r) w b0 b1
-join_refused v0 v w asked (join_closed c) b0 b1 is t = at_old _ _ _ _ is t
-join_refused v0 v w asked Forbidden b0 b1 is t = at_old _ _ _ _ is t
-join_refused v0 v w asked (TooMany l j) b0 b1 is t = at_old _ _ _ _ is t
-join_refused v0 v w asked (join_worn n) b0 b1 is t = at_old _ _ _ _ is t
-join_refused v0 v w asked join_no_memory b0 b1 is t = inr (at_old _ _ _ _ is t)
+join_refused v0 v w asked r b0 b1 is t = at_old _ _ _ _ is t
 
 pub has_joined : (v0 v now : View Entry) (asked : Asked) (j : Joined) (old new : HostState) (place : Place) (b0 b1 : List ℕ) → v ≡ v0 → Gives v (Join asked) (Ok (joined_as (Ok j))) now b0 b1 → old.view ≡ now
     → IsPlaceOf old j.viewer j.role place → new.view ≡ with_place j.viewer old.view → HasJoined v0 asked place new.view b0 b1

@@ -10,10 +10,10 @@ use Rattle.gate_model.specs.declared.entry.Entry.TheVariants.{Join}
 use Rattle.gate_model.specs.declared.event.Event.TheVariants.{Join as join}
 use Rattle.gate_model.specs.declared.instr.Instr.{Instr}
 use Rattle.gate_model.specs.declared.join_refusal.JoinRefusal.{JoinRefusal}
-use Rattle.gate_model.specs.declared.join_refusal.JoinRefusal.TheVariants.{NoMemory as join_no_memory}
 use Rattle.gate_model.specs.declared.joined.Joined.{Joined}
 use Rattle.gate_model.specs.declared.sharing.Asked.{Asked}
 use Rattle.gate_model.specs.declared.sharing.Role.{Role}
+use Rattle.desk_core.specs.Calls.{join_answer}
 use Rattle.turn_lock.specs.declared.view.View.{View}
 use Rattle.turn_lock.specs.Views.{giving, part_of, beginning}
 use Rattle.shared_desk.specs.Called.{Gives}
@@ -98,11 +98,10 @@ pub record HasJoined (v : View Entry) (asked : Asked) (place : Place) (w : View 
   pub appended : after ≡ before ++ text
   pub fresh : IsFresh place text
 
--- how a join ends. Memory for the viewer's passes is taken before the turn, so want of it may come without one
+-- how a join ends: in a turn, want of memory too, which comes only where nothing else refuses the viewer
 abbrev pub JoinEnds : View Entry → Asked → Result Place JoinRefusal → View Entry → List ℕ → List ℕ → Type 0
 JoinEnds v asked (Ok place) w before after = HasJoined v asked place w before after
-JoinEnds v asked (Err join_no_memory) w before after = (w ≡ v) ⊎ Gives v (join asked) (Err record {}) w before after
-JoinEnds v asked (Err refusal) w before after = Gives v (join asked) (Ok (joined_as (Err refusal))) w before after
+JoinEnds v asked (Err refusal) w before after = Gives v (join asked) (join_answer (Err refusal)) w before after
 
 -- what the host knows once it gave the passes of the link
 abbrev pub with_link : View Entry → View Entry

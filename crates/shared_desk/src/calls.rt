@@ -1,6 +1,6 @@
 //! The desk's calls, each in a turn.
 
-ghost use Rattle.std.specs.Prelude.{◌≡◌, ◌≤◌, ◌⊎◌, [], true, false, Ok, Some, drop, length};
+ghost use Rattle.std.specs.Prelude.{◌≡◌, ◌≤◌, ◌⊎◌, ℕ, List, [], true, false, Ok, Err, Some, drop, length};
 ghost use Rattle.gate_model.specs.declared.entry.Entry.{Entry};
 ghost use Rattle.turn_lock.specs.Passes.{view_of, IsOutside, IsInside, IsNext};
 ghost use Rattle.turn_lock.specs.Turns.{lock_in, pass_in, view_in, value_in};
@@ -75,6 +75,18 @@ impl Member {
         let appended = desk.entries() > entries;
         end_turn::<Brand, _>(turn, appended, &(asked, &result, before, &*into));
         result
+    }
+
+    /// `Desk::refuse`, in a turn: why a viewer is refused that joins where memory is wanting.
+    pub(crate) fn refuse<R: Wait>(&mut self, rt: &R, asked: Asked) -> JoinRefusal
+        requires mark { self.old.view.mark ≡ Some 0 }
+        ensures session { self.new.session ≡ self.old.session }
+        ensures called { (text : List ℕ) → Gives self.old.view (Join asked) (join_answer (Err result)) self.new.view text text }
+    {
+        let mut turn = self.lock.turn(rt, &mut self.pass);
+        let refusal = turn.value().desk.refuse(asked);
+        end_turn::<Brand, _>(turn, false, &(asked, &refusal));
+        refusal
     }
 
     /// `Desk::read`, in a turn.

@@ -1,6 +1,6 @@
 //! The host's pass, which lets viewers join and gives out the other passes.
 
-ghost use Rattle.std.specs.Prelude.{◌≡◌, ◌≤◌, ◌+◌, ◌-◌, ◌*◌, ℕ, List, Bool, true, not, Contains, Ok, None, Some, length, is_some, is_ok, if◌then◌else◌, IfOk, IfSome, OnErr};
+ghost use Rattle.std.specs.Prelude.{◌≡◌, ◌≤◌, ◌+◌, ◌-◌, ◌*◌, ℕ, List, Bool, true, not, Contains, Ok, Err, None, Some, length, is_some, is_ok, if◌then◌else◌, IfOk, IfSome, OnErr};
 ghost use Rattle.gate_model.specs.declared.instr.Instr.{Instr};
 
 use crate::any_pass::AnyPass;
@@ -67,7 +67,7 @@ impl HostPass {
     }
 
     /// `Desk::join`, in a turn, and the place of the viewer that joined. The memory of the place's passes is
-    /// taken before the turn.
+    /// taken before the turn; where it is wanting the turn tells whether something else refuses the viewer.
     pub fn join<R: Wait>(
         &mut self,
         rt: &R,
@@ -81,9 +81,22 @@ impl HostPass {
         ensures linked { self.new.linked ≡ self.old.linked }
         ensures out { self.new.out ≡ (if is_ok result then self.old.out + 2 else self.old.out) }
     {
-        let owners = Owners::of(&self.member.lock)?;
+        let Ok(owners) = Owners::of(&self.member.lock) else {
+            return Err(self.refuse(rt, asked));
+        };
         let joined = self.member.join(rt, asked, into)?;
         Ok(self.place(joined.viewer, joined.role, owners))
+    }
+
+    /// Why a viewer is refused that asks so, where the memory is wanting for what it is to be given, in a turn: for
+    /// that alone where nothing else refuses it. Nobody joins, and it takes no memory (this project's own rule).
+    pub fn refuse<R: Wait>(&mut self, rt: &R, asked: Asked) -> JoinRefusal
+        ensures step { (text : List ℕ) → JoinEnds self.old.view asked (Err result) self.new.view text text }
+        ensures session { self.new.session ≡ self.old.session }
+        ensures linked { self.new.linked ≡ self.old.linked }
+        ensures out { self.new.out ≡ self.old.out }
+    {
+        self.member.refuse(rt, asked)
     }
 
     // The place of the viewer that joined last, which has none yet.

@@ -1,6 +1,6 @@
 //! Viewers that join.
 
-ghost use Rattle.std.specs.Prelude.{◌≡◌, ◌+◌, ◌<◌, ◌≤◌, ◌++◌, ◌^◌, IfOk, OnErr, OnOk};
+ghost use Rattle.std.specs.Prelude.{◌≡◌, ◌+◌, ◌<◌, ◌≤◌, ◌++◌, ◌^◌, ℕ, List, Err, IfOk, OnErr, OnOk};
 ghost use Rattle.gate_model.specs.session.History.{History};
 ghost use Rattle.gate_model.specs.Limits.{most_joined, most_live};
 ghost use Rattle.gate_model.specs.declared.event.Event.TheVariants.{Join};
@@ -43,6 +43,17 @@ impl Desk {
             role,
             stamp,
         })
+    }
+
+    /// Why `join` refuses a viewer for which memory is wanting: for that alone where nothing else does. It changes
+    /// nothing, and needs no memory.
+    pub fn refuse(&self, asked: Asked) -> JoinRefusal
+        ensures { (h : History) (text : List ℕ) → Stands self.now h → Ended h (Join asked) (join_answer (Err result)) self.now self.now text text }
+    {
+        match self.admitted(asked) {
+            Ok(_) => JoinRefusal::NoMemory,
+            Err(refusal) => refusal,
+        }
     }
 
     // The role that a viewer gets, or why it is refused.

@@ -19,8 +19,8 @@ impl Desk {
     ghost use Rattle.desk_core.specs.Calls.{Ended, RunEnds};
 
     /// Makes the calls one after the other, answers each in order, and appends what its joins and reads
-    /// append. It stops at the first want of memory, and what was done before stands (this project's own
-    /// rule).
+    /// append. It stops at the first call that lacks memory, for itself or for its answer: what was done before
+    /// it stands, and it does nothing (this project's own rule).
     pub fn run(
         &mut self,
         alloc: Global,
@@ -32,6 +32,8 @@ impl Desk {
     {
         let mut answers = Vec::new(alloc);
         for event in events {
+            // So a call that was made is answered.
+            answers.reserve(1)?;
             let answer = self.call(alloc, event, into)?;
             answers.push(answer)?;
         }

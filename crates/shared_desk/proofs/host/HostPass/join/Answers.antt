@@ -7,6 +7,10 @@ use Rattle.shared_desk.specs.Hosts.{HostState, JoinEnds}
 use Rattle.shared_desk.proofs.Hosts.{keeps_turn, below_joined, room_joined, join_leaves, join_refused, has_joined}
 use Rattle.shared_desk.proofs.host.HostPass.join.Goals as goal
 
+-- no memory for its passes
+pub returns-in_default-clause-step : goal.returns-in_default-clause-step
+returns-in_default-clause-step g c = c.refuse.ensures.step c.args.into.now.items
+
 pub invariant_of-self : goal.invariant_of-self
 invariant_of-self g c = keeps_turn _ _ _ _ _ c.self.invariant c.join.ensures.session c.join.ensures.called
 
@@ -15,7 +19,7 @@ invariant_of-self-2 g c = keeps_turn _ _ _ _ _ c.self.invariant c.join.ensures.s
 
 pub returns-in_err-joined-clause-step : goal.returns-in_err-joined-clause-step
 returns-in_err-joined-clause-step g c =
-    let is : c.from_residual-in_err-joined.result ≡ Err c.in_err-joined.field-0.0 = search rules in
+    let is : c.from_residual.result ≡ Err c.in_err-joined.field-0.0 = search rules in
     subst (λ (r : Result Place JoinRefusal). JoinEnds c.args.self.now.view c.args.asked r c.join.new.self.view c.args.into.now.items c.join.new.into.items) (sym is)
     (join_refused _ _ _ c.args.asked c.in_err-joined.field-0.0 _ _ (ap (λ (s : HostState). s.view) c.self.view_is) c.in_err-joined.ensures.called)
 
