@@ -10,7 +10,7 @@ use Rattle.gate_model.specs.Sequences.{BeginsWith}
 use Rattle.gate_outside.specs.Edge.{AtEnd, GainedFront, came, gained}
 use Rattle.gate_outside.specs.declared.failed.Failed.{Failed}
 use Rattle.gate_outside.proofs.Moved.{came-came, came-none, gained-gained, gained-none}
-use Rattle.script_lines.specs.declared.form.Form.TheVariants.{Clip}
+use Rattle.script_grammar.specs.declared.form.Form.TheVariants.{Clip}
 use Rattle.gate_script.specs.Clipping.{ClipOutcome, Copied, EndsWith, HasPulled, HasWritten, IsClipStatus, most_clip}
 use Rattle.gate_script.specs.Outcomes.{Outcome, Ran}
 use Rattle.gate_script.specs.PlayOutcomes.{ReadAndTold}

@@ -12,21 +12,21 @@ use Rattle.std.specs.Prelude.{◌^◌}
 use Rattle.gate_outside.specs.Edge.{AtEnd, came, Rose}
 use Rattle.gate_script.specs.declared.session.Session.{Session}
 use Rattle.gate_outside.proofs.Moved.{came-none}
-use Rattle.script_lines.specs.declared.text_form.TextForm.{TextForm}
-use Rattle.script_lines.specs.declared.text_form.TextForm.TheVariants.{Draw, Script}
+use Rattle.script_grammar.specs.declared.text_form.TextForm.{TextForm}
+use Rattle.script_grammar.specs.declared.text_form.TextForm.TheVariants.{Draw, Script}
 use Rattle.gate_script.specs.declared.run.Run.{Run}
-use Rattle.script_lines.specs.declared.size.Size.{Size}
+use Rattle.script_grammar.specs.declared.size.Size.{Size}
 use Rattle.gate_script.specs.declared.stop.Stop.{Stop}
 use Rattle.gate_script.specs.declared.stop.Stop.TheVariants.{ReadFault, WriteFault, NoMemory, Refused}
-use Rattle.script_lines.specs.Pieces.{first_piece, whole_pieces, all_pieces, last_piece}
-use Rattle.script_lines.specs.declared.line.Line.TheVariants.{Server, Read, Acknowledge, Done}
-use Rattle.script_lines.specs.declared.order.Order.{Order}
-use Rattle.script_lines.specs.declared.order.Order.TheVariants.{Told as told, Untold as untold}
-use Rattle.script_lines.specs.Lines.{draw_lines}
-use Rattle.script_lines.specs.Grammar.{ending, judged, total, starts, script_lines, lines_of, most_of, whole_lines, all_lines}
+use Rattle.script_grammar.specs.Pieces.{first_piece, whole_pieces, all_pieces, last_piece}
+use Rattle.script_grammar.specs.declared.line.Line.TheVariants.{Server, Read, Acknowledge, Done}
+use Rattle.script_grammar.specs.declared.order.Order.{Order}
+use Rattle.script_grammar.specs.declared.order.Order.TheVariants.{Told as told, Untold as untold}
+use Rattle.script_grammar.specs.Lines.{draw_lines}
+use Rattle.script_grammar.specs.Grammar.{ending, judged, total, starts, script_grammar, lines_of, most_of, whole_lines, all_lines}
 use Rattle.gate_script.specs.Sinks.{Sinks}
 use Rattle.gate_script.specs.Running.{StoppedIn, HasDone, HasCut, LastEnds, AllDone, RunEnds, AtEndUnless, IsReady, IsReadyFor, sight_of}
-use Rattle.script_lines.proofs.PieceLaws.{pieces_are_read, begun}
+use Rattle.script_grammar.proofs.PieceLaws.{pieces_are_read, begun}
 use Rattle.gate_script.proofs.RunLaws.{stopped-later, all_done}
 
 reverse-cons : {A : Type 0} (x : A) (xs : List A) → reverse (x ∷ xs) ≡ reverse xs ++ x ∷ []
@@ -57,11 +57,11 @@ lines-later form ps qs p = subst (λ (l : List (List ℕ)). IsLater (lines_of fo
     draws size [] = ([], refl)
     draws size (m ∷ ms) = let q = draws size ms in (untold (Acknowledge 1) ∷ untold (Read 1) ∷ told (Server m) ∷ q.0, ap (λ (l : List Order). untold (Acknowledge 1) ∷ untold (Read 1) ∷ told (Server m) ∷ l) q.1)
 
-    scripts : (entries : ℕ) (ms : List (List ℕ)) → IsLater (script_lines entries ps) (script_lines entries (ms ++ ps))
+    scripts : (entries : ℕ) (ms : List (List ℕ)) → IsLater (script_grammar entries ps) (script_grammar entries (ms ++ ps))
     scripts entries [] = ([], refl)
     scripts entries (m ∷ ms) =
         let q = scripts entries ms in
-        let order : Order = told (judged entries (list_any starts (script_lines entries (ms ++ ps))) (total (ms ++ ps)) m) in
+        let order : Order = told (judged entries (list_any starts (script_grammar entries (ms ++ ps))) (total (ms ++ ps)) m) in
         (order ∷ q.0, ap (λ (l : List Order). order ∷ l) q.1)
 
     more : (form : TextForm) (ms : List (List ℕ)) → IsLater (lines_of form ps) (lines_of form (ms ++ ps))

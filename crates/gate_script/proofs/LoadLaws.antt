@@ -31,16 +31,16 @@ use Rattle.gate_model.specs.session.Calls.{Step, stop_of, take_entry}
 use Rattle.gate_model.specs.session.History.{History, capacity, is_full}
 use Rattle.gate_model.specs.session.Output.{out, taken, untaken}
 use Rattle.gate_model.specs.session.Refusals.{close_cause, first_of, only_if, feed_refusal, join_refusal, read_stop, write_refusal, leave_refusal, close_refusal}
-use Rattle.script_lines.specs.declared.line.Line.{Line}
-use Rattle.script_lines.specs.declared.line.Line.TheVariants.{Blank as blank, Bad as bad, At as moment, Start as start, Server as server, Join as join, Read as read, Write as write, Resize as resize, Take as take_up_to, Leave as leave, Close as close, Pixel as pixel, Same as same, Acknowledge as acknowledge, Done as done, Press as press_key, Totals as tell_totals}
-use Rattle.script_lines.specs.declared.order.Order.{Order}
-use Rattle.script_lines.specs.declared.order.Order.TheVariants.{Told, Untold}
-use Rattle.script_lines.specs.declared.size.Size.{Size}
-use Rattle.script_lines.specs.declared.totals.Totals.{Totals}
-use Rattle.script_lines.specs.Grammar.{in_place, is_start, starts}
-use Rattle.script_lines.specs.Lines.{line_in, IsInRange}
-use Rattle.load_lines.specs.Words.{Words}
-use Rattle.load_lines.specs.Rounds.{IsRoundLine, rounds_done, stand_after, takes_done, turn, untold}
+use Rattle.script_grammar.specs.declared.line.Line.{Line}
+use Rattle.script_grammar.specs.declared.line.Line.TheVariants.{Blank as blank, Bad as bad, At as moment, Start as start, Server as server, Join as join, Read as read, Write as write, Resize as resize, Take as take_up_to, Leave as leave, Close as close, Pixel as pixel, Same as same, Acknowledge as acknowledge, Done as done, Press as press_key, Totals as tell_totals}
+use Rattle.script_grammar.specs.declared.order.Order.{Order}
+use Rattle.script_grammar.specs.declared.order.Order.TheVariants.{Told, Untold}
+use Rattle.script_grammar.specs.declared.size.Size.{Size}
+use Rattle.script_grammar.specs.declared.totals.Totals.{Totals}
+use Rattle.script_grammar.specs.Grammar.{in_place, is_start, starts}
+use Rattle.script_grammar.specs.Lines.{line_in, IsInRange}
+use Rattle.script_load.specs.Words.{Words}
+use Rattle.script_load.specs.Rounds.{IsRoundLine, rounds_done, stand_after, takes_done, turn, untold}
 use Rattle.gate_script.specs.declared.kind.Kind.{Kind}
 use Rattle.gate_script.specs.declared.kind.Kind.TheVariants.{Feed as of_feed, Press as of_press, Take as of_take, Other as of_other}
 use Rattle.gate_script.specs.declared.level.Level.{Level}

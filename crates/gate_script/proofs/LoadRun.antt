@@ -5,15 +5,15 @@ use Rattle.std.proofs.lemmas.Bool.{leb-true, leb-false}
 use Rattle.gate_model.specs.Sequences.{IsLater}
 use Rattle.gate_model.specs.session.History.{History}
 use Rattle.gate_model.specs.session.Output.{untaken}
-use Rattle.script_lines.specs.declared.line.Line.{Line}
-use Rattle.script_lines.specs.declared.line.Line.TheVariants.{Take as take_up_to, Totals as tell_totals}
-use Rattle.script_lines.specs.declared.order.Order.{Order}
-use Rattle.script_lines.specs.declared.order.Order.TheVariants.{Told, Untold}
-use Rattle.script_lines.specs.declared.totals.Totals.{Totals}
-use Rattle.load_lines.specs.declared.rounds.Rounds.{Rounds}
-use Rattle.load_lines.specs.Draws.{stand_of}
-use Rattle.load_lines.specs.Words.{Words, drawn}
-use Rattle.load_lines.specs.Rounds.{load_begins, load_orders, round_lines, rounds_done, stand_after, takes_done, turn, untold}
+use Rattle.script_grammar.specs.declared.line.Line.{Line}
+use Rattle.script_grammar.specs.declared.line.Line.TheVariants.{Take as take_up_to, Totals as tell_totals}
+use Rattle.script_grammar.specs.declared.order.Order.{Order}
+use Rattle.script_grammar.specs.declared.order.Order.TheVariants.{Told, Untold}
+use Rattle.script_grammar.specs.declared.totals.Totals.{Totals}
+use Rattle.script_load.specs.declared.rounds.Rounds.{Rounds}
+use Rattle.script_load.specs.Draws.{stand_of}
+use Rattle.script_load.specs.Words.{Words, drawn}
+use Rattle.script_load.specs.Rounds.{load_begins, load_orders, round_lines, rounds_done, stand_after, takes_done, turn, untold}
 use Rattle.gate_script.specs.declared.load.Load.{Load}
 use Rattle.gate_script.specs.declared.stop.Stop.{Stop}
 use Rattle.gate_script.specs.declared.stop.Stop.TheVariants.{NoMemory}

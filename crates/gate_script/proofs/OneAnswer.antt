@@ -19,11 +19,11 @@ use Rattle.gate_model.specs.declared.written.Written.{Written}
 use Rattle.gate_model.specs.session.History.{History}
 use Rattle.gate_model.specs.session.Rights.{is_live}
 use Rattle.guac_framing.specs.declared.next.BadAt.{BadAt}
-use Rattle.script_lines.specs.declared.line.Line.{Line}
-use Rattle.script_lines.specs.declared.totals.Totals.{Totals}
-use Rattle.script_lines.specs.declared.line.Line.TheVariants.{Blank as blank, Bad as bad, At as moment, Start as start, Server as server, Join as join, Read as read, Write as write, Resize as resize, Take as take_up_to, Leave as leave, Close as close, Pixel as pixel, Same as same, Acknowledge as acknowledge, Done as done, Press as press_key, Totals as tell_totals}
-use Rattle.script_lines.specs.declared.reading.Reading.{Reading}
-use Rattle.script_lines.specs.declared.reading.Reading.TheVariants.{Whole, Cut, Bad, TooMany}
+use Rattle.script_grammar.specs.declared.line.Line.{Line}
+use Rattle.script_grammar.specs.declared.totals.Totals.{Totals}
+use Rattle.script_grammar.specs.declared.line.Line.TheVariants.{Blank as blank, Bad as bad, At as moment, Start as start, Server as server, Join as join, Read as read, Write as write, Resize as resize, Take as take_up_to, Leave as leave, Close as close, Pixel as pixel, Same as same, Acknowledge as acknowledge, Done as done, Press as press_key, Totals as tell_totals}
+use Rattle.script_grammar.specs.declared.reading.Reading.{Reading}
+use Rattle.script_grammar.specs.declared.reading.Reading.TheVariants.{Whole, Cut, Bad, TooMany}
 use Rattle.gate_script.specs.Plays.{Answers, Calls, Compares, Does, DoesReading, Play, TellsTotals, Writes}
 use Rattle.gate_script.specs.Told.{answer_line, answer_to, bad_text_line, blank_and, given_line, kind_word, pixel_line, taken_text, took_line, totals_lines, write_answer}
 

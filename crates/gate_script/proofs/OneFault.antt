@@ -10,16 +10,16 @@ use Rattle.gate_model.specs.declared.event.Event.{Event}
 use Rattle.gate_model.specs.declared.event.Event.TheVariants.{Write as write_acts}
 use Rattle.gate_model.specs.session.Calls.{Step}
 use Rattle.gate_model.specs.session.History.{History}
-use Rattle.script_lines.specs.declared.text_form.TextForm.TheVariants.{Script}
-use Rattle.script_lines.specs.declared.line.Line.{Line}
-use Rattle.script_lines.specs.declared.line.Line.TheVariants.{Blank as blank, Bad as bad, At as moment, Start as start, Server as server, Join as join, Read as read, Write as write, Resize as resize, Take as take_up_to, Leave as leave, Close as close, Pixel as pixel, Same as same, Acknowledge as acknowledge, Done as done, Press as press_key, Totals as tell_totals}
-use Rattle.script_lines.specs.declared.order.Order.{Order}
-use Rattle.script_lines.specs.declared.reading.Reading.{Reading}
-use Rattle.script_lines.specs.declared.reading.Reading.TheVariants.{Whole, Cut, Bad, TooMany}
-use Rattle.script_lines.specs.Grammar.{all_lines}
-use Rattle.script_lines.specs.Lines.{line_in, told_by}
-use Rattle.script_lines.specs.Grammar.{most_of}
-use Rattle.script_lines.specs.Pieces.{all_pieces}
+use Rattle.script_grammar.specs.declared.text_form.TextForm.TheVariants.{Script}
+use Rattle.script_grammar.specs.declared.line.Line.{Line}
+use Rattle.script_grammar.specs.declared.line.Line.TheVariants.{Blank as blank, Bad as bad, At as moment, Start as start, Server as server, Join as join, Read as read, Write as write, Resize as resize, Take as take_up_to, Leave as leave, Close as close, Pixel as pixel, Same as same, Acknowledge as acknowledge, Done as done, Press as press_key, Totals as tell_totals}
+use Rattle.script_grammar.specs.declared.order.Order.{Order}
+use Rattle.script_grammar.specs.declared.reading.Reading.{Reading}
+use Rattle.script_grammar.specs.declared.reading.Reading.TheVariants.{Whole, Cut, Bad, TooMany}
+use Rattle.script_grammar.specs.Grammar.{all_lines}
+use Rattle.script_grammar.specs.Lines.{line_in, told_by}
+use Rattle.script_grammar.specs.Grammar.{most_of}
+use Rattle.script_grammar.specs.Pieces.{all_pieces}
 use Rattle.std.specs.Prelude.{reverse}
 use Rattle.gate_script.specs.declared.refused.Refused.{Refused}
 use Rattle.gate_script.specs.Laws.{AgreeButForTheNewest, EndsByFault, HasOneMore, WriteFaultFixesAllButTheNewest}

@@ -14,13 +14,13 @@ use Rattle.gate_model.specs.declared.write_refusal.WriteRefusal.{WriteRefusal}
 use Rattle.gate_model.specs.declared.written.Written.{Written}
 use Rattle.gate_model.specs.picture.Layers.{Same as AreAlike}
 use Rattle.gate_model.specs.session.History.{History}
-use Rattle.script_lines.specs.declared.line.Line.{Line}
-use Rattle.script_lines.specs.declared.line.Line.TheVariants.{Blank as blank, Bad as bad, At as moment, Start as start, Server as server, Join as join, Read as read, Write as write, Resize as resize, Take as take_up_to, Leave as leave, Close as close, Pixel as pixel, Same as same, Acknowledge as acknowledge, Done as done, Press as press_key, Totals as tell_totals}
-use Rattle.script_lines.specs.declared.totals.Totals.{Totals}
-use Rattle.script_lines.specs.declared.order.Order.{Order}
-use Rattle.script_lines.specs.declared.reading.Reading.{Reading}
-use Rattle.script_lines.specs.declared.reading.Reading.TheVariants.{Whole, Cut, Bad, TooMany}
-use Rattle.script_lines.specs.Lines.{line_in, told_by}
+use Rattle.script_grammar.specs.declared.line.Line.{Line}
+use Rattle.script_grammar.specs.declared.line.Line.TheVariants.{Blank as blank, Bad as bad, At as moment, Start as start, Server as server, Join as join, Read as read, Write as write, Resize as resize, Take as take_up_to, Leave as leave, Close as close, Pixel as pixel, Same as same, Acknowledge as acknowledge, Done as done, Press as press_key, Totals as tell_totals}
+use Rattle.script_grammar.specs.declared.totals.Totals.{Totals}
+use Rattle.script_grammar.specs.declared.order.Order.{Order}
+use Rattle.script_grammar.specs.declared.reading.Reading.{Reading}
+use Rattle.script_grammar.specs.declared.reading.Reading.TheVariants.{Whole, Cut, Bad, TooMany}
+use Rattle.script_grammar.specs.Lines.{line_in, told_by}
 use Rattle.gate_script.specs.Told.{answer_to, differ_line, framings, same_line, write_answer}
 use Rattle.gate_script.specs.Plays.{Play, Plays, Does, DoesReading, Begins, Calls, Answers, Compares, Writes, acknowledgement, seen, TellsTotals, press}
 use Rattle.gate_script.proofs.OneReading.{reading_same}

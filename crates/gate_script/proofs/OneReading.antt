@@ -10,10 +10,10 @@ use Rattle.gate_model.proofs.Spelt.{prefix_free}
 use Rattle.guac_framing.specs.Found.{HasCompletion, HasKind, HasNoInstruction, IsBadAt, IsBadPlace}
 use Rattle.guac_framing.specs.declared.next.BadAt.{BadAt}
 use Rattle.guac_framing.specs.declared.next.BadKind.{BadKind}
-use Rattle.script_lines.specs.declared.reading.Reading.{Reading}
-use Rattle.script_lines.specs.declared.reading.Reading.TheVariants.{Whole, Cut, Bad, TooMany}
+use Rattle.script_grammar.specs.declared.reading.Reading.{Reading}
+use Rattle.script_grammar.specs.declared.reading.Reading.TheVariants.{Whole, Cut, Bad, TooMany}
 use Rattle.guac_framing.specs.Splits.{Splits}
-use Rattle.script_lines.specs.Acts.{HasTooMany, IsBad, IsCut, IsReading, IsWhole, acts_of, passed_of}
+use Rattle.script_grammar.specs.Acts.{HasTooMany, IsBad, IsCut, IsReading, IsWhole, acts_of, passed_of}
 use Rattle.gate_script.proofs.OneText.{first_digit}
 
 abbrev Instructions : Type 0

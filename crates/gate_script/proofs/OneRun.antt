@@ -20,17 +20,17 @@ use Rattle.gate_model.specs.session.Calls.{Step}
 use Rattle.gate_model.specs.session.History.{History}
 use Rattle.gate_model.specs.session.Output.{out, taken}
 use Rattle.std.specs.Prelude.{take}
-use Rattle.script_lines.specs.declared.text_form.TextForm.{TextForm}
-use Rattle.script_lines.specs.declared.text_form.TextForm.TheVariants.{Script}
-use Rattle.script_lines.specs.declared.line.Line.{Line}
-use Rattle.script_lines.specs.declared.line.Line.TheVariants.{Blank as blank, Bad as bad, At as moment, Start as start, Server as server, Join as join, Read as read, Write as write, Resize as resize, Take as take_up_to, Leave as leave, Close as close, Pixel as pixel, Same as same, Acknowledge as acknowledge, Done as done, Press as press_key, Totals as tell_totals}
-use Rattle.script_lines.specs.declared.order.Order.{Order}
-use Rattle.script_lines.specs.declared.order.Order.TheVariants.{Told as told, Untold as untold}
-use Rattle.script_lines.specs.declared.reading.Reading.{Reading}
-use Rattle.script_lines.specs.declared.reading.Reading.TheVariants.{Whole, TooMany}
-use Rattle.script_lines.specs.Grammar.{all_lines, ending, lines_of, most_of, script_lines, whole_lines}
-use Rattle.script_lines.specs.Lines.{line_in, told_by}
-use Rattle.script_lines.specs.Pieces.{last_piece, unfinished, whole_pieces, all_pieces}
+use Rattle.script_grammar.specs.declared.text_form.TextForm.{TextForm}
+use Rattle.script_grammar.specs.declared.text_form.TextForm.TheVariants.{Script}
+use Rattle.script_grammar.specs.declared.line.Line.{Line}
+use Rattle.script_grammar.specs.declared.line.Line.TheVariants.{Blank as blank, Bad as bad, At as moment, Start as start, Server as server, Join as join, Read as read, Write as write, Resize as resize, Take as take_up_to, Leave as leave, Close as close, Pixel as pixel, Same as same, Acknowledge as acknowledge, Done as done, Press as press_key, Totals as tell_totals}
+use Rattle.script_grammar.specs.declared.order.Order.{Order}
+use Rattle.script_grammar.specs.declared.order.Order.TheVariants.{Told as told, Untold as untold}
+use Rattle.script_grammar.specs.declared.reading.Reading.{Reading}
+use Rattle.script_grammar.specs.declared.reading.Reading.TheVariants.{Whole, TooMany}
+use Rattle.script_grammar.specs.Grammar.{all_lines, ending, lines_of, most_of, script_grammar, whole_lines}
+use Rattle.script_grammar.specs.Lines.{line_in, told_by}
+use Rattle.script_grammar.specs.Pieces.{last_piece, unfinished, whole_pieces, all_pieces}
 use Rattle.gate_script.specs.declared.refused.Refused.{Refused}
 use Rattle.gate_script.specs.declared.refused.Refused.TheVariants.{BadLine, Worn}
 use Rattle.gate_script.specs.Laws.{FramesFixThePlay, FramesFixAllButTheNewest, FinishedIsOnePlay, InterruptedIsOnePlay, RefusesIsOnePlay, HaltedIsOnePlay}
@@ -391,7 +391,7 @@ refuses_once form bytes a b f left refused again one other = refused_runs form b
 
 -- ---- want of memory
 
-pub told_scripts : (entries : ℕ) (pieces : List (List ℕ)) → AreTold (script_lines entries pieces)
+pub told_scripts : (entries : ℕ) (pieces : List (List ℕ)) → AreTold (script_grammar entries pieces)
 told_scripts entries [] = tt
 told_scripts entries (piece ∷ pieces) = told_scripts entries pieces
 

@@ -5,9 +5,9 @@ use Rattle.gate_model.specs.Sequences.{BeginsWith}
 use Rattle.gate_outside.specs.Edge.{AtEnd, came, gained}
 use Rattle.gate_outside.proofs.Moved.{gained-none}
 use Rattle.record_play.specs.Recorded.{most_recorded}
-use Rattle.script_lines.specs.declared.form.Form.TheVariants.{Play}
-use Rattle.script_lines.specs.declared.play_form.PlayForm.{PlayForm}
-use Rattle.script_lines.specs.declared.play_form.PlayForm.TheVariants.{Info, At, Keys}
+use Rattle.script_grammar.specs.declared.form.Form.TheVariants.{Play}
+use Rattle.script_grammar.specs.declared.play_form.PlayForm.{PlayForm}
+use Rattle.script_grammar.specs.declared.play_form.PlayForm.TheVariants.{Info, At, Keys}
 use Rattle.gate_script.specs.Outcomes.{Outcome, Ran}
 use Rattle.gate_script.specs.PlayOutcomes.{HasEnough, IsPlayStatus, IsVerdict, IsWhole, PlayOutcome, ReadAndTold, TextEnds}
 use Rattle.gate_script.proofs.RunLaws.{front}

@@ -7,14 +7,14 @@ use Rattle.std.proofs.lemmas.List.{take-append-drop}
 use Rattle.gate_model.specs.Sequences.{IsLater, BeginsWith}
 use Rattle.gate_outside.specs.Edge.{GainedFront, Rose, gained}
 use Rattle.gate_outside.proofs.Moved.{gained-none, gained-gained}
-use Rattle.script_lines.specs.declared.text_form.TextForm.{TextForm}
-use Rattle.script_lines.specs.declared.text_form.TextForm.TheVariants.{Draw, Script}
-use Rattle.script_lines.specs.declared.line.Line.{Line}
-use Rattle.script_lines.specs.declared.line.Line.TheVariants.{Blank, Bad, At as moment, Start, Server, Join, Read, Write, Resize, Take, Leave, Close, Pixel, Same, Acknowledge, Done, Press, Totals}
-use Rattle.script_lines.specs.declared.order.Order.{Order}
-use Rattle.script_lines.specs.declared.order.Order.TheVariants.{Told as told, Untold as untold}
-use Rattle.script_lines.specs.Lines.{line_in, told_by}
-use Rattle.script_lines.specs.Grammar.{ending, starts, judged, in_place, lines_of, total}
+use Rattle.script_grammar.specs.declared.text_form.TextForm.{TextForm}
+use Rattle.script_grammar.specs.declared.text_form.TextForm.TheVariants.{Draw, Script}
+use Rattle.script_grammar.specs.declared.line.Line.{Line}
+use Rattle.script_grammar.specs.declared.line.Line.TheVariants.{Blank, Bad, At as moment, Start, Server, Join, Read, Write, Resize, Take, Leave, Close, Pixel, Same, Acknowledge, Done, Press, Totals}
+use Rattle.script_grammar.specs.declared.order.Order.{Order}
+use Rattle.script_grammar.specs.declared.order.Order.TheVariants.{Told as told, Untold as untold}
+use Rattle.script_grammar.specs.Lines.{line_in, told_by}
+use Rattle.script_grammar.specs.Grammar.{ending, starts, judged, in_place, lines_of, total}
 use Rattle.gate_script.specs.declared.halt.Halt.{Halt}
 use Rattle.gate_script.specs.declared.halt.Halt.TheVariants.{NoMemory as no_memory, OutsideGrammar, Worn as is_worn}
 use Rattle.gate_script.specs.declared.reply.Reply.{Reply}
@@ -34,7 +34,7 @@ use Rattle.gate_model.specs.declared.sharing.Asked.TheVariants.{Owner}
 use Rattle.gate_model.specs.declared.sharing.Share.{Share}
 use Rattle.gate_model.specs.declared.sharing.Share.TheVariants.{Nobody}
 use Rattle.gate_model.specs.Limits.{most_entries}
-use Rattle.script_lines.specs.declared.size.Size.{Size}
+use Rattle.script_grammar.specs.declared.size.Size.{Size}
 use Rattle.desk_core.specs.Desk.{Stands}
 use Rattle.desk_core.specs.Laws.{DesksAreTrue, DesksAreWhole}
 use Rattle.gate_script.specs.Sinks.{Sinks, Gains, GainsFronts, HaveFailed, Wrote, held}

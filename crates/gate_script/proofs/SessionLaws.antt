@@ -49,9 +49,9 @@ use Rattle.desk_core.specs.Calls.{Opened, Answered, OnNothing}
 use Rattle.gate_script.specs.declared.halt.Halt.{Halt}
 use Rattle.gate_script.specs.declared.halt.Halt.TheVariants.{NoMemory, OutsideGrammar, Worn}
 use Rattle.gate_script.specs.declared.reply.Reply.{Reply}
-use Rattle.script_lines.specs.declared.size.Size.{Size}
-use Rattle.script_lines.specs.declared.line.Line.{Line}
-use Rattle.script_lines.specs.declared.line.Line.TheVariants.{Start as start, Server as server, Join as join, Read as read, Write as write, Resize as resize, Take as take_up_to, Leave as leave, Close as close, Pixel as pixel_at, Same as alike_to, Acknowledge as acknowledge, Done as done, Press as press_key, Totals as tell_totals}
+use Rattle.script_grammar.specs.declared.size.Size.{Size}
+use Rattle.script_grammar.specs.declared.line.Line.{Line}
+use Rattle.script_grammar.specs.declared.line.Line.TheVariants.{Start as start, Server as server, Join as join, Read as read, Write as write, Resize as resize, Take as take_up_to, Leave as leave, Close as close, Pixel as pixel_at, Same as alike_to, Acknowledge as acknowledge, Done as done, Press as press_key, Totals as tell_totals}
 use Rattle.gate_script.specs.Told.{answer_line, answer_to, frames_line, framings, joined_line, read_told, refused_line, written_line, write_answer, pixel_line, same_line, differ_line, took_line, totals_lines}
 use Rattle.gate_script.specs.Plays.{Play, Does, Calls, Answers, Writes, acknowledgement, setup_of, seen, pixel_answer, Compares, press, Agree, TellsTotals, rows_sum, sum_seen}
 use Rattle.gate_script.specs.declared.sight.Sight.{Sight}
@@ -63,12 +63,12 @@ use Rattle.gate_script.proofs.ShownLaws.{at_place, shown_none, shown_plain, show
 use Rattle.canvas.specs.Kept.{KeptLayer}
 use Rattle.canvas.specs.Standing.{Stands as stands_for, dot_at}
 use Rattle.canvas.specs.declared.dot.Dot.{Dot}
-use Rattle.script_lines.specs.declared.reading.Reading.TheVariants.{Whole}
-use Rattle.script_lines.specs.Acts.{IsReading}
+use Rattle.script_grammar.specs.declared.reading.Reading.TheVariants.{Whole}
+use Rattle.script_grammar.specs.Acts.{IsReading}
 use Rattle.gate_model.specs.picture.Shape.{AreReadable}
 use Rattle.gate_model.specs.picture.Layers.{Layers, Same, draw, nothing, visible}
 use Rattle.gate_script.specs.declared.session.Session.{Session}
-use Rattle.script_lines.specs.declared.totals.Totals.{Totals}
+use Rattle.script_grammar.specs.declared.totals.Totals.{Totals}
 use Rattle.std.proofs.lemmas.Bool.{leb-true, leb-false}
 use Rattle.std.proofs.lemmas.Bool.Decides.{eqb_tells}
 use Rattle.std.proofs.lemmas.List.{get_or_past}

@@ -18,13 +18,13 @@ use Rattle.gate_model.specs.session.Entries.{taken_by}
 use Rattle.gate_model.specs.session.History.{History, is_closed}
 use Rattle.gate_model.specs.session.Output.{out, sent, taken, untaken}
 use Rattle.gate_model.specs.session.Calls.{Step, take_entry}
-use Rattle.script_lines.specs.declared.reading.Reading.{Reading}
-use Rattle.script_lines.specs.declared.reading.Reading.TheVariants.{Whole, Cut, Bad, TooMany}
-use Rattle.script_lines.specs.Hexadecimal.{digits_of, lower_digit}
-use Rattle.script_lines.specs.declared.line.Line.{Line}
-use Rattle.script_lines.specs.declared.line.Line.TheVariants.{Blank as blank, Bad as bad, At as moment, Start as start, Server as server, Join as join, Read as read, Write as write, Resize as resize, Take as take_up_to, Leave as leave, Close as close, Pixel as pixel, Same as same, Acknowledge as acknowledge, Done as done, Press as press_key, Totals as tell_totals}
-use Rattle.script_lines.specs.declared.order.Order.{Order}
-use Rattle.script_lines.specs.Lines.{line_in}
+use Rattle.script_grammar.specs.declared.reading.Reading.{Reading}
+use Rattle.script_grammar.specs.declared.reading.Reading.TheVariants.{Whole, Cut, Bad, TooMany}
+use Rattle.script_grammar.specs.Hexadecimal.{digits_of, lower_digit}
+use Rattle.script_grammar.specs.declared.line.Line.{Line}
+use Rattle.script_grammar.specs.declared.line.Line.TheVariants.{Blank as blank, Bad as bad, At as moment, Start as start, Server as server, Join as join, Read as read, Write as write, Resize as resize, Take as take_up_to, Leave as leave, Close as close, Pixel as pixel, Same as same, Acknowledge as acknowledge, Done as done, Press as press_key, Totals as tell_totals}
+use Rattle.script_grammar.specs.declared.order.Order.{Order}
+use Rattle.script_grammar.specs.Lines.{line_in}
 use Rattle.gate_script.specs.Told.{answer_to, taken_text, took_line}
 use Rattle.gate_script.proofs.StepLaws.{take_is}
 use Rattle.gate_script.specs.Plays.{Play, Plays, Does, DoesReading, Begins, Calls, Answers, Writes, Prints, IsLawful, Tells, acknowledgement, press}

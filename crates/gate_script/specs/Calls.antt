@@ -11,8 +11,8 @@ use Rattle.gate_model.specs.declared.write_refusal.WriteRefusal.TheVariants.{Wor
 use Rattle.gate_model.specs.session.Calls.{Step}
 use Rattle.gate_model.specs.session.History.{History}
 use Rattle.desk_core.specs.Desk.{DeskState, IsKept, Stands}
-use Rattle.script_lines.specs.declared.line.Line.{Line}
-use Rattle.script_lines.specs.declared.line.Line.TheVariants.{Blank, Bad, At, Start, Server, Join, Read, Pixel, Same, Acknowledge, Totals}
+use Rattle.script_grammar.specs.declared.line.Line.{Line}
+use Rattle.script_grammar.specs.declared.line.Line.TheVariants.{Blank, Bad, At, Start, Server, Join, Read, Pixel, Same, Acknowledge, Totals}
 use Rattle.gate_script.specs.declared.halt.Halt.{Halt}
 use Rattle.gate_script.specs.declared.halt.Halt.TheVariants.{NoMemory, OutsideGrammar, Worn}
 use Rattle.gate_script.specs.declared.reply.Reply.{Reply}

@@ -2,9 +2,9 @@
 use Rattle.std.specs.Prelude.{◌≡◌, ℕ, List, ◌∷◌, ◌⊎◌, Option}
 use Rattle.gate_model.specs.declared.entry.Entry.{Entry}
 use Rattle.gate_model.specs.session.History.{History}
-use Rattle.script_lines.specs.declared.text_form.TextForm.{TextForm}
-use Rattle.script_lines.specs.declared.text_form.TextForm.TheVariants.{Script}
-use Rattle.script_lines.specs.declared.order.Order.{Order}
+use Rattle.script_grammar.specs.declared.text_form.TextForm.{TextForm}
+use Rattle.script_grammar.specs.declared.text_form.TextForm.TheVariants.{Script}
+use Rattle.script_grammar.specs.declared.order.Order.{Order}
 use Rattle.gate_script.specs.declared.refused.Refused.{Refused}
 use Rattle.gate_script.specs.Outcomes.{CutInNewest, CutShort, Finished, Halted, Interrupted, LastCutShort, Refuses}
 use Rattle.gate_script.specs.Plays.{Play, Plays}

@@ -4,14 +4,14 @@ use Rattle.std.specs.Prelude.{◌≡◌, ℕ, zero, suc, ◌+◌, ◌-◌, ◌�
 use Rattle.gate_model.specs.Limits.{most_entries}
 use Rattle.gate_model.specs.session.History.{History}
 use Rattle.gate_model.specs.session.Output.{out, taken, untaken}
-use Rattle.script_lines.specs.declared.line.Line.{Line}
-use Rattle.script_lines.specs.declared.line.Line.TheVariants.{Start, Server, Take as take_up_to, Press as press_key, Totals as tell_totals}
-use Rattle.script_lines.specs.declared.order.Order.{Order}
-use Rattle.script_lines.specs.declared.order.Order.TheVariants.{Told, Untold}
-use Rattle.script_lines.specs.declared.totals.Totals.{Totals}
-use Rattle.script_lines.specs.Lines.{line_in}
-use Rattle.load_lines.specs.Words.{drawn}
-use Rattle.load_lines.specs.Rounds.{IsRoundLine, load_orders}
+use Rattle.script_grammar.specs.declared.line.Line.{Line}
+use Rattle.script_grammar.specs.declared.line.Line.TheVariants.{Start, Server, Take as take_up_to, Press as press_key, Totals as tell_totals}
+use Rattle.script_grammar.specs.declared.order.Order.{Order}
+use Rattle.script_grammar.specs.declared.order.Order.TheVariants.{Told, Untold}
+use Rattle.script_grammar.specs.declared.totals.Totals.{Totals}
+use Rattle.script_grammar.specs.Lines.{line_in}
+use Rattle.script_load.specs.Words.{drawn}
+use Rattle.script_load.specs.Rounds.{IsRoundLine, load_orders}
 use Rattle.gate_script.specs.declared.kind.Kind.{Kind}
 use Rattle.gate_script.specs.declared.kind.Kind.TheVariants.{Feed, Press, Take, Other}
 use Rattle.gate_script.specs.declared.level.Level.{Level}

@@ -7,20 +7,20 @@ use Rattle.gate_model.specs.session.Calls.{Step}
 use Rattle.gate_outside.specs.Edge.{AtEnd, came, gained}
 use Rattle.gate_model.specs.declared.act.Act.{Act}
 use Rattle.gate_model.specs.declared.event.Event.TheVariants.{Write as write_acts}
-use Rattle.script_lines.specs.declared.text_form.TextForm.{TextForm}
-use Rattle.script_lines.specs.declared.form.Form.{Form}
-use Rattle.script_lines.specs.declared.form.Form.TheVariants.{Text, Load, Clip, Play as play_form}
-use Rattle.script_lines.specs.declared.totals.Totals.{Totals}
-use Rattle.load_lines.specs.Words.{drawn}
-use Rattle.load_lines.specs.Rounds.{load_orders}
+use Rattle.script_grammar.specs.declared.text_form.TextForm.{TextForm}
+use Rattle.script_grammar.specs.declared.form.Form.{Form}
+use Rattle.script_grammar.specs.declared.form.Form.TheVariants.{Text, Load, Clip, Play as play_form}
+use Rattle.script_grammar.specs.declared.totals.Totals.{Totals}
+use Rattle.script_load.specs.Words.{drawn}
+use Rattle.script_load.specs.Rounds.{load_orders}
 use Rattle.gate_model.specs.session.Output.{untaken}
-use Rattle.script_lines.specs.declared.line.Line.{Line}
-use Rattle.script_lines.specs.declared.line.Line.TheVariants.{Bad, Write}
-use Rattle.script_lines.specs.declared.order.Order.{Order}
-use Rattle.script_lines.specs.declared.reading.Reading.TheVariants.{Whole, TooMany}
-use Rattle.script_lines.specs.Acts.{IsReading}
-use Rattle.script_lines.specs.Grammar.{whole_lines, all_lines}
-use Rattle.script_lines.specs.Lines.{line_in, told_by}
+use Rattle.script_grammar.specs.declared.line.Line.{Line}
+use Rattle.script_grammar.specs.declared.line.Line.TheVariants.{Bad, Write}
+use Rattle.script_grammar.specs.declared.order.Order.{Order}
+use Rattle.script_grammar.specs.declared.reading.Reading.TheVariants.{Whole, TooMany}
+use Rattle.script_grammar.specs.Acts.{IsReading}
+use Rattle.script_grammar.specs.Grammar.{whole_lines, all_lines}
+use Rattle.script_grammar.specs.Lines.{line_in, told_by}
 use Rattle.gate_script.specs.declared.refused.Refused.{Refused}
 use Rattle.gate_script.specs.declared.refused.Refused.TheVariants.{BadLine, Worn}
 use Rattle.gate_script.specs.Clipping.{ClipOutcome}

@@ -3,7 +3,7 @@ use Rattle.std.specs.Prelude.{◌≡◌, ◌⊎◌, ℕ, ◌<◌, List, [], leng
 use Rattle.gate_model.specs.Sequences.{BeginsWith}
 use Rattle.gate_outside.specs.Edge.{AtEnd, GainedFront, came, gained}
 use Rattle.record_play.specs.Recorded.{most_recorded}
-use Rattle.script_lines.specs.declared.play_form.PlayForm.{PlayForm}
+use Rattle.script_grammar.specs.declared.play_form.PlayForm.{PlayForm}
 use Rattle.gate_script.specs.PlayTold.{HasFirstFault, TellsOf, bad_recording_line}
 use Rattle.gate_script.specs.declared.stop.Stop.{Stop}
 use Rattle.gate_script.specs.declared.stop.Stop.TheVariants.{NoMemory, ReadFault}

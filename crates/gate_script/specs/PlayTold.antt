@@ -7,8 +7,8 @@ use Rattle.record_play.specs.Syncs.{IsFound}
 use Rattle.record_play.specs.declared.fault.RecordFault.{RecordFault}
 use Rattle.record_play.specs.declared.fault.RecordFault.TheVariants.{Bad, NoMemory}
 use Rattle.record_play.specs.declared.sync_at.SyncAt.{SyncAt}
-use Rattle.script_lines.specs.declared.play_form.PlayForm.{PlayForm}
-use Rattle.script_lines.specs.declared.play_form.PlayForm.TheVariants.{Info, At, Keys}
+use Rattle.script_grammar.specs.declared.play_form.PlayForm.{PlayForm}
+use Rattle.script_grammar.specs.declared.play_form.PlayForm.TheVariants.{Info, At, Keys}
 use Rattle.gate_script.specs.Plays.{rows_sum}
 use Rattle.gate_script.specs.Told.{answer_line}
 

@@ -24,20 +24,20 @@ use Rattle.gate_model.specs.session.Rights.{is_live}
 use Rattle.canvas.specs.declared.dot.Dot.{Dot}
 use Rattle.canvas.specs.declared.dot.Dot.TheVariants.{Outside as outside, Clear as clear, Painted as painted}
 use Rattle.canvas.specs.Standing.{dot_at}
-use Rattle.script_lines.specs.declared.reading.Reading.{Reading}
-use Rattle.script_lines.specs.declared.reading.Reading.TheVariants.{Whole, Cut, Bad, TooMany}
-use Rattle.script_lines.specs.Acts.{IsReading}
+use Rattle.script_grammar.specs.declared.reading.Reading.{Reading}
+use Rattle.script_grammar.specs.declared.reading.Reading.TheVariants.{Whole, Cut, Bad, TooMany}
+use Rattle.script_grammar.specs.Acts.{IsReading}
 use Rattle.gate_model.specs.text.Statuses.{not_found}
 use Rattle.gate_model.specs.session.Steps.{Legal, StartStep}
 use Rattle.gate_model.specs.session.Calls.{Step}
 use Rattle.gate_model.specs.session.Truth.{Faithful}
 use Rattle.gate_model.specs.session.Whole.{Whole as IsWholeHistory}
-use Rattle.script_lines.specs.declared.size.Size.{Size}
-use Rattle.script_lines.specs.declared.line.Line.{Line}
-use Rattle.script_lines.specs.declared.line.Line.TheVariants.{Blank, Bad as Outside, At, Start, Server, Join, Read, Write, Resize, Take, Leave, Close, Pixel, Same as Alike, Acknowledge, Done, Press, Totals as TellTotals}
-use Rattle.script_lines.specs.declared.totals.Totals.{Totals}
-use Rattle.script_lines.specs.declared.order.Order.{Order}
-use Rattle.script_lines.specs.Lines.{line_in, told_by}
+use Rattle.script_grammar.specs.declared.size.Size.{Size}
+use Rattle.script_grammar.specs.declared.line.Line.{Line}
+use Rattle.script_grammar.specs.declared.line.Line.TheVariants.{Blank, Bad as Outside, At, Start, Server, Join, Read, Write, Resize, Take, Leave, Close, Pixel, Same as Alike, Acknowledge, Done, Press, Totals as TellTotals}
+use Rattle.script_grammar.specs.declared.totals.Totals.{Totals}
+use Rattle.script_grammar.specs.declared.order.Order.{Order}
+use Rattle.script_grammar.specs.Lines.{line_in, told_by}
 use Rattle.gate_script.specs.Told.{answer_line, answer_to, framings, refused_line, write_answer, cut_line, bad_text_line, pixel_line, same_line, differ_line, took_line, totals_lines}
 
 pub record Play : Type 0 where

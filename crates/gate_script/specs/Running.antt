@@ -6,15 +6,15 @@ use Rattle.std.specs.Option.{is_some}
 use Rattle.gate_model.specs.Sequences.{IsLater, BeginsWith}
 use Rattle.gate_model.specs.text.Reading.{read as read_stream}
 use Rattle.gate_outside.specs.Edge.{AtEnd, came, gained, GainedFront}
-use Rattle.script_lines.specs.declared.text_form.TextForm.{TextForm}
-use Rattle.script_lines.specs.declared.text_form.TextForm.TheVariants.{Draw, Script}
-use Rattle.script_lines.specs.declared.line.Line.{Line}
-use Rattle.script_lines.specs.declared.line.Line.TheVariants.{Start, Server, Join, Read, Acknowledge}
-use Rattle.script_lines.specs.declared.order.Order.{Order}
-use Rattle.script_lines.specs.Words.{IsTextForm}
-use Rattle.script_lines.specs.Pieces.{first_piece}
-use Rattle.script_lines.specs.Lines.{line_in, told_by}
-use Rattle.script_lines.specs.Grammar.{most_script, total, starts, lines_of, most_of, whole_lines, all_lines}
+use Rattle.script_grammar.specs.declared.text_form.TextForm.{TextForm}
+use Rattle.script_grammar.specs.declared.text_form.TextForm.TheVariants.{Draw, Script}
+use Rattle.script_grammar.specs.declared.line.Line.{Line}
+use Rattle.script_grammar.specs.declared.line.Line.TheVariants.{Start, Server, Join, Read, Acknowledge}
+use Rattle.script_grammar.specs.declared.order.Order.{Order}
+use Rattle.script_grammar.specs.Words.{IsTextForm}
+use Rattle.script_grammar.specs.Pieces.{first_piece}
+use Rattle.script_grammar.specs.Lines.{line_in, told_by}
+use Rattle.script_grammar.specs.Grammar.{most_script, total, starts, lines_of, most_of, whole_lines, all_lines}
 use Rattle.gate_script.specs.declared.halt.Halt.{Halt}
 use Rattle.gate_script.specs.declared.halt.Halt.TheVariants.{NoMemory as no_memory, OutsideGrammar, Worn as is_worn}
 use Rattle.gate_script.specs.declared.refused.Refused.{Refused as Refusal}

@@ -31,8 +31,8 @@ use Rattle.canvas.specs.declared.dot.Dot.{Dot}
 use Rattle.canvas.specs.declared.dot.Dot.TheVariants.{Outside, Clear, Painted}
 use Rattle.gate_model.specs.session.History.{History}
 use Rattle.gate_model.specs.session.Delivered.{delivered, given}
-use Rattle.script_lines.specs.declared.totals.Totals.{Totals}
-use Rattle.script_lines.specs.Hexadecimal.{digits_of}
+use Rattle.script_grammar.specs.declared.totals.Totals.{Totals}
+use Rattle.script_grammar.specs.Hexadecimal.{digits_of}
 
 abbrev pub blank_and : ℕ → List ℕ
 blank_and n = 32 ∷ decimal n

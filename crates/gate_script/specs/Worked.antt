@@ -8,7 +8,7 @@ use Rattle.gate_model.specs.declared.instr.Instr.TheVariants.{Sync}
 use Rattle.gate_model.specs.declared.resize_refusal.ResizeRefusal.{ResizeRefusal}
 use Rattle.gate_model.specs.declared.resize_refusal.ResizeRefusal.TheVariants.{NoViewer, Closed, Denied, Same, Worn}
 use Rattle.gate_model.specs.text.Text.{texts}
-use Rattle.script_lines.specs.declared.line.Line.TheVariants.{Resize}
+use Rattle.script_grammar.specs.declared.line.Line.TheVariants.{Resize}
 use Rattle.gate_script.specs.Told.{answer_line, answer_to, frames_line, framing, refused_line, worn_by}
 use Rattle.gate_script.specs.Plays.{event_of, opening}
 

@@ -2,8 +2,8 @@
 
 ghost use Rattle.std.specs.Prelude.{◌≡◌, ◌≤◌, ◌↔◌, ◌⊎◌, [], Option, List, ℕ, map, string_bytes, IfErr, IfOk, None, Some};
 ghost use Rattle.gate_outside.specs.Edge.{Rose};
-ghost use Rattle.script_lines.specs.declared.form.Form.{Form as Forms};
-ghost use Rattle.script_lines.specs.Words.{IsTextForm, form_of};
+ghost use Rattle.script_grammar.specs.declared.form.Form.{Form as Forms};
+ghost use Rattle.script_grammar.specs.Words.{IsTextForm, form_of};
 ghost use Rattle.gate_script.specs.Outcomes.{IsStatus, LinesOutcome, LoadOutcome, Outcome, Ran, WroteSo, last_line};
 ghost use Rattle.gate_script.specs.Sinks.{held};
 ghost use Rattle.gate_script.specs.Running.{Ended, HasCause, HasRead, Put, RunEnds, refused_status, status_after};
@@ -18,7 +18,7 @@ use crate::reply::Reply;
 use crate::run::Run;
 use crate::stop::Stop;
 use gate_outside::{Sink, Source, write_all};
-use script_lines::{Form, TextForm, form_of};
+use script_grammar::{Form, TextForm, form_of};
 use std::alloc::Global;
 
 /// Does what the words say, and answers the status. The words are those after the program's name, in

@@ -2,12 +2,12 @@
 
 ghost use Rattle.std.specs.Prelude.{◌≡◌, ◌++◌, ◌+◌, ◌^◌, ◌<◌, ◌≤◌, ◌⊎◌, [], ℕ, List, Option, length, take, true, None, IfOk, IfErr, OnOk};
 ghost use Rattle.gate_outside.specs.Edge.{Rose, came};
-ghost use Rattle.script_lines.specs.Pieces.{first_piece};
+ghost use Rattle.script_grammar.specs.Pieces.{first_piece};
 
 use crate::run::Run;
 use crate::stop::Stop;
 use gate_outside::{Sink, Source};
-use script_lines::{most_of, next_part};
+use script_grammar::{most_of, next_part};
 use std::alloc::Global;
 
 /// How many bytes are read at once.
@@ -21,7 +21,7 @@ pub(crate) struct Input {
 }
 
 impl Input {
-    ghost use Rattle.script_lines.specs.Grammar.{all_lines, most_of};
+    ghost use Rattle.script_grammar.specs.Grammar.{all_lines, most_of};
     ghost use Rattle.gate_script.specs.Sinks.{Sinks, held};
     ghost use Rattle.gate_script.specs.Running.{BytesEnd, HasCut, HasRead, IsReady, LastEnds, PartEnds, RunEnds, StepEnds};
 

@@ -4,7 +4,7 @@
 //!
 //! `command` is the public call. Its contract says for each status what was read and written: the
 //! answers and the frames are just what the lines that the input makes (`specs/Grammar.antt` of
-//! script_lines) tell of a legal and true history, and the bytes that the lines `take` print are the first
+//! script_grammar) tell of a legal and true history, and the bytes that the lines `take` print are the first
 //! ones that the history sends to the Telnet host (`specs/Plays.antt`, `specs/Outcomes.antt`).
 //!
 //! A session's calls are made in memory, and tell what they tell to a reply. `Run::order` writes the reply

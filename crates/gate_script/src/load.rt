@@ -2,12 +2,12 @@
 
 ghost use Rattle.std.specs.Prelude.{◌≡◌, ◌≤◌, [], ◌∷◌, ℕ, List, All, true, false, IfSome, OnOk};
 ghost use Rattle.std.specs.Option.{is_some};
-ghost use Rattle.script_lines.specs.declared.order.Order.{Order as Orders};
-ghost use Rattle.script_lines.specs.declared.order.Order.TheVariants.{Untold};
-ghost use Rattle.script_lines.specs.Grammar.{is_start};
-ghost use Rattle.script_lines.specs.Lines.{IsInRange};
-ghost use Rattle.load_lines.specs.Words.{drawn};
-ghost use Rattle.load_lines.specs.Rounds.{IsRoundLine, load_begins, takes_done, untold};
+ghost use Rattle.script_grammar.specs.declared.order.Order.{Order as Orders};
+ghost use Rattle.script_grammar.specs.declared.order.Order.TheVariants.{Untold};
+ghost use Rattle.script_grammar.specs.Grammar.{is_start};
+ghost use Rattle.script_grammar.specs.Lines.{IsInRange};
+ghost use Rattle.script_load.specs.Words.{drawn};
+ghost use Rattle.script_load.specs.Rounds.{IsRoundLine, load_begins, takes_done, untold};
 ghost use Rattle.gate_script.specs.declared.sight.Sight.{Sight as Sights};
 ghost use Rattle.gate_script.specs.Plays.{Play};
 ghost use Rattle.gate_script.specs.Sinks.{Sinks, held};
@@ -21,8 +21,8 @@ use crate::sight::Sight;
 use crate::stop::Stop;
 use gate_model::{Asked, Share};
 use gate_outside::Sink;
-use load_lines::Rounds;
-use script_lines::{Line, Order, Size, TextForm, Totals};
+use script_grammar::{Line, Order, Size, TextForm, Totals};
+use script_load::Rounds;
 use std::alloc::Global;
 
 /// The most entries of a session.

@@ -11,7 +11,7 @@ use crate::stop::Stop;
 use gate_model::NoMemory;
 use gate_outside::{Sink, Source, write_all};
 use record_play::RecordFault;
-use script_lines::PlayForm;
+use script_grammar::PlayForm;
 use std::alloc::Global;
 
 /// How many bytes are read at once.

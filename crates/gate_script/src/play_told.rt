@@ -13,7 +13,7 @@ use crate::seeing::rows_sum;
 use canvas::Canvas;
 use gate_model::NoMemory;
 use record_play::{Player, RecordFault, Recording, SyncAt, key_log};
-use script_lines::PlayForm;
+use script_grammar::PlayForm;
 use std::alloc::Global;
 
 /// What is told of the bytes. The place of the first fault is told apart.

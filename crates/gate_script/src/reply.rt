@@ -8,7 +8,7 @@ use canvas::Dot;
 use gate_model::{Colour, NoMemory, ReadAnswer};
 use guac_framing::{BadAt, BadKind};
 use itoa::Buffer;
-use script_lines::{Totals, push_digits};
+use script_grammar::{Totals, push_digits};
 use std::alloc::Global;
 
 /// The answers, and the lines of the frames, that were told and aren't written yet.

@@ -12,7 +12,7 @@ use crate::stop::Stop;
 use desk_core::laws::{desks_are_true, desks_are_whole};
 use gate_model::{Asked, Bytes, Share};
 use gate_outside::{Sink, write_all};
-use script_lines::{Line, Order, Size, TextForm, judged};
+use script_grammar::{Line, Order, Size, TextForm, judged};
 use std::alloc::Global;
 
 /// The most entries of a session.
@@ -28,13 +28,13 @@ pub(crate) struct Run {
 }
 
 impl Run {
-    ghost use Rattle.script_lines.specs.declared.text_form.TextForm.TheVariants.{Draw, Script};
-    ghost use Rattle.script_lines.specs.declared.line.Line.TheVariants.{Acknowledge, Bad, Read, Server};
-    ghost use Rattle.script_lines.specs.declared.order.Order.{Order as Orders};
-    ghost use Rattle.script_lines.specs.declared.order.Order.TheVariants.{Told, Untold};
-    ghost use Rattle.script_lines.specs.Grammar.{ending, in_place, judged, lines_of, most_of, most_script, starts};
-    ghost use Rattle.script_lines.specs.Lines.{IsInRange, line_in};
-    ghost use Rattle.script_lines.specs.Words.{IsTextForm};
+    ghost use Rattle.script_grammar.specs.declared.text_form.TextForm.TheVariants.{Draw, Script};
+    ghost use Rattle.script_grammar.specs.declared.line.Line.TheVariants.{Acknowledge, Bad, Read, Server};
+    ghost use Rattle.script_grammar.specs.declared.order.Order.{Order as Orders};
+    ghost use Rattle.script_grammar.specs.declared.order.Order.TheVariants.{Told, Untold};
+    ghost use Rattle.script_grammar.specs.Grammar.{ending, in_place, judged, lines_of, most_of, most_script, starts};
+    ghost use Rattle.script_grammar.specs.Lines.{IsInRange, line_in};
+    ghost use Rattle.script_grammar.specs.Words.{IsTextForm};
     ghost use Rattle.gate_script.specs.declared.sight.Sight.TheVariants.{Played, Unplayed};
     ghost use Rattle.gate_script.specs.Calls.{MaySee};
     ghost use Rattle.gate_script.specs.Sinks.{Sinks, Wrote, held};

@@ -16,7 +16,7 @@ use desk_core::{
     Written,
 };
 use gate_model::{Act, Asked, Cause, Faces, Share, Text, statuses};
-use script_lines::{Line, Reading, Size, Totals, read_acts};
+use script_grammar::{Line, Reading, Size, Totals, read_acts};
 use std::alloc::Global;
 
 /// A desk, and what a viewer is given. Where what viewers see is played, there is a place for each viewer that
@@ -31,8 +31,8 @@ pub(crate) struct Session {
 impl Session {
     ghost use Rattle.gate_model.specs.session.Calls.{IsWrite};
     ghost use Rattle.gate_model.specs.session.History.{History};
-    ghost use Rattle.script_lines.specs.declared.line.Line.TheVariants.{Acknowledge, Close, Done, Join, Leave, Pixel, Press, Read, Resize, Same, Server, Start, Take, Totals as TellTotals, Write};
-    ghost use Rattle.script_lines.specs.Lines.{IsInRange};
+    ghost use Rattle.script_grammar.specs.declared.line.Line.TheVariants.{Acknowledge, Close, Done, Join, Leave, Pixel, Press, Read, Resize, Same, Server, Start, Take, Totals as TellTotals, Write};
+    ghost use Rattle.script_grammar.specs.Lines.{IsInRange};
     ghost use Rattle.gate_script.specs.declared.sight.Sight.{Sight as Sights};
     ghost use Rattle.gate_script.specs.declared.sight.Sight.TheVariants.{Played};
     ghost use Rattle.gate_script.specs.Calls.{CallEnds, IsAt, IsCall, IsOpenDesk, LeavesOpen, MaySee, StartEnds, StaysOpen, WriteEnds, play};

@@ -2,9 +2,9 @@
 
 ghost use Rattle.std.specs.Prelude.{◌≡◌, ◌≢◌, ◌||◌, false, OnOk};
 ghost use Rattle.std.specs.Option.{is_some};
-ghost use Rattle.script_lines.specs.declared.line.Line.TheVariants.{Bad};
-ghost use Rattle.script_lines.specs.Lines.{IsInRange, line_in};
-ghost use Rattle.script_lines.specs.Grammar.{in_place, is_start, starts};
+ghost use Rattle.script_grammar.specs.declared.line.Line.TheVariants.{Bad};
+ghost use Rattle.script_grammar.specs.Lines.{IsInRange, line_in};
+ghost use Rattle.script_grammar.specs.Grammar.{in_place, is_start, starts};
 ghost use Rattle.gate_script.specs.Calls.{IsCall, MaySee};
 ghost use Rattle.gate_script.specs.Plays.{Play};
 ghost use Rattle.gate_script.specs.Running.{LeavesOpen, LineEnds, OrderEnds, StandsAt};
@@ -13,7 +13,7 @@ use crate::halt::Halt;
 use crate::reply::Reply;
 use crate::session::Session;
 use crate::sight::Sight;
-use script_lines::{Line, Order};
+use script_grammar::{Line, Order};
 use std::alloc::Global;
 
 /// The moment, the session once it has started, and what the newest order tells.

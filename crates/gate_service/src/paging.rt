@@ -7,7 +7,7 @@ use gate_outside::Sink;
 use http_front::{Response, write_response};
 use log::Log;
 use page_files::{Judged, PageFile, answer, judge};
-use serve_words::Names;
+use serve_options::Names;
 use session_list::SessionList;
 use std::alloc::Global;
 

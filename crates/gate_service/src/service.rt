@@ -2,7 +2,7 @@
 
 ghost use Rattle.std.specs.Prelude.{◌≡◌, ◌≤◌, ◌⊎◌, None, map, string_bytes};
 ghost use Rattle.gate_outside.specs.Edge.{Rose};
-ghost use Rattle.serve_words.specs.Given.{options_given};
+ghost use Rattle.serve_options.specs.Given.{options_given};
 
 use crate::accepting::Service;
 use crate::jobs::Links;
@@ -14,7 +14,7 @@ use gate_outside::{DialFault, Net};
 use id_table::LockedShelf;
 use log::{LevelFilter, Log, Logged};
 use page_files::PageFile;
-use serve_words::{Names, Options, WordsFault, options_of};
+use serve_options::{Names, Options, WordsFault, options_of};
 use service_door::Session;
 use session_list::SessionList;
 use share_links::LinkTable;

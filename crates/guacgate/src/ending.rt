@@ -7,7 +7,7 @@ use crate::manager::Manager;
 use crate::noting::Notes;
 use crate::saying::say_end;
 use log::{LevelFilter, Logged, error, warn};
-use real_ends::Watch;
+use outside_tcp::Watch;
 use session_list::SessionList;
 use std::fs::Files;
 use std::sync::Wait;

@@ -51,7 +51,7 @@ pub(crate) fn tell<K: Sink>(rt: &HostRuntime, words: &[String], output: &mut K) 
     if !asks_of_serve(words) {
         return None;
     }
-    match serve_words::help(rt.alloc()) {
+    match serve_options::help(rt.alloc()) {
         Ok(text) => Some(told(write_all(output, text.as_bytes()))),
         Err(_) => Some(6),
     }

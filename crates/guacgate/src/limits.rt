@@ -1,8 +1,8 @@
 //! What the words of `serve` set at the edge: the limits of the net, how is noted, and where the operator asks.
 
 use crate::saying::say;
-use real_ends::{Limits, RuleFault, Rules};
-use serve_words::{
+use outside_tcp::{Limits, RuleFault, Rules};
+use serve_options::{
     Allowed, LogFormat, Names, Options, WordsFault, cause, cause_of_admin, cause_of_prefix,
     options_of,
 };
@@ -33,7 +33,7 @@ impl Edge {
 /// say. The status is 2 where a prefix of `--allow` or the address of `--admin` is of no form, and 6 where memory is
 /// wanting.
 pub(crate) fn edge_of<R: AllocGlobal + Eprint>(rt: &R, words: &[String]) -> Result<Edge, u8> {
-    let Some(options) = serve_options(words) else {
+    let Some(options) = behind_serve(words) else {
         return Ok(Edge::none());
     };
     match options_of(rt.alloc(), options) {
@@ -76,7 +76,7 @@ fn admin_in<R: AllocGlobal + Eprint>(rt: &R, text: &str, port: u16) -> Result<So
 }
 
 // What stands behind `serve`.
-pub(crate) fn serve_options(words: &[String]) -> Option<&[String]> {
+pub(crate) fn behind_serve(words: &[String]) -> Option<&[String]> {
     let (name, options) = words.split_first()?;
     if name.as_str() == "serve" {
         Some(options)

@@ -14,7 +14,7 @@ use ends::{Ends, ends_of};
 use gate_outside::{Sink, StdSink, StdSource};
 use gate_service::{Host, top};
 use help::tell;
-use limits::serve_options;
+use limits::behind_serve;
 use saying::say_unprepared;
 use std::io::ErrorKind;
 use std::process::ExitCode;
@@ -76,7 +76,7 @@ fn begin<K: Sink>(rt: &HostRuntime, output: &mut K) -> Result<(Vec<String>, Ends
     if let Some(status) = tell(rt, &words, output) {
         return Err(status);
     }
-    let serves = serve_options(&words).is_some();
+    let serves = behind_serve(&words).is_some();
     match prepare(rt, words, serves) {
         Ok(prepared) => Ok(prepared),
         Err(status) => {

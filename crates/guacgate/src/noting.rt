@@ -1,7 +1,7 @@
 //! Where `serve` notes.
 
 use crate::saying::say;
-use serve_words::LogFormat;
+use serve_options::LogFormat;
 use service_notes::{Form, NoteLog, Queue};
 use std::sync::Wait;
 use std::thread;

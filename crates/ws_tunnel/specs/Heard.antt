@@ -4,7 +4,7 @@ use Rattle.std.specs.Prelude.{◌≡◌, ℕ, List, [], ◌∷◌, ◌++◌, len
 use Rattle.std.specs.List.{prefix_len}
 use Rattle.gate_model.specs.declared.act.Act.{Act}
 use Rattle.gate_model.specs.declared.act.Act.TheVariants.{Disconnect}
-use Rattle.script_lines.specs.Acts.{IsWhole}
+use Rattle.script_grammar.specs.Acts.{IsWhole}
 
 -- the act doesn't ask for an end
 abbrev pub goes_on : Act → Bool

@@ -19,7 +19,7 @@ use Rattle.turn_lock.specs.declared.view.View.{View}
 use Rattle.shared_desk.specs.Meetings.{written_by}
 use Rattle.shared_desk.specs.Members.{IsSound}
 use Rattle.shared_desk.specs.Own.{own_entries}
-use Rattle.script_lines.specs.Acts.{HasTooMany, IsBad, IsCut}
+use Rattle.script_grammar.specs.Acts.{HasTooMany, IsBad, IsCut}
 use Rattle.viewer_acts.specs.Parts.{AreParts, Part, joined}
 use Rattle.viewer_acts.specs.Doing.{Did, GoesOn, WritesParts}
 use Rattle.ws_tunnel.specs.Answered.{Answered, WasRead}

@@ -7,7 +7,7 @@ ghost use Rattle.ws_tunnel.specs.Runs.{HasRead};
 
 use crate::WsEnd;
 use gate_model::{Act, Acts};
-use script_lines::{Reading, read_acts};
+use script_grammar::{Reading, read_acts};
 use std::alloc::Global;
 
 /// The acts of a message of whole instructions, of which there may be 4,096.

@@ -1,6 +1,6 @@
 use Rattle.std.proofs.Common.{◌≡◌, ◌∙◌, inl, sym, subst}
-use Rattle.script_lines.specs.declared.form.Form.{Form}
-use Rattle.script_lines.specs.declared.form.Form.TheVariants.{Text, Load, Clip, Play}
+use Rattle.script_grammar.specs.declared.form.Form.{Form}
+use Rattle.script_grammar.specs.declared.form.Form.TheVariants.{Text, Load, Clip, Play}
 use Rattle.gate_script.specs.Outcomes.{Outcome, Ran}
 use Rattle.gate_script.proofs.ClipLaws.{clip_is_used, clip_ran}
 use Rattle.gate_script.proofs.LoadEndings.{load_is_used, load_ran, load_reads_none, same_form, text_is_used, text_ran, used}

@@ -2,7 +2,7 @@ use Rattle.std.proofs.Common.{◌≡◌, [], ◌∙◌, ap, subst, sym, refl}
 use Rattle.std.specs.Prelude.{Result, Err}
 use Rattle.std.proofs.lemmas.Result.{err_from_is_err_and}
 use Rattle.gate_outside.specs.Edge.{Rose}
-use Rattle.script_lines.specs.declared.text_form.TextForm.{TextForm}
+use Rattle.script_grammar.specs.declared.text_form.TextForm.{TextForm}
 use Rattle.gate_script.specs.declared.stop.Stop.{Stop}
 use Rattle.gate_script.specs.Sinks.{held}
 use Rattle.gate_script.specs.Running.{HasCut, HasDone, HasRead, PieceEnds, RunEnds}

@@ -1,6 +1,6 @@
 use Rattle.std.proofs.Common.{◌≡◌, ◌∙◌, subst, arith}
 use Rattle.gate_outside.specs.Edge.{Rose}
-use Rattle.script_lines.specs.declared.text_form.TextForm.{TextForm}
+use Rattle.script_grammar.specs.declared.text_form.TextForm.{TextForm}
 use Rattle.gate_script.specs.Outcomes.{Outcome, Ran}
 use Rattle.gate_script.specs.Sinks.{held}
 use Rattle.gate_script.proofs.CommandLaws.{outcome_of, read_cause, write_cause, run_later, failed_in}

@@ -1,6 +1,6 @@
 use mathlib.Core.Path.{subst}
 use Rattle.std.proofs.Common.{◌≡◌, ◌⊎◌, IfSome, None}
-use Rattle.serve_words.specs.Given.{options_given}
+use Rattle.serve_options.specs.Given.{options_given}
 use Rattle.gate_service.proofs.program.top.Goals as goal
 
 -- the words of `serve` are those that the call was given

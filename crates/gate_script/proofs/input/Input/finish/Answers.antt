@@ -1,12 +1,12 @@
 use Rattle.std.proofs.Common.{◌≡◌, ◌∷◌, ap, sym, ◌∙◌, subst}
 use Rattle.std.specs.Prelude.{Result, Err}
 use Rattle.std.proofs.lemmas.Result.{err_from_is_err_and}
-use Rattle.script_lines.specs.declared.text_form.TextForm.{TextForm}
+use Rattle.script_grammar.specs.declared.text_form.TextForm.{TextForm}
 use Rattle.gate_script.specs.declared.stop.Stop.{Stop}
-use Rattle.script_lines.specs.Grammar.{ending, all_lines, lines_of}
+use Rattle.script_grammar.specs.Grammar.{ending, all_lines, lines_of}
 use Rattle.gate_script.specs.Sinks.{held}
 use Rattle.gate_script.specs.Running.{LastEnds, HasDone}
-use Rattle.script_lines.proofs.GrammarLaws.{some_bytes, no_bytes}
+use Rattle.script_grammar.proofs.GrammarLaws.{some_bytes, no_bytes}
 use Rattle.gate_script.proofs.InputLaws.{ended_whole, ended_amidst, stopped_amidst}
 use Rattle.gate_script.proofs.input.Input.finish.Goals as goal
 

@@ -1,11 +1,11 @@
 use Rattle.std.proofs.Common.{◌≡◌, ℕ, List, [], refl, ap, sym, ◌∙◌, subst, arith}
 use Rattle.std.specs.Prelude.{Result, Err, None}
 use Rattle.std.proofs.lemmas.Result.{err_from_is_err_and}
-use Rattle.script_lines.specs.declared.text_form.TextForm.{TextForm}
+use Rattle.script_grammar.specs.declared.text_form.TextForm.{TextForm}
 use Rattle.gate_script.specs.declared.stop.Stop.{Stop}
 use Rattle.gate_script.specs.declared.stop.Stop.TheVariants.{NoMemory}
-use Rattle.script_lines.specs.Pieces.{first_piece}
-use Rattle.script_lines.specs.Grammar.{most_of}
+use Rattle.script_grammar.specs.Pieces.{first_piece}
+use Rattle.script_grammar.specs.Grammar.{most_of}
 use Rattle.gate_script.specs.Running.{HasCut, RunEnds}
 use Rattle.gate_outside.specs.Edge.{Rose}
 use Rattle.gate_outside.proofs.Moved.{came-none}

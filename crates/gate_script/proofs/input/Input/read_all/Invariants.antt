@@ -1,7 +1,7 @@
 use Rattle.std.proofs.Common.{◌≡◌, ◌+◌, ◌≤◌, [], length, vec_len}
 use Rattle.std.specs.Prelude.{None}
-use Rattle.script_lines.specs.Pieces.{first_piece}
-use Rattle.script_lines.specs.Grammar.{most_of}
+use Rattle.script_grammar.specs.Pieces.{first_piece}
+use Rattle.script_grammar.specs.Grammar.{most_of}
 use Rattle.gate_script.specs.Sinks.{Sinks, held}
 use Rattle.gate_script.specs.Running.{HasCut, HasRead, IsReady}
 use Rattle.gate_script.proofs.input.Input.read_all.Given as goal

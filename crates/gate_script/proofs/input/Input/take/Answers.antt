@@ -1,10 +1,10 @@
 use Rattle.std.proofs.Common.{◌≡◌, ℕ, ◌+◌, ◌-◌, List, ◌++◌, length, take, drop, refl, ap, sym, ◌∙◌, subst, arith}
 use Rattle.std.specs.Prelude.{Result, Err, None}
 use Rattle.std.proofs.lemmas.Result.{err_from_is_err_and}
-use Rattle.script_lines.specs.declared.text_form.TextForm.{TextForm}
+use Rattle.script_grammar.specs.declared.text_form.TextForm.{TextForm}
 use Rattle.gate_script.specs.declared.stop.Stop.{Stop}
-use Rattle.script_lines.specs.Pieces.{first_piece}
-use Rattle.script_lines.specs.Grammar.{most_of, whole_lines}
+use Rattle.script_grammar.specs.Pieces.{first_piece}
+use Rattle.script_grammar.specs.Grammar.{most_of, whole_lines}
 use Rattle.gate_script.specs.Sinks.{held}
 use Rattle.gate_script.specs.Running.{HasCut, BytesEnd, StoppedIn}
 use Rattle.std.proofs.Common.{append-nil}

@@ -3,8 +3,8 @@ use Rattle.std.specs.Prelude.{Result, Err, Some, None}
 use Rattle.std.proofs.lemmas.Result.{err_from_is_err_and}
 use Rattle.gate_script.specs.declared.stop.Stop.{Stop}
 use Rattle.gate_script.specs.declared.stop.Stop.TheVariants.{NoMemory}
-use Rattle.script_lines.specs.Pieces.{first_piece}
-use Rattle.script_lines.specs.Grammar.{most_of}
+use Rattle.script_grammar.specs.Pieces.{first_piece}
+use Rattle.script_grammar.specs.Grammar.{most_of}
 use Rattle.gate_script.specs.Sinks.{held}
 use Rattle.gate_script.specs.Running.{PartEnds}
 use Rattle.gate_script.proofs.InputLaws.{not_kept, piece_done, piece_stopped, piece_goes_on}

@@ -2,7 +2,7 @@ use Rattle.std.proofs.Common.{◌≡◌, ◌∷◌, ℕ, List, Bool, ap, refl, s
 use Rattle.std.specs.Prelude.{Result, Err}
 use Rattle.std.specs.Option.{is_some}
 use Rattle.std.proofs.lemmas.Result.{err_from_is_err_and}
-use Rattle.script_lines.specs.declared.order.Order.TheVariants.{Untold}
+use Rattle.script_grammar.specs.declared.order.Order.TheVariants.{Untold}
 use Rattle.gate_script.specs.declared.kind.Kind.{Kind}
 use Rattle.gate_script.specs.declared.load.Load.{Load}
 use Rattle.gate_script.specs.declared.stop.Stop.{Stop}

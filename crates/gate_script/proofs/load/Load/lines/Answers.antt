@@ -3,9 +3,9 @@ use Rattle.std.specs.Prelude.{Result, Err}
 use Rattle.std.proofs.lemmas.List.Sorted.{All-permutation}
 use Rattle.std.specs.Option.{is_some}
 use Rattle.std.proofs.lemmas.Result.{err_from_is_err_and}
-use Rattle.script_lines.specs.declared.order.Order.{Order}
-use Rattle.script_lines.specs.declared.order.Order.TheVariants.{Untold}
-use Rattle.load_lines.specs.Rounds.{IsRoundLine, untold}
+use Rattle.script_grammar.specs.declared.order.Order.{Order}
+use Rattle.script_grammar.specs.declared.order.Order.TheVariants.{Untold}
+use Rattle.script_load.specs.Rounds.{IsRoundLine, untold}
 use Rattle.gate_script.specs.declared.stop.Stop.{Stop}
 use Rattle.gate_script.specs.Loading.{LoadAt, LoadEnds}
 use Rattle.gate_script.specs.Sinks.{held}

@@ -1,10 +1,10 @@
 use Rattle.std.proofs.Common.{◌≡◌, ◌++◌, List, map, reverse, length, true}
 use Rattle.std.specs.Prelude.{All}
 use Rattle.std.specs.Option.{is_some}
-use Rattle.script_lines.specs.declared.line.Line.{Line}
-use Rattle.script_lines.specs.declared.order.Order.{Order}
-use Rattle.script_lines.specs.declared.order.Order.TheVariants.{Untold}
-use Rattle.load_lines.specs.Rounds.{IsRoundLine}
+use Rattle.script_grammar.specs.declared.line.Line.{Line}
+use Rattle.script_grammar.specs.declared.order.Order.{Order}
+use Rattle.script_grammar.specs.declared.order.Order.TheVariants.{Untold}
+use Rattle.script_load.specs.Rounds.{IsRoundLine}
 use Rattle.gate_script.specs.Sinks.{Sinks, held}
 use Rattle.gate_script.specs.Loading.{LoadAt}
 use Rattle.gate_script.proofs.load.Load.lines.Given as goal

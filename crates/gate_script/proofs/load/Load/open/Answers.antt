@@ -4,9 +4,9 @@ use Rattle.std.proofs.lemmas.Result.{err_from_is_err_and}
 use Rattle.gate_model.specs.declared.sharing.Asked.TheVariants.{Owner}
 use Rattle.gate_model.specs.declared.sharing.Share.TheVariants.{View}
 use Rattle.gate_model.specs.Limits.{most_entries}
-use Rattle.script_lines.specs.declared.line.Line.TheVariants.{Join, Start}
-use Rattle.script_lines.specs.declared.order.Order.TheVariants.{Untold}
-use Rattle.load_lines.specs.Rounds.{load_begins}
+use Rattle.script_grammar.specs.declared.line.Line.TheVariants.{Join, Start}
+use Rattle.script_grammar.specs.declared.order.Order.TheVariants.{Untold}
+use Rattle.script_load.specs.Rounds.{load_begins}
 use Rattle.gate_script.specs.declared.stop.Stop.{Stop}
 use Rattle.gate_script.specs.Loading.{LoadEnds}
 use Rattle.gate_script.specs.Sinks.{held}

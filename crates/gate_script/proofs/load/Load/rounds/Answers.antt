@@ -1,11 +1,11 @@
 use Rattle.std.proofs.Common.{◌≡◌, ◌+◌, ◌≤◌, ◌∷◌, ℕ, List, ap, refl, sym, ◌∙◌, subst, arith}
 use Rattle.std.specs.Prelude.{All, Result, Err}
 use Rattle.std.proofs.lemmas.Result.{err_from_is_err_and}
-use Rattle.script_lines.specs.declared.order.Order.{Order}
-use Rattle.load_lines.specs.Words.{drawn}
-use Rattle.load_lines.specs.Rounds.{IsRoundLine, rounds_done, takes_done}
-use Rattle.load_lines.specs.Draws.{stand_of}
-use Rattle.load_lines.proofs.RoundLaws.{round_plain, turn_plain}
+use Rattle.script_grammar.specs.declared.order.Order.{Order}
+use Rattle.script_load.specs.Words.{drawn}
+use Rattle.script_load.specs.Rounds.{IsRoundLine, rounds_done, takes_done}
+use Rattle.script_load.specs.Draws.{stand_of}
+use Rattle.script_load.proofs.RoundLaws.{round_plain, turn_plain}
 use Rattle.gate_script.specs.declared.stop.Stop.{Stop}
 use Rattle.gate_script.specs.declared.stop.Stop.TheVariants.{NoMemory}
 use Rattle.gate_script.specs.Loading.{LoadAt, LoadEnds, LoadStopped}

@@ -1,8 +1,8 @@
 use Rattle.std.proofs.Common.{◌≡◌, ◌≤◌, true}
 use Rattle.std.specs.Option.{is_some}
-use Rattle.load_lines.specs.Words.{drawn}
-use Rattle.load_lines.specs.Rounds.{load_begins, rounds_done}
-use Rattle.load_lines.specs.Draws.{IsDrawn}
+use Rattle.script_load.specs.Words.{drawn}
+use Rattle.script_load.specs.Rounds.{load_begins, rounds_done}
+use Rattle.script_load.specs.Draws.{IsDrawn}
 use Rattle.gate_script.specs.Sinks.{Sinks, held}
 use Rattle.gate_script.specs.Loading.{LoadAt}
 use Rattle.gate_script.proofs.load.Load.rounds.Given as goal

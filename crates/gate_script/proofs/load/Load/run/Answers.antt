@@ -1,8 +1,8 @@
 use Rattle.std.proofs.Common.{◌≡◌, ◌∷◌, ap, refl, sym, ◌∙◌, subst}
 use Rattle.std.specs.Prelude.{Result, Err}
 use Rattle.std.proofs.lemmas.Result.{err_from_is_err_and}
-use Rattle.load_lines.specs.Words.{drawn}
-use Rattle.load_lines.specs.Rounds.{takes_done}
+use Rattle.script_load.specs.Words.{drawn}
+use Rattle.script_load.specs.Rounds.{takes_done}
 use Rattle.gate_script.specs.declared.stop.Stop.{Stop}
 use Rattle.gate_script.specs.Loading.{LoadRunEnds, takes_behind}
 use Rattle.gate_script.specs.Sinks.{held}

@@ -2,8 +2,8 @@ use Rattle.std.proofs.Common.{◌≡◌, ◌∷◌, suc, List, ap, refl, sym, �
 use Rattle.std.specs.Prelude.{Result, Err}
 use Rattle.std.specs.Option.{is_some}
 use Rattle.std.proofs.lemmas.Result.{err_from_is_err_and}
-use Rattle.script_lines.specs.declared.line.Line.TheVariants.{Take}
-use Rattle.script_lines.specs.declared.order.Order.{Order}
+use Rattle.script_grammar.specs.declared.line.Line.TheVariants.{Take}
+use Rattle.script_grammar.specs.declared.order.Order.{Order}
 use Rattle.gate_script.specs.declared.stop.Stop.{Stop}
 use Rattle.gate_script.specs.declared.sight.Sight.TheVariants.{Played}
 use Rattle.gate_script.specs.Loading.{LoadAt, TakesEnd, takes_behind}

@@ -1,6 +1,6 @@
 use Rattle.std.proofs.Common.{◌≡◌, ℕ, List, true}
 use Rattle.std.specs.Option.{is_some}
-use Rattle.script_lines.specs.declared.order.Order.{Order}
+use Rattle.script_grammar.specs.declared.order.Order.{Order}
 use Rattle.gate_script.specs.Sinks.{Sinks, held}
 use Rattle.gate_script.specs.Loading.{LoadAt, takes_behind}
 use Rattle.gate_script.proofs.load.Load.take_all.Given as goal

@@ -1,7 +1,7 @@
 use Rattle.std.proofs.Common.{◌≡◌, ◌∷◌, refl, arith}
 use Rattle.std.specs.Option.{is_some}
-use Rattle.script_lines.specs.declared.line.Line.TheVariants.{Totals as tell_totals}
-use Rattle.script_lines.specs.declared.order.Order.TheVariants.{Told}
+use Rattle.script_grammar.specs.declared.line.Line.TheVariants.{Totals as tell_totals}
+use Rattle.script_grammar.specs.declared.order.Order.TheVariants.{Told}
 use Rattle.gate_script.specs.Sinks.{held}
 use Rattle.gate_script.proofs.LoadLaws.{no_memory_totals, totals_placed, totals_told}
 use Rattle.gate_script.proofs.load.Load.tell.Goals as goal

@@ -1,8 +1,8 @@
 use Rattle.std.proofs.Common.{◌≡◌, ◌∷◌, [], ◌∙◌, ℕ, List, ap, refl, sym, subst}
 use Rattle.std.specs.Prelude.{Result, Err}
 use Rattle.std.proofs.lemmas.Result.{err_from_is_err_and}
-use Rattle.script_lines.specs.declared.line.Line.TheVariants.{Acknowledge, Read, Server}
-use Rattle.script_lines.specs.declared.order.Order.TheVariants.{Told, Untold}
+use Rattle.script_grammar.specs.declared.line.Line.TheVariants.{Acknowledge, Read, Server}
+use Rattle.script_grammar.specs.declared.order.Order.TheVariants.{Told, Untold}
 use Rattle.gate_script.specs.declared.stop.Stop.{Stop}
 use Rattle.gate_script.specs.declared.stop.Stop.TheVariants.{NoMemory}
 use Rattle.gate_script.specs.declared.sight.Sight.TheVariants.{Unplayed}

@@ -1,8 +1,8 @@
 use Rattle.std.proofs.Common.{◌∷◌, List, subst}
-use Rattle.script_lines.specs.declared.line.Line.TheVariants.{Done}
-use Rattle.script_lines.specs.declared.order.Order.{Order}
-use Rattle.script_lines.specs.declared.order.Order.TheVariants.{Told}
-use Rattle.script_lines.specs.Grammar.{lines_of}
+use Rattle.script_grammar.specs.declared.line.Line.TheVariants.{Done}
+use Rattle.script_grammar.specs.declared.order.Order.{Order}
+use Rattle.script_grammar.specs.declared.order.Order.TheVariants.{Told}
+use Rattle.script_grammar.specs.Grammar.{lines_of}
 use Rattle.gate_script.specs.declared.sight.Sight.TheVariants.{Unplayed}
 use Rattle.gate_script.specs.Sinks.{held}
 use Rattle.gate_script.specs.Running.{AllDone, LastEnds, sight_of}

@@ -4,8 +4,8 @@ use Rattle.std.proofs.lemmas.Result.{err_from_is_err_and}
 use Rattle.gate_model.specs.declared.sharing.Asked.TheVariants.{Owner}
 use Rattle.gate_model.specs.declared.sharing.Share.TheVariants.{Nobody}
 use Rattle.gate_model.specs.Limits.{most_entries}
-use Rattle.script_lines.specs.declared.line.Line.TheVariants.{Join, Start}
-use Rattle.script_lines.specs.declared.order.Order.TheVariants.{Told}
+use Rattle.script_grammar.specs.declared.line.Line.TheVariants.{Join, Start}
+use Rattle.script_grammar.specs.declared.order.Order.TheVariants.{Told}
 use Rattle.gate_script.specs.declared.stop.Stop.{Stop}
 use Rattle.gate_script.specs.declared.sight.Sight.{Sight}
 use Rattle.gate_script.specs.declared.sight.Sight.TheVariants.{Unplayed}

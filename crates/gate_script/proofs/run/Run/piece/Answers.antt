@@ -2,9 +2,9 @@ use Rattle.std.proofs.Common.{◌≡◌, ◌+◌, ◌∷◌, ◌∙◌, length, 
 use Rattle.std.specs.Prelude.{Err}
 use Rattle.std.specs.Option.{is_some}
 use Rattle.std.proofs.lemmas.Result.{err_from_is_err_and}
-use Rattle.script_lines.specs.declared.line.Line.TheVariants.{Acknowledge, Read, Server}
-use Rattle.script_lines.specs.declared.order.Order.TheVariants.{Told, Untold}
-use Rattle.script_lines.specs.Grammar.{judged, lines_of}
+use Rattle.script_grammar.specs.declared.line.Line.TheVariants.{Acknowledge, Read, Server}
+use Rattle.script_grammar.specs.declared.order.Order.TheVariants.{Told, Untold}
+use Rattle.script_grammar.specs.Grammar.{judged, lines_of}
 use Rattle.gate_script.specs.declared.stop.Stop.{Stop}
 use Rattle.gate_script.specs.declared.sight.Sight.TheVariants.{Played, Unplayed}
 use Rattle.gate_script.specs.Sinks.{held}

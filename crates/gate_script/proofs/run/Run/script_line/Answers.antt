@@ -2,8 +2,8 @@ use Rattle.std.proofs.Common.{◌≡◌, ◌∷◌, [], ◌∙◌, ap, sym, subs
 use Rattle.std.specs.Prelude.{Result, Err}
 use Rattle.std.specs.Option.{is_some}
 use Rattle.std.proofs.lemmas.Result.{err_from_is_err_and}
-use Rattle.script_lines.specs.declared.order.Order.TheVariants.{Told}
-use Rattle.script_lines.specs.Grammar.{judged}
+use Rattle.script_grammar.specs.declared.order.Order.TheVariants.{Told}
+use Rattle.script_grammar.specs.Grammar.{judged}
 use Rattle.gate_script.specs.declared.stop.Stop.{Stop}
 use Rattle.gate_script.specs.declared.stop.Stop.TheVariants.{NoMemory}
 use Rattle.gate_script.specs.declared.sight.Sight.TheVariants.{Played}

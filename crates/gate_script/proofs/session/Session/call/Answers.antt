@@ -1,5 +1,5 @@
 use Rattle.std.proofs.Common.{◌≡◌, sym, subst}
-use Rattle.script_lines.specs.declared.line.Line.{Line}
+use Rattle.script_grammar.specs.declared.line.Line.{Line}
 use Rattle.gate_script.specs.declared.sight.Sight.{Sight}
 use Rattle.gate_script.specs.Calls.{IsAt, MaySee}
 use Rattle.gate_script.proofs.SessionLaws.{pixel_seen, same_seen, totals_seen}

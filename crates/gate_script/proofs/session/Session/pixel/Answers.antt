@@ -1,5 +1,5 @@
 use Rattle.std.proofs.Common.{refl}
-use Rattle.script_lines.specs.declared.line.Line.TheVariants.{Pixel}
+use Rattle.script_grammar.specs.declared.line.Line.TheVariants.{Pixel}
 use Rattle.gate_model.specs.text.Statuses.{not_found}
 use Rattle.gate_script.specs.Told.{pixel_line, refused_line}
 use Rattle.gate_script.specs.declared.sight.Sight.TheVariants.{Played}

@@ -1,6 +1,6 @@
 use Rattle.std.proofs.Common.{Bool, refl, subst}
 use Rattle.std.specs.Prelude.{if◌then◌else◌}
-use Rattle.script_lines.specs.declared.line.Line.TheVariants.{Same}
+use Rattle.script_grammar.specs.declared.line.Line.TheVariants.{Same}
 use Rattle.gate_model.specs.text.Statuses.{not_found}
 use Rattle.gate_script.specs.Plays.{Compares}
 use Rattle.gate_script.specs.Told.{same_line, differ_line, refused_line}

@@ -1,5 +1,5 @@
 use Rattle.std.proofs.Common.{Bool, refl, sym, subst, ◌∙◌, arith}
-use Rattle.script_lines.specs.declared.line.Line.TheVariants.{Totals as TellTotals}
+use Rattle.script_grammar.specs.declared.line.Line.TheVariants.{Totals as TellTotals}
 use Rattle.gate_script.specs.Seeing.{AgreeWithFirst, Canvases}
 use Rattle.gate_script.specs.Told.{totals_lines}
 use Rattle.gate_script.specs.declared.sight.Sight.TheVariants.{Played}

@@ -2,10 +2,10 @@ use Rattle.std.proofs.Common.{◌≡◌, ◌∙◌, List, ap, refl, sym, subst, 
 use Rattle.std.specs.Prelude.{Err}
 use Rattle.std.proofs.lemmas.Result.{err_from_is_err_and}
 use Rattle.gate_model.specs.declared.act.Act.{Act}
-use Rattle.script_lines.specs.Acts.{IsReading}
-use Rattle.script_lines.specs.declared.line.Line.TheVariants.{Write}
-use Rattle.script_lines.specs.declared.reading.Reading.{Reading}
-use Rattle.script_lines.specs.declared.reading.Reading.TheVariants.{Whole, Cut, Bad}
+use Rattle.script_grammar.specs.Acts.{IsReading}
+use Rattle.script_grammar.specs.declared.line.Line.TheVariants.{Write}
+use Rattle.script_grammar.specs.declared.reading.Reading.{Reading}
+use Rattle.script_grammar.specs.declared.reading.Reading.TheVariants.{Whole, Cut, Bad}
 use Rattle.gate_script.specs.declared.halt.Halt.{Halt}
 use Rattle.gate_script.specs.declared.halt.Halt.TheVariants.{NoMemory}
 use Rattle.gate_script.specs.Told.{cut_line, bad_text_line}

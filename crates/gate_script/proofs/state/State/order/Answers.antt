@@ -1,8 +1,8 @@
 use Rattle.std.proofs.Common.{◌≡◌, refl, sym, ◌∙◌, subst, ap}
 use Rattle.std.specs.Prelude.{Result, Err}
 use Rattle.std.proofs.lemmas.Result.{err_from_is_err_and}
-use Rattle.script_lines.specs.declared.order.Order.{Order}
-use Rattle.script_lines.specs.declared.order.Order.TheVariants.{Untold}
+use Rattle.script_grammar.specs.declared.order.Order.{Order}
+use Rattle.script_grammar.specs.declared.order.Order.TheVariants.{Untold}
 use Rattle.gate_script.specs.declared.halt.Halt.{Halt}
 use Rattle.gate_script.specs.declared.state.State.{State}
 use Rattle.gate_script.specs.Running.{OrderDone, OrderEnds}

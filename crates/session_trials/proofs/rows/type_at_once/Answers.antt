@@ -1,6 +1,0 @@
-use denote.Param.Send.{sendable}
-use Rattle.shared_desk.proofs.Crosses.{heap_shared, writer_send}
-use Rattle.session_trials.proofs.rows.type_at_once.Goals as goal
-
-pub join_mut-requires-send-F : goal.join_mut-requires-send-F
-join_mut-requires-send-F g c κs within = search (heap_shared, writer_send, sendable, c.type_bounds.sync-R) depth 20

@@ -1,6 +1,0 @@
-use denote.Param.Send.{sendable}
-use Rattle.session_trials.proofs.Sends.{worker_send}
-use Rattle.session_trials.proofs.workers.run_all.Goals as goal
-
-pub for_each_mut-requires-send-T : goal.for_each_mut-requires-send-T
-for_each_mut-requires-send-T g c κs within = search (worker_send, sendable) depth 20
