@@ -97,7 +97,8 @@ impl Parser {
         &piece[..text_length(piece)]
     }
 
-    /// Reads bytes below 0x80, where no other is held, until one completes something, and answers how many it has read.
+    /// Reads bytes below 0x80, where no other is held, until one completes something or comes seldom, and answers how many
+    /// it has read.
     pub fn read_ascii(&mut self, piece: &[u8]) -> (Completed, usize)
         requires alone { held_bytes self.old.held ≡ [] }
         ensures within { result.1 ≤ length piece.now }
