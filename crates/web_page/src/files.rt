@@ -2,8 +2,11 @@
 
 use page_files::PageFile;
 
+/// How many there are.
+pub const COUNT: usize = 36;
+
 /// All of them, in the order of their paths.
-pub(crate) fn all() -> [PageFile; 36] {
+pub(crate) fn all() -> [PageFile; COUNT] {
     [
         PageFile {
             path: "/cells.js",
