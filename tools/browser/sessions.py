@@ -46,7 +46,8 @@ def both_have(look, stream_of):
     while True:
         stamp, shown = look()
         stream = stream_of()
-        if f"4.sync,{len(stamp)}.{stamp};".encode() in stream or time.time() > end:
+        # (a page that has just opened shows nothing yet)
+        if stamp and f"4.sync,{len(stamp)}.{stamp};".encode() in stream or time.time() > end:
             return stamp, shown, stream
         time.sleep(0.1)
 
