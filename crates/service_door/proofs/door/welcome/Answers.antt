@@ -28,14 +28,14 @@ returns-in-Ok-join-clause-leaves g c = (
 )
 
 pub returns-in-Err-clause-there : goal.returns-in-Err-clause-there
-returns-in-Err-clause-there g c = refusal_there (Welcome Place) c.in-Err.refusal _ c.refused_of.ensures
+returns-in-Err-clause-there g c = refusal_there (Welcome Place) c.in-Err.refusal _ c.refused_of-in-Err.ensures
 
 pub returns-in-Err-clause-history : goal.returns-in-Err-clause-history
-returns-in-Err-clause-history g c = meets_refusal (Welcome Place) _ _ _ c.in-Err.refusal _ _ _ c.refused_of.ensures c.in-Err.ensures.step
+returns-in-Err-clause-history g c = meets_refusal (Welcome Place) _ _ _ c.in-Err.refusal _ _ _ c.refused_of-in-Err.ensures c.in-Err.ensures.step
 
 pub returns-in-Err-clause-leaves : goal.returns-in-Err-clause-leaves
 returns-in-Err-clause-leaves g c = (
   record { session = c.join.ensures.session; seen = refused_later _ _ _ c.in-Err.refusal _ _ c.in-Err.ensures.step },
   c.in-Err.ensures.unchanged,
-  unrefused_by _ _ _ c.in-Err.refusal _ _ _ c.refused_of.ensures c.in-Err.ensures.step,
+  unrefused_by _ _ _ c.in-Err.refusal _ _ _ c.refused_of-in-Err.ensures c.in-Err.ensures.step,
 )
