@@ -1,8 +1,8 @@
 -- How one more character changes the parts of a text, and their values at their places.
-use Rattle.std.proofs.Common.{◌≡◌, ℕ, zero, suc, ◌+◌, ◌-◌, ◌*◌, ◌≤◌, ◌<◌, min, List, [], ◌∷◌, ◌++◌, length, map, take, set, replicate, Bool, true, false, append_assoc, refl, sym, ap, ◌∙◌, arith}
+use Rattle.std.proofs.Common.{◌≡◌, ℕ, zero, suc, ◌+◌, ◌-◌, ◌*◌, ◌≤◌, ◌<◌, min, List, [], ◌∷◌, ◌++◌, length, length-append, map, take, set, replicate, Bool, true, false, append_assoc, refl, sym, ap, ◌∙◌, arith}
 use Rattle.std.proofs.lemmas.Bool.{cond-true, cond-false}
 use Rattle.std.proofs.lemmas.Bool.Decides.{nat_tests}
-use Rattle.std.proofs.lemmas.List.{map-append, length-map, take-append-le, set_at, get_or_at, get_or-take}
+use Rattle.std.proofs.lemmas.List.{map-append, length-map, length-replicate, length-take-le, take-append-le, set_at, get_or_at, get_or-take}
 use Rattle.std.proofs.lemmas.Int.Digits.{digits_value_push}
 use Rattle.std.specs.Char.{digit_value}
 use Rattle.std.specs.List.{onto_first}
@@ -77,6 +77,11 @@ take-filled (suc n) (suc k) (suc j) d (x ∷ xs) p q = ap (λ t. x ∷ t) (take-
 
 abbrev pub filled : List (List ℕ) → List ℕ
 filled ps = take 16 (map value ps ++ replicate 16 default)
+
+-- they are sixteen
+pub sixteen_filled : (ps : List (List ℕ)) → length (filled ps) ≡ 16
+sixteen_filled ps =
+    length-take-le 16 (map value ps ++ replicate 16 default) (omega (arith, length-append (map value ps) (replicate 16 default), length-replicate 16 default))
 
 pub filled-next : (ps : List (List ℕ)) → filled (ps ++ [] ∷ []) ≡ filled ps
 filled-next ps =

@@ -43,7 +43,20 @@ impl Machine {
     }
 
     /// Reads one more character.
+    #[inline]
     pub fn read(&mut self, c: char) -> Completed
+        ensures { (rest : List ℕ) → Stands self.old rest → Gives (rest ++ c ∷ []) (control_by result self.new.sequence) self.new }
+    {
+        // Most characters stand outside a sequence.
+        if self.is_ground() {
+            return self.outside(c);
+        }
+        self.read_within(c)
+    }
+
+    // The same within a sequence.
+    #[inline(never)]
+    fn read_within(&mut self, c: char) -> Completed
         ensures { (rest : List ℕ) → Stands self.old rest → Gives (rest ++ c ∷ []) (control_by result self.new.sequence) self.new }
     {
         match self.state {
@@ -176,6 +189,7 @@ impl Machine {
     }
 
     // In `Ground`, or where a sequence was abandoned.
+    #[inline]
     fn outside(&mut self, c: char) -> Completed
         ensures { Gives (c ∷ []) (control_by result self.new.sequence) self.new }
     {

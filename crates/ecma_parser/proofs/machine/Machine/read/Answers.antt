@@ -1,8 +1,9 @@
-use Rattle.gate_model.specs.terminal.Controls.{csi_after}
-use Rattle.ecma_parser.proofs.StateLaws.{param-text, follows}
+use Rattle.std.proofs.Common.{[], ◌∷◌, refl}
+use Rattle.ecma_parser.specs.State.{control_by}
+use Rattle.ecma_parser.proofs.FrontLaws.{from-ground}
 use Rattle.ecma_parser.proofs.machine.Machine.read.Goals as goal
 
-pub returns-in-CsiParam : goal.returns-in-CsiParam
-returns-in-CsiParam c = λ rest stands.
-    let found = param-text c.args.self.now.sequence rest c.args.self.now.state c.in-CsiParam.is stands in
-    c.csi_param.ensures rest found.text found.holds (found.begun c.args.c) (follows rest c.args.c (csi_after found.text) found.reads)
+pub returns-then-is_ground : goal.returns-then-is_ground
+returns-then-is_ground c =
+    from-ground c.args.self.now c.outside.new.self (control_by c.outside.result c.outside.new.self.sequence) (c.args.c ∷ [])
+    (c.if-is_ground.ensures.0 refl) c.outside.ensures
