@@ -1,7 +1,7 @@
 //! Halves of characters that take two places, which become spaces where their other half is gone.
 
 ghost use Rattle.std.specs.Prelude.{◌≡◌, ◌+◌, ◌<◌, ◌≤◌, ◌==◌, ◌&&◌};
-ghost use Rattle.gate_model.specs.terminal.Cells.{cell_at, is_mended, left_half, mended, mended_at, mended_cell, right_half};
+ghost use Rattle.gate_model.specs.terminal.Cells.{cell_at, is_mended, left_half, mended, mended_at, right_half};
 ghost use Rattle.gate_model.specs.terminal.MendLaws.{AreMendedBeside, AreMendedBut, mended_before, mended_behind};
 ghost use Rattle.screen_grid.specs.Mending.{HasMended};
 
@@ -86,31 +86,25 @@ impl Grid {
         }
     }
 
-    // Mends one place.
+    // Mends one place: a half without its other half becomes a space in its colours.
     fn mend_at(&mut self, x: u16, y: u16)
         requires column { x < self.old.cols }
         requires row { y < self.old.rows }
         ensures { self.new ≡ mended_at x y self.old }
     {
-        let cell = self.mended_cell(x, y);
-        self.put(x, y, cell);
-    }
-
-    // The cell at a place, or a space in its colours where it is a half without its other half.
-    fn mended_cell(&self, x: u16, y: u16) -> Cell
-        requires column { x < self.now.cols }
-        requires row { y < self.now.rows }
-        ensures { result ≡ mended_cell x y self.now }
-    {
-        let cell = self.cell(x, y);
         if self.is_mended(x, y) {
-            return cell;
+            return;
         }
-        Cell {
-            ch: ' ',
-            half: Half::Whole,
-            ..cell
-        }
+        let cell = self.cell(x, y);
+        self.put(
+            x,
+            y,
+            Cell {
+                ch: ' ',
+                half: Half::Whole,
+                ..cell
+            },
+        );
     }
 
     // Whether the cell at a place is whole, or stands beside its other half.
