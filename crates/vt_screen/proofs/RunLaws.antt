@@ -1,6 +1,6 @@
 -- A run of characters in the cursor's row is printed as one character after another is.
 use Rattle.std.proofs.Common.{◌⊎◌, inl, inr, ⊎_elim, ◌≡◌, ℕ, suc, ◌+◌, ◌-◌, get_or, ◌<◌, ◌≤◌, List, [], ◌∷◌, ◌++◌, length, map, take, drop, set, Bool, false, if◌then◌else◌, Some, refl, ap, sym, subst, ◌∙◌, arith, append_assoc, append-nil}
-use Rattle.std.specs.Prelude.{All}
+use Rattle.std.specs.Prelude.{All, ◌==◌}
 use Rattle.std.proofs.lemmas.Bool.{cases_lt, cond-false, ne_eqb}
 use Rattle.std.proofs.lemmas.List.Elements.{All-head, All-tail, All-take}
 use Rattle.std.proofs.lemmas.List.{take_more_set, drop-set-lt, take-append-drop, take_all, take_more, take_rest, length-take-le, map-append}
@@ -22,6 +22,7 @@ use Rattle.gate_model.proofs.MendedEdits.{windows-mend}
 use Rattle.gate_model.proofs.MendedPuts.{puts-mend}
 use Rattle.gate_model.proofs.Widths.{ascii-narrow}
 use Rattle.screen_grid.specs.Runs.{like, put_run}
+use Rattle.vt_screen.specs.Printed.{placed_run}
 use Rattle.vt_screen.proofs.PrintLaws.{narrow_printed}
 use Rattle.vt_screen.proofs.Ranges.{row_room}
 
@@ -228,38 +229,81 @@ run_split text some =
     let all : length text - 1 + 1 ≡ length text = omega (arith, some) in
     sym (take_more text (length text - 1) 0 last) ∙ ap (λ k. take k text) all ∙ take_all (length text) text (omega arith)
 
--- a run's front, its last character, and what is mended after them
-pub record IsRun (t fronts places : Terminal) (text : List ℕ) : Type 0 where
-  pub front : fronts ≡ fronted (take (length text - 1) text) t
-  pub last : places ≡ placed false (get_or text (length text - 1) 0) fronts
-
 front_size : (text : List ℕ) → 1 ≤ length text → length (take (length text - 1) text) ≡ length text - 1
 front_size text some = length-take-le (length text - 1) text (omega arith)
 
-pub run_placed : (t fronts places new : Terminal) (text : List ℕ) → 1 ≤ length text → All IsPrintable text → t.x + length text ≤ t.grid.cols → t.pending ≡ false → t.modes.insert ≡ false
-    → IsFull t.grid → t.y < t.grid.rows → IsRun t fronts places text → new ≡ all_mended places → new ≡ after_controls t (map Print text)
-run_placed t fronts places new text some all room pending insert full row r mends =
+-- the last cell of a run is put like the others
+put_last : (g : CellGrid) (x y : ℕ) (front : List ℕ) (c : ℕ) (pen : Cell) → IsFull g → y < g.rows → x + length front < g.cols
+    → put (x + length front) y (like pen c) (put_run x y front pen g) ≡ put_run x y (front ++ c ∷ []) pen g
+put_last g x y [] c pen full row room =
+    let below : place x y g < length g.cells = omega (arith, row_room y g row, full, room) in
+    let same : x + 0 ≡ x = omega arith in
+    ap (λ k. put k y (like pen c) (put_run x y [] pen g)) same
+    ∙ ap (λ (h : CellGrid). put x y (like pen c) h) (none_put g x y pen)
+    ∙ sym (none_put (put x y (like pen c) g) (x + 1) y pen)
+    ∙ one_put g x y c [] pen below
+put_last g x y (d ∷ front) c pen full row room =
+    let below : place x y g < length g.cells = omega (arith, row_room y g row, full, room) in
+    let h : CellGrid = put x y (like pen d) g in
+    let at : x + suc (length front) ≡ x + 1 + length front = omega arith in
+    ap (λ (k : CellGrid). put (x + suc (length front)) y (like pen c) k) (sym (one_put g x y d front pen below))
+    ∙ ap (λ k. put k y (like pen c) (put_run (x + 1) y front pen h)) at
+    ∙ put_last h (x + 1) y front c pen (put_full g x y (like pen d) full) row (omega (arith, room))
+    ∙ one_put g x y d (front ++ c ∷ []) pen below
+
+-- so a run is its front and its last character
+run_is : (t : Terminal) (text : List ℕ) → 1 ≤ length text → t.x + length text ≤ t.grid.cols → IsFull t.grid → t.y < t.grid.rows
+    → placed_run text t ≡ placed false (get_or text (length text - 1) 0) (fronted (take (length text - 1) text) t)
+run_is t text some room full row =
+    ap (λ (g : CellGrid). shape g end (end - 1)) (ap (λ xs. put_run t.x t.y xs pen t.grid) (sym (run_split text some)) ∙ sym (put_last t.grid t.x t.y front c pen full row (omega (arith, some, room, size))))
+    ∙ ap (λ e. shape whole e (end - 1)) behind
+    ∙ ap (λ l. shape whole (t.x + length front + 1) l) before
+  where
+    c : ℕ
+    c = get_or text (length text - 1) 0
+
+    front : List ℕ
+    front = take (length text - 1) text
+
+    pen : Cell
+    pen = drawn_with t.pen 32
+
+    end : ℕ
+    end = t.x + length text
+
+    whole : CellGrid
+    whole = put (t.x + length front) t.y (like pen c) (put_run t.x t.y front pen t.grid)
+
+    shape : CellGrid → ℕ → ℕ → Terminal
+    shape g e l = record t { grid = g; last = Some c; x = if e == t.grid.cols then l else e; pending = if e == t.grid.cols then t.modes.wrap else false }
+
+    size : length front ≡ length text - 1
+    size = front_size text some
+
+    behind : end ≡ t.x + length front + 1
+    behind = omega (arith, some, size)
+
+    before : end - 1 ≡ t.x + length front
+    before = omega (arith, some, size)
+
+pub run_placed : (t places new : Terminal) (text : List ℕ) → 1 ≤ length text → All IsPrintable text → t.x + length text ≤ t.grid.cols → t.pending ≡ false → t.modes.insert ≡ false
+    → IsFull t.grid → t.y < t.grid.rows → places ≡ placed_run text t → new ≡ all_mended places → new ≡ after_controls t (map Print text)
+run_placed t places new text some all room pending insert full row is mends =
     let front = take (length text - 1) text in
     let c = get_or text (length text - 1) 0 in
     let size = front_size text some in
     mends
-    ∙ ap all_mended (r.last ∙ ap (placed false c) r.front)
+    ∙ ap all_mended (is ∙ run_is t text some room full row)
     ∙ sym (run_printed t front c (All-take IsPrintable (length text - 1) text all) (all (length text - 1) 0 (omega (arith, some))) pending insert full row (omega (arith, some, room, size)))
     ∙ ap (λ xs. after_controls t (map Print xs)) (run_split text some)
 
-pub run_left : (t fronts places : Terminal) (text : List ℕ) → 1 ≤ length text → t.x + length text ≤ t.grid.cols → IsFull t.grid → AreMended t.grid → t.y < t.grid.rows → IsRun t fronts places text
+pub run_left : (t places : Terminal) (text : List ℕ) → 1 ≤ length text → t.x + length text ≤ t.grid.cols → IsFull t.grid → AreMended t.grid → t.y < t.grid.rows → places ≡ placed_run text t
     → AreMendedBeside places.y t.x (t.x + length text) places.grid
-run_left t fronts places text some room full are row r =
+run_left t places text some room full are row is =
     let front = take (length text - 1) text in
     let c = get_or text (length text - 1) 0 in
     let size = front_size text some in
-    let is : places ≡ placed false c (fronted front t) = r.last ∙ ap (placed false c) r.front in
+    let whole : places ≡ placed false c (fronted front t) = is ∙ run_is t text some room full row in
     let end : t.x + length front + 1 ≡ t.x + length text = omega (arith, some, size) in
-    subst (λ (p : Terminal). AreMendedBeside p.y t.x (t.x + length text) p.grid) (sym is)
+    subst (λ (p : Terminal). AreMendedBeside p.y t.x (t.x + length text) p.grid) (sym whole)
     (subst (λ k. AreMendedBeside t.y t.x k (placed false c (fronted front t)).grid) end (run_beside t front c full are row (omega (arith, some, room, size))))
-
-pub run_column : (t fronts places : Terminal) (text : List ℕ) → t.x < t.grid.cols → IsRun t fronts places text → t.x ≤ places.grid.cols
-run_column t fronts places text lt r =
-    let is : places ≡ placed false (get_or text (length text - 1) 0) (fronted (take (length text - 1) text) t) = r.last ∙ ap (placed false (get_or text (length text - 1) 0)) r.front in
-    let cols : places.grid.cols ≡ t.grid.cols = ap (λ (p : Terminal). p.grid.cols) is in
-    omega (arith, lt, cols)

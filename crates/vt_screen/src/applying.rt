@@ -1,6 +1,6 @@
 //! Control functions on a screen: each does what it says, and then what it can have left is mended.
 
-ghost use Rattle.std.specs.Prelude.{◌≡◌, ◌≤◌};
+ghost use Rattle.std.specs.Prelude.{◌≡◌, ◌≤◌, false};
 ghost use Rattle.gate_model.specs.terminal.Controls.{HasFewParameters};
 ghost use Rattle.gate_model.specs.terminal.Effects.{effect};
 ghost use Rattle.gate_model.specs.terminal.Reports.{report};
@@ -54,6 +54,41 @@ impl Screen {
     /// byte says, and answers its report, if it has one: the same as `apply` with a `Csi`.
     pub fn apply_control(&mut self, private: bool, params: &Params, last: u8) -> Reply
         requires few { params.now.count ≤ 16 }
+        ensures state { self.new ≡ effect (Csi private params.now last) self.old }
+        ensures reply { result ≡ report (Csi private params.now last) self.old }
+    {
+        // Most sequences are SGR and CUP, which report nothing and leave nothing to mend.
+        match (private, last) {
+            (false, b'm') => self.apply_style(params),
+            (false, b'H') => self.apply_place(params),
+            _ => return self.apply_other(private, params, last),
+        }
+        Reply::none()
+    }
+
+    // SGR.
+    fn apply_style(&mut self, params: &Params)
+        requires { params.now.count ≤ 16 }
+        ensures { self.new ≡ effect (Csi false params.now 0x6D) self.old }
+    {
+        self.state.fits();
+        self.state.act_style(params);
+        self.state.fits();
+    }
+
+    // CUP.
+    fn apply_place(&mut self, params: &Params)
+        ensures { self.new ≡ effect (Csi false params.now 0x48) self.old }
+    {
+        self.state.fits();
+        self.state.act_place(params);
+        self.state.fits();
+    }
+
+    // Any control sequence.
+    #[inline(never)]
+    fn apply_other(&mut self, private: bool, params: &Params, last: u8) -> Reply
+        requires { params.now.count ≤ 16 }
         ensures state { self.new ≡ effect (Csi private params.now last) self.old }
         ensures reply { result ≡ report (Csi private params.now last) self.old }
     {

@@ -2,23 +2,26 @@
 
 ghost use Rattle.std.specs.Prelude.{◌≡◌, ◌<◌, ◌≤◌, ◌+◌, false, true, length};
 ghost use Rattle.gate_model.specs.terminal.CellLaws.{IsFull};
-ghost use Rattle.gate_model.specs.terminal.Pens.{drawn_with};
 ghost use Rattle.gate_model.specs.terminal.Printing.{given_room, opened_for, placed, printed, printed_as, repeated, width_of, wrapped};
-ghost use Rattle.screen_grid.specs.Runs.{put_run};
-ghost use Rattle.vt_screen.specs.Printed.{printed_at, span};
+ghost use Rattle.vt_screen.specs.Printed.{placed_run, printed_at, span};
 
 use crate::state::State;
 use gate_model::{Cell, Half};
 use unicode_width::UnicodeWidthChar;
 
 impl State {
-    // The characters take the cells from the cursor's on, and the cursor moves behind them.
-    pub(crate) fn place_front(&mut self, text: &[u8])
-        requires room { self.old.x + length text.now < self.old.grid.cols }
-        ensures state { self.new ≡ record self.old { grid = put_run self.old.x self.old.y text.now (drawn_with self.old.pen 32) self.old.grid; x = self.old.x + length text.now } }
+    // The characters of a run take the cells from the cursor's on. The cursor moves behind them, or a wrap is pending.
+    pub(crate) fn place_run(&mut self, text: &[u8])
+        requires some { 1 ≤ length text.now }
+        requires room { self.old.x + length text.now ≤ self.old.grid.cols }
+        ensures { self.new ≡ placed_run text.now self.old }
     {
         self.grid.put_run(self.x, self.y, text, self.pen.draw(' '));
-        self.x += text.len() as u16;
+        self.last = Some(char::from(text[text.len() - 1]));
+        let end = self.x + text.len() as u16;
+        let at_end = end == self.columns;
+        self.pending = at_end && self.modes.wrap;
+        self.x = if at_end { end - 1 } else { end };
     }
 
     // The cursor's column.
@@ -115,7 +118,7 @@ impl State {
     }
 
     // The character takes the cursor's cell, and the cursor moves on or a wrap is pending.
-    pub(crate) fn place(&mut self, ch: char)
+    fn place(&mut self, ch: char)
         ensures { self.new ≡ placed false ch self.old }
     {
         self.grid.put(self.x, self.y, self.pen.draw(ch));

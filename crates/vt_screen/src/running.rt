@@ -53,9 +53,7 @@ impl Screen {
         self.state.fits();
         let from = self.state.column();
         let to = from + text.len() as u16;
-        let last = text.len() - 1;
-        self.state.place_front(&text[..last]);
-        self.state.place(char::from(text[last]));
+        self.state.place_run(text);
         self.state.fits();
         self.state.mend_beside(from, to);
     }

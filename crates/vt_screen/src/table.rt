@@ -1,7 +1,7 @@
 //! What each control function does: a row for each, after ECMA-48. A function without a row has no
 //! effect.
 
-ghost use Rattle.std.specs.Prelude.{◌≡◌, ◌≤◌};
+ghost use Rattle.std.specs.Prelude.{◌≡◌, ◌≤◌, false};
 ghost use Rattle.gate_model.specs.terminal.Effects.{acted, code_effect, cursor_effect, editing_effect, escape_effect, private_effect, reset, sequence_effect};
 
 use crate::arguments::{first_amount, first_choice, listed};
@@ -47,6 +47,22 @@ impl State {
         if clears {
             self.pending = false;
         }
+    }
+
+    // What SGR says, with parameters of which there are at most 16.
+    pub(crate) fn act_style(&mut self, params: &Params)
+        requires { params.now.count ≤ 16 }
+        ensures { self.new ≡ acted (Csi false params.now 0x6D) self.old }
+    {
+        self.pen.style(listed(params));
+    }
+
+    // What CUP says.
+    pub(crate) fn act_place(&mut self, params: &Params)
+        ensures { self.new ≡ acted (Csi false params.now 0x48) self.old }
+    {
+        self.move_to_place(params);
+        self.pending = false;
     }
 
     // BS, HT, LF, VT, FF and CR.
