@@ -7,3 +7,4 @@ pub mod Copies
 pub mod Playing
 pub mod Comparing
 pub mod Playable
+mod TextLaws

@@ -4,7 +4,6 @@ pub mod StepLaws
 pub mod TakenLaws
 pub mod SessionLaws
 pub mod OpenLaws
-pub mod PlayingLaws
 pub mod RunLaws
 pub mod InputLaws
 pub mod CommandLaws

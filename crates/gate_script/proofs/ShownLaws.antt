@@ -12,7 +12,7 @@ use Rattle.gate_model.specs.declared.sharing.Role.{Role}
 use Rattle.gate_model.specs.declared.entry.Entry.{Entry}
 use Rattle.gate_model.specs.declared.entry.Entry.TheVariants.{Join, Read, Leave}
 use Rattle.gate_model.specs.session.Entries.{joins, leaves}
-use Rattle.gate_model.specs.picture.Layers.{draw, nothing}
+use Rattle.gate_model.specs.picture.Layers.{Layers, draw, nothing}
 use Rattle.gate_model.specs.text.Text.{texts}
 use Rattle.gate_model.specs.session.History.{History, joined}
 use Rattle.gate_model.specs.session.Delivered.{delivered, given, handed, closing, position}
@@ -234,19 +234,37 @@ played_nowhere cs v text w = record {
 pub taken_nowhere : (cs : Canvases) (v : ℕ) → (v < 1) ⊎ (length cs < v) → TakesAway cs cs v
 taken_nowhere cs v w = record { kept = none_changed cs v; gone = nowhere cs v w }
 
--- the place of a viewer was emptied
-pub taken_here : (cs : Canvases) (v : ℕ) → 1 ≤ v → v ≤ length cs → TakesAway cs (set cs (v - 1) None) v
-taken_here cs v some within = record {
-  kept = record { count = length-set cs (v - 1) None; others = λ u other. elsewhere u other (eqb_tells u 0) };
-  gone = at_place (set cs (v - 1) None) v (λ zero_. absurd (omega (arith, some, zero_))) ∙ get_or-set_same cs (v - 1) None None (omega (arith, some, within));
-}
+-- the place of a viewer has another canvas, or none
+changed_here : (cs : Canvases) (v : ℕ) (o : Option Canvas) → 1 ≤ v → KeepOthers cs (set cs (v - 1) o) v
+changed_here cs v o some = record { count = length-set cs (v - 1) o; others = λ u other. elsewhere u other (eqb_tells u 0) }
   where
     one : (u : ℕ) → (u ≡ 0 → ⊥) → 1 ≤ u
     one zero none = absurd (none refl)
     one (suc k) none = omega arith
 
-    elsewhere : (u : ℕ) → u ≢ v → (((u == 0) ≡ true) × (u ≡ 0)) ⊎ (((u == 0) ≡ false) × (u ≡ 0 → ⊥)) → canvas_at (set cs (v - 1) None) u ≡ canvas_at cs u
+    elsewhere : (u : ℕ) → u ≢ v → (((u == 0) ≡ true) × (u ≡ 0)) ⊎ (((u == 0) ≡ false) × (u ≡ 0 → ⊥)) → canvas_at (set cs (v - 1) o) u ≡ canvas_at cs u
     elsewhere u other (inl q) = rw q.0 refl
     elsewhere u other (inr q) =
         let apart : u - 1 ≢ v - 1 = λ e. other (omega (arith, e, some, one u q.1)) in
-        at_place (set cs (v - 1) None) u q.1 ∙ (get_or-set_other cs (v - 1) (u - 1) None None apart ∙ sym (at_place cs u q.1))
+        at_place (set cs (v - 1) o) u q.1 ∙ (get_or-set_other cs (v - 1) (u - 1) o None apart ∙ sym (at_place cs u q.1))
+
+there_now : (cs : Canvases) (v : ℕ) (o : Option Canvas) → 1 ≤ v → v ≤ length cs → canvas_at (set cs (v - 1) o) v ≡ o
+there_now cs v o some within =
+    at_place (set cs (v - 1) o) v (λ zero_. absurd (omega (arith, some, zero_))) ∙ get_or-set_same cs (v - 1) o None (omega (arith, some, within))
+
+pub taken_here : (cs : Canvases) (v : ℕ) → 1 ≤ v → v ≤ length cs → TakesAway cs (set cs (v - 1) None) v
+taken_here cs v some within = record { kept = changed_here cs v None some; gone = there_now cs v None some within }
+
+-- the text was played on the canvas that was there
+pub played_here : (cs : Canvases) (v : ℕ) (old new : Canvas) (text : List ℕ) → 1 ≤ v → v ≤ length cs → get_or cs (v - 1) None ≡ Some old
+    → ((is : List Instr) (m : Layers) → AreReadable is → text ≡ texts is → stands_for old m → stands_for new (draw m is)) → PlaysOn cs (set cs (v - 1) (Some new)) v text
+played_here cs v old new text some within there plays =
+    let was : canvas_at cs v ≡ Some old = at_place cs v (λ zero_. absurd (omega (arith, some, zero_))) ∙ there in
+    let now : canvas_at (set cs (v - 1) (Some new)) v ≡ Some new = there_now cs v (Some new) some within in
+    record {
+      kept = changed_here cs v (Some new) some;
+      there = ap is_some now ∙ sym (ap is_some was);
+      plays = λ is m readable spelled stands.
+          subst (λ (o : Option Canvas). IfSome o (λ canvas. stands_for canvas (draw m is))) (sym now)
+          (plays is m readable spelled (subst (λ (o : Option Canvas). IfSome o (λ canvas. stands_for canvas m)) was stands));
+    }

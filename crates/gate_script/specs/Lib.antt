@@ -5,7 +5,6 @@
 pub mod Told
 pub mod Plays
 pub mod Outcomes
-pub mod Playing
 pub mod Seeing
 pub mod Calls
 pub mod Sinks

@@ -15,7 +15,6 @@ use Rattle.gate_model.specs.declared.act.Act.{Act}
 use Rattle.gate_model.specs.declared.written.Written.{Written}
 use Rattle.gate_model.specs.declared.write_refusal.WriteRefusal.{WriteRefusal}
 use Rattle.gate_model.specs.declared.entry.Entry.TheVariants.{Feed as fed_entry, Write as write_entry}
-use Rattle.gate_model.specs.declared.colour.Colour.{Colour}
 use Rattle.gate_model.specs.picture.Layers.{Layer, Layers, Same, draw, nothing, visible}
 use Rattle.gate_model.specs.session.History.{History, joined, newest, next_stamp}
 use Rattle.gate_model.specs.session.Delivered.{delivered}

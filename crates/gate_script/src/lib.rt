@@ -21,7 +21,6 @@ mod level;
 mod load;
 mod play;
 mod play_told;
-mod playing;
 mod refused;
 mod reply;
 mod run;

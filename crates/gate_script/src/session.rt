@@ -6,11 +6,10 @@ ghost use Rattle.gate_model.specs.session.Steps.{IsScreenSize};
 ghost use Rattle.gate_script.specs.Plays.{setup_of};
 
 use crate::halt::Halt;
-use crate::playing::{play_text, played};
 use crate::reply::{Numbers, Reply};
 use crate::seeing::{agree_with_first, are_same, dot_of, pixel_sum};
 use crate::sight::Sight;
-use canvas::Canvas;
+use canvas::{Canvas, play_text, played};
 use desk_core::{
     Desk, FeedRefusal, JoinRefusal, NoMemory, ReadRefusal, ResizeRefusal, Setup, WriteRefusal,
     Written,

@@ -21,7 +21,7 @@ use Rattle.guac_framing.specs.declared.next.Next.TheVariants.{More, Bad}
 use Rattle.guac_framing.specs.Answers.{IfBad, IfMore, IsWhole}
 use Rattle.guac_framing.specs.Found.{HasNoInstruction, IsBadPlace, IsUnfinished}
 use Rattle.gate_model.specs.picture.Shape.{AreReadable}
-use Rattle.gate_script.specs.Playing.{IsPartPlayed}
+use Rattle.canvas.specs.Played.{IsPartPlayed}
 
 -- ---- the instruction at the front of a text
 

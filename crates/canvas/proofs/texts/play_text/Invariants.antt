@@ -4,8 +4,8 @@ use Rattle.gate_model.specs.picture.Layers.{Layers}
 use Rattle.gate_model.specs.text.Text.{texts}
 use Rattle.canvas.specs.Standing.{Stands}
 use Rattle.gate_model.specs.picture.Shape.{AreReadable}
-use Rattle.gate_script.proofs.PlayingLaws.{Left}
-use Rattle.gate_script.proofs.playing.play_text.Given as goal
+use Rattle.canvas.proofs.TextLaws.{Left}
+use Rattle.canvas.proofs.texts.play_text.Given as goal
 
 abbrev pub invariant-loop-at : goal.invariant-loop-at
 invariant-loop-at l = record {

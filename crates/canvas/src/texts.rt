@@ -1,4 +1,4 @@
-//! What a viewer sees: the text that it was given, read and played on a canvas.
+//! The text of instructions, read and played on a canvas.
 
 ghost use Rattle.std.specs.Prelude.{◌≡◌, ◌++◌, ◌≤◌, ℕ, List, Some, length, IfOk, OnErr, OnOk};
 ghost use Rattle.gate_model.specs.picture.Shape.{IsInRange};
@@ -8,18 +8,20 @@ ghost use Rattle.gate_model.specs.text.Text.{text, texts};
 ghost use Rattle.gate_model.specs.declared.instr.Instr.{Instr};
 ghost use Rattle.canvas.specs.Standing.{Stands};
 ghost use Rattle.gate_model.specs.picture.Shape.{AreReadable};
-ghost use Rattle.gate_script.specs.Playing.{IsPartPlayed};
+ghost use Rattle.canvas.specs.Played.{IsPartPlayed};
 
-use canvas::Canvas;
+use crate::Canvas;
 use gate_model::NoMemory;
 use guac_framing::{Frame, Next, next_instruction};
 use guac_instr::read_server;
 use std::alloc::Global;
 
-/// Plays the text of instructions on the canvas, up to where no instruction stands. It is refused for
-/// want of memory alone, and then the first instructions, some or none, have been played (the Guacamole
-/// manual, "The Guacamole protocol" and "Guacamole protocol reference").
-pub(crate) fn play_text(canvas: &mut Canvas, text: &[u8]) -> Result<(), NoMemory>
+/// Plays the text of instructions on the canvas, up to where no instruction stands, and answers how many bytes that
+/// were. It is refused for want of memory alone, and then the first instructions, some or none, have been played (the
+/// Guacamole manual, "The Guacamole protocol" and "Guacamole protocol reference").
+pub fn play_text(canvas: &mut Canvas, text: &[u8]) -> Result<usize, NoMemory>
+    ensures within { IfOk result (λ n. n ≤ length text.now) }
+    ensures whole { (is : List Instr) (m : Layers) → AreReadable is → text.now ≡ texts is → Stands canvas.old m → IfOk result (λ n. n ≡ length text.now) }
     ensures played { (is : List Instr) (m : Layers) → AreReadable is → text.now ≡ texts is → Stands canvas.old m → OnOk result (Stands canvas.new (draw m is)) }
     ensures stopped { (is : List Instr) (m : Layers) → AreReadable is → text.now ≡ texts is → Stands canvas.old m → OnErr result (IsPartPlayed is m canvas.new) }
 {
@@ -27,15 +29,15 @@ pub(crate) fn play_text(canvas: &mut Canvas, text: &[u8]) -> Result<(), NoMemory
     while at < text.len() {
         let count = play_first(canvas, &text[at..])?;
         if count == 0 {
-            return Ok(());
+            return Ok(at);
         }
         at += count;
     }
-    Ok(())
+    Ok(at)
 }
 
 /// A canvas on which the text of instructions was played.
-pub(crate) fn played(alloc: Global, text: &[u8]) -> Result<Canvas, NoMemory>
+pub fn played(alloc: Global, text: &[u8]) -> Result<Canvas, NoMemory>
     ensures { (is : List Instr) → AreReadable is → text.now ≡ texts is → IfOk result (λ c. Stands c (draw nothing is)) }
 {
     let mut canvas = Canvas::new(alloc);

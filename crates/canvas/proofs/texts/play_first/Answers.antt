@@ -1,6 +1,6 @@
 use Rattle.std.proofs.Common.{arith}
-use Rattle.gate_script.proofs.PlayingLaws.{found, none_there}
-use Rattle.gate_script.proofs.playing.play_first.Goals as goal
+use Rattle.canvas.proofs.TextLaws.{found, none_there}
+use Rattle.canvas.proofs.texts.play_first.Goals as goal
 
 pub returns-in_ok-play_frame-in-Whole-clause-count : goal.returns-in_ok-play_frame-in-Whole-clause-count
 returns-in_ok-play_frame-in-Whole-clause-count c = λ i rest r e. (found i rest c.args.bytes.now c.in-Whole.frame c.in-Whole.count r e c.in-Whole.ensures.whole).1
