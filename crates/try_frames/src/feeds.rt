@@ -3,9 +3,9 @@
 
 ghost use Rattle.std.specs.Prelude.{◌≡◌, ◌≤◌, ◌<◌};
 
-use crate::random::Random;
 use anyhow::Result;
 use std::alloc::Global;
+use try_words::Random;
 
 /// The most bytes of a feed.
 const MOST: usize = 40;

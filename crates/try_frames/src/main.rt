@@ -8,8 +8,6 @@
 #![tactic(auto)]
 
 mod feeds;
-mod playing;
-mod random;
 mod redraw;
 mod seen;
 mod terminal;
@@ -17,12 +15,11 @@ mod trial;
 mod viewer;
 
 use crate::feeds::{Look, feed};
-use crate::random::Random;
 use crate::trial::{Outcome, Trial};
 use anyhow::{Context, Result};
 use std::env;
 use std::rt::Env;
-use try_words::push_hexadecimal;
+use try_words::{Random, push_hexadecimal};
 
 /// How many feeds a screen is given.
 const FEEDS: u64 = 500;

@@ -1,6 +1,5 @@
 //! A screen that is fed and gets other sizes, and what came of each.
 
-use crate::playing::{is_alike, play};
 use crate::redraw::redraw;
 use crate::seen::{Seen, changed, differing};
 use crate::terminal::Terminal;
@@ -9,6 +8,7 @@ use anyhow::Result;
 use canvas::Canvas;
 use gate_model::Shown;
 use std::alloc::Global;
+use try_canvases::{is_alike, play_all};
 
 /// The most buffers, up to which a frame's length has a bound (this project's own rule).
 const MOST_BUFFERS: usize = 1_024;
@@ -108,5 +108,5 @@ fn is_redrawn(alloc: Global, viewer: &Viewer) -> Result<bool> {
 
 fn redraw_on(canvas: &mut Canvas, alloc: Global, shown: &Shown) -> Result<()> {
     let list = redraw(alloc, shown)?;
-    play(canvas, &list)
+    play_all(canvas, &list)
 }

@@ -4,13 +4,13 @@ ghost use Rattle.std.specs.Prelude.{◌≡◌, IsTrue};
 ghost use Rattle.gate_model.specs.session.Steps.{IsScreenSize};
 ghost use Rattle.gate_model.specs.terminal.Screens.{AreColoured};
 
-use crate::playing::play;
 use anyhow::{Context, Result, bail};
 use canvas::Canvas;
 use frame_draw::{frame, opening, resized};
 use gate_model::{Key, Shown};
 use glyph_cache::Cache;
 use std::alloc::Global;
+use try_canvases::play_all;
 
 /// What the viewer was drawn last, the glyph buffers, and the canvas on which all frames were played.
 #[derive(Drop)]
@@ -80,7 +80,7 @@ fn refit(
         .ok()
         .context("no memory")?;
     let instrs = drawn.as_slice();
-    play(canvas, instrs)?;
+    play_all(canvas, instrs)?;
     Ok(instrs.len())
 }
 
@@ -89,7 +89,7 @@ fn open(alloc: Global, shown: &Shown, cache: &mut Cache, canvas: &mut Canvas) ->
         bail!("no screen");
     }
     let frame = opening(alloc, shown, cache, 1).ok().context("no memory")?;
-    play(canvas, frame.as_slice())
+    play_all(canvas, frame.as_slice())
 }
 
 fn go_on(
@@ -110,7 +110,7 @@ fn go_on(
         .ok()
         .context("no memory")?;
     let instrs = drawn.as_slice();
-    play(canvas, instrs)?;
+    play_all(canvas, instrs)?;
     Ok(instrs.len())
 }
 

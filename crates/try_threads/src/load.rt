@@ -1,6 +1,5 @@
 //! A session under a mixed load.
 
-use crate::canvases::{is_alike, played};
 use crate::workers::{Hand, LETTERS, ROUNDS, Worker, feed, letter, run_all, take};
 use anyhow::{Context, Result, bail};
 use canvas::Canvas;
@@ -9,6 +8,7 @@ use shared_desk::{HostPass, ReadAnswer, ReaderPass, SenderPass};
 use std::alloc::Global;
 use std::sync::Wait;
 use std::thread::Threads;
+use try_canvases::{is_alike, played};
 use try_sessions::{Screen, joined, opened};
 
 // The keysyms of the first letters of the two typists: the letters up to m, and from n on.

@@ -2,7 +2,6 @@
 //! came of each. It prints the same whatever the order in which threads run.
 #![tactic(auto)]
 
-mod canvases;
 mod load;
 mod rows;
 mod sizes;
