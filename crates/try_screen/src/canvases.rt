@@ -1,13 +1,10 @@
 //! Canvases on which instructions are played.
 
-ghost use Rattle.std.specs.Prelude.{IsTrue};
-ghost use Rattle.gate_model.specs.picture.Shape.{IsLayer};
-ghost use Rattle.canvas.specs.Standing.{IsPlayable};
-
 use anyhow::{Context, Result, bail};
 use canvas::{Canvas, Dot};
 use gate_model::Instr;
 use std::alloc::Global;
+use try_canvases::play;
 use try_words::first_word;
 
 /// The letters of layer 0 after the steps, which stand apart by `; `, row by row; a dot for a clear pixel.
@@ -158,36 +155,6 @@ fn put(canvas: &mut Canvas, layer: i32, (x, y): (u32, u32), letter: u8) -> Resul
     };
     play(canvas, &pixel)?;
     play(canvas, &fill(layer, letter))
-}
-
-/// Plays an instruction.
-pub fn play(canvas: &mut Canvas, instr: &Instr) -> Result<()> {
-    if !is_playable(instr) {
-        bail!("not playable");
-    }
-    canvas.play(instr).ok().context("no memory")
-}
-
-fn is_layer(layer: i32) -> bool
-    ensures { IsTrue result → IsLayer layer }
-{
-    -1024 <= layer && layer <= 0
-}
-
-fn is_playable(instr: &Instr) -> bool
-    ensures { IsTrue result → IsPlayable instr.now }
-{
-    match *instr {
-        Instr::Size {
-            layer,
-            width,
-            height,
-        } => is_layer(layer) && width <= 4096 && height <= 4096,
-        Instr::Rect { layer, .. } => is_layer(layer),
-        Instr::Cfill { layer, .. } => is_layer(layer),
-        Instr::Copy { from, to, .. } => is_layer(from) && is_layer(to),
-        Instr::Sync { .. } | Instr::Disconnect | Instr::Error { .. } => true,
-    }
 }
 
 // The letters of layer 0, row by row.

@@ -16,48 +16,9 @@ mod topics;
 mod views;
 
 use crate::topics::value;
-use anyhow::{Context, Result};
-use std::alloc::Global;
-use std::rt::{Env, Files};
-use std::{env, fs};
-use try_words::bytes_of;
+use anyhow::Result;
+use try_words::run_rows;
 
 fn main(rt: HostRuntime) -> Result<()> {
-    run(&rt)
-}
-
-fn run(rt: &(impl AllocGlobal + Env + Files + Print)) -> Result<()> {
-    for name in env::args(rt)?.skip(1) {
-        run_file(rt, name.as_str()).context(format_args!("{name}"))?;
-    }
-    Ok(())
-}
-
-fn run_file(rt: &(impl AllocGlobal + Files + Print), name: &str) -> Result<()> {
-    let text = fs::read_to_string(rt, name)?;
-    let topic = name.strip_suffix(".rows").context("no file of rows")?;
-    let mut count = 0u64;
-    for line in text.as_str().lines() {
-        if line.is_empty() || line.starts_with('#') {
-            continue;
-        }
-        count = count.saturating_add(1);
-        if let Some(found) = difference(rt.alloc(), topic, line)? {
-            println!(rt; "{name}: {line}: {found}")?;
-        }
-    }
-    println!(rt; "{name}: {count} rows")?;
-    Ok(())
-}
-
-// What the row gives, where it isn't what it has to give.
-fn difference(alloc: Global, topic: &str, line: &str) -> Result<Option<String>> {
-    let (input, output) = line.split_once("->").context("no arrow")?;
-    let found = value(alloc, topic, input.trim())?;
-    let wanted = bytes_of(alloc, output.trim())?;
-    if found.as_str().as_bytes() == wanted.as_slice() {
-        Ok(None)
-    } else {
-        Ok(Some(found))
-    }
+    run_rows(&rt, |topic, input| value(rt.alloc(), topic, input))
 }

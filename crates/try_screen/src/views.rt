@@ -1,14 +1,12 @@
 //! What viewers of a desk see: one who reads all along, and one who joins last.
 
-use crate::canvases::play;
 use crate::desks;
-use anyhow::{Context, Result, bail};
+use anyhow::{Context, Result};
 use canvas::Canvas;
 use desk_core::Desk;
 use gate_model::{Asked, Share};
-use guac_framing::{Next, next_instruction};
-use guac_instr::read_server;
 use std::alloc::Global;
+use try_canvases::{is_alike, played};
 
 /// Whether an owner, who alone was given something by the calls, sees what one sees who joins after them, and the size of
 /// what that one sees.
@@ -44,31 +42,4 @@ fn joined(desk: &mut Desk, alloc: Global) -> Result<Vec<u8>> {
     let mut text = Vec::new(alloc);
     let _joined = desk.join(Asked::View, &mut text).ok().context("no joiner")?;
     Ok(text)
-}
-
-// The canvas after all instructions of the text.
-fn played(alloc: Global, text: &[u8]) -> Result<Canvas> {
-    let mut canvas = Canvas::new(alloc);
-    let mut rest = text;
-    for _ in 0..text.len() {
-        match next_instruction(rest) {
-            Next::Whole(frame, count) => {
-                let instr = read_server(&frame).context("no instruction of the gateway's")?;
-                play(&mut canvas, &instr)?;
-                rest = &rest[count..];
-            }
-            Next::More => break,
-            Next::Bad(_) => bail!("no instruction"),
-        }
-    }
-    Ok(canvas)
-}
-
-// Whether the visible layer has the same size and the same pixels on both.
-fn is_alike(left: &Canvas, right: &Canvas) -> bool {
-    let (width, height) = left.layer_size(0);
-    if right.layer_size(0) != (width, height) {
-        return false;
-    }
-    (0..height).all(|y| (0..width).all(|x| left.pixel(0, x, y) == right.pixel(0, x, y)))
 }

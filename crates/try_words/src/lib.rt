@@ -1,9 +1,16 @@
-//! Words, numbers and bytes of the rows that `try_units` and `try_screen` read, and bytes as they print them
-//! (this project's own rule). Nothing else stands on it.
+//! What programs that try others share: how files of rows are run, words, numbers and bytes of rows, bytes as they
+//! are printed, and numbers that look random (this project's own rule). Nothing else stands on it.
 #![tactic(auto)]
+
+mod marks;
+mod random;
+mod rows;
 
 use anyhow::{Context, Result, bail};
 use gate_model::{Asked, Share};
+pub use marks::{from_last, split_at_first};
+pub use random::Random;
+pub use rows::run_rows;
 use std::alloc::Global;
 use try_notation::ByteReader;
 
