@@ -1,7 +1,7 @@
 //! A session, the links to it, and who has joined.
 
-use crate::desks::{DeskDoor, NAME};
 use anyhow::{Context, Result};
+use gate_model::limits::MOST_ENTRIES;
 use gate_model::{Asked, Role, Share};
 use gate_outside::MemDice;
 use guac_handshake::{Door, Welcome, id_named, status_of};
@@ -11,6 +11,7 @@ use share_links::{LinkTable, Linked, link_request};
 use shared_desk::Place;
 use std::alloc::Global;
 use std::sync::{Mutex, Wait};
+use try_doors::{NAME, OneDoor, Session};
 use try_words::push_escaped;
 
 // The bytes 20 to 2f, which every draw gives, and the name of the link that is made of them.
@@ -23,7 +24,7 @@ const LINK: &str = "$20212223-2425-4627-a829-2a2b2c2d2e2f";
 /// A door with links to one session, and those who have joined it, in turn.
 #[derive(Drop)]
 pub struct Hall<'a> {
-    door: Linked<'a, DeskDoor>,
+    door: Linked<'a, OneDoor>,
     dice: MemDice,
     joined: Vec<Welcome<Place>>,
 }
@@ -31,9 +32,10 @@ pub struct Hall<'a> {
 impl<'a> Hall<'a> {
     /// A session of this share mode, over a table of links.
     pub fn new(alloc: Global, mode: Share, links: &'a Mutex<LinkTable>) -> Result<Hall<'a>> {
+        let session = Session::new(alloc, mode, MOST_ENTRIES)?;
         Ok(Hall {
             door: Linked {
-                door: DeskDoor::new(alloc, mode)?,
+                door: OneDoor::with(NAME, session),
                 links,
             },
             dice: MemDice::new([DRAW].to_vec(alloc)?),
@@ -42,13 +44,13 @@ impl<'a> Hall<'a> {
     }
 
     /// The host says a letter.
-    pub fn say<R: Wait>(&mut self, rt: &R, alloc: Global) {
-        self.door.door.say(rt, alloc);
+    pub fn say<R: Wait>(&mut self, rt: &R, alloc: Global) -> Result<()> {
+        self.door.door.session()?.say(rt, alloc, b'A')
     }
 
     /// The session leaves the table of sessions.
     pub fn forget(&mut self) {
-        self.door.door.forget();
+        drop(self.door.door.forget());
     }
 
     /// Whether the link's name is known.

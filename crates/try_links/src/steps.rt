@@ -40,7 +40,7 @@ fn take<R: Wait>(
         "known" => hall.known(rt, text),
         "spend" => hall.spend(rt, text),
         "say" => {
-            hall.say(rt, alloc);
+            hall.say(rt, alloc)?;
             Ok(text.push_str("said")?)
         }
         "forget" => {

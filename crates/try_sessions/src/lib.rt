@@ -3,4 +3,4 @@
 
 mod sessions;
 
-pub use sessions::{Screen, give_back, joined, opened};
+pub use sessions::{Screen, give_back, joined, opened, opened_as};

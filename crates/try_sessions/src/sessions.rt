@@ -5,6 +5,7 @@ ghost use Rattle.gate_model.specs.session.Steps.{IsSetup};
 ghost use Rattle.shared_desk.specs.Hosts.{IsFresh};
 
 use anyhow::{Result, bail};
+use gate_model::limits::MOST_ENTRIES;
 use gate_model::{Asked, Bytes, Faces, Setup, Share, Text};
 use shared_desk::{AnyPass, Desk, HostPass, JoinRefusal, Place, ReaderPass, WriterPass, share};
 use std::alloc::Global;
@@ -21,7 +22,12 @@ pub enum Screen {
 
 /// A session that others may control, without viewers.
 pub fn opened(alloc: Global, screen: Screen) -> Result<HostPass> {
-    let setup = setup(alloc, screen)?;
+    opened_as(alloc, screen, Share::Control, MOST_ENTRIES)
+}
+
+/// A session of this share mode, without viewers, which has room for so many entries; for one at least.
+pub fn opened_as(alloc: Global, screen: Screen, mode: Share, entries: u64) -> Result<HostPass> {
+    let setup = setup(alloc, screen, mode, entries)?;
     let Ok(desk) = Desk::start(alloc, setup, 0) else {
         bail!("no memory");
     };
@@ -31,7 +37,7 @@ pub fn opened(alloc: Global, screen: Screen) -> Result<HostPass> {
     Ok(host)
 }
 
-fn setup(alloc: Global, screen: Screen) -> Result<Setup>
+fn setup(alloc: Global, screen: Screen, mode: Share, entries: u64) -> Result<Setup>
     ensures { IfOk result (λ s. IsSetup s) }
 {
     let term = Text::of(String::from_str(alloc, "linux")?);
@@ -43,10 +49,10 @@ fn setup(alloc: Global, screen: Screen) -> Result<Setup>
     Ok(Setup {
         cols,
         rows,
-        mode: Share::Control,
+        mode,
         term,
         faces: Faces::Ascii,
-        entries: 1 << 40,
+        entries: entries.clamp(1, MOST_ENTRIES),
     })
 }
 

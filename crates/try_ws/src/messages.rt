@@ -1,15 +1,15 @@
 //! The messages of one viewer, in turn.
 
-use crate::door::OneDoor;
-use crate::texts::{from_last, split_at_first};
 use anyhow::{Context, Result};
 use gate_model::Bytes;
+use gate_model::limits::MOST_ENTRIES;
 use gate_outside::MemBell;
 use guac_handshake::Door;
 use std::alloc::Global;
 use std::sync::Wait;
 use std::thread::Threads;
-use try_words::{bytes_of, numbers, push_escaped};
+use try_doors::{NAME, OneDoor, Opens};
+use try_words::{bytes_of, from_last, numbers, push_escaped, split_at_first};
 use ws_tunnel::{MemMessages, WsRun, ws_serve};
 
 /// What messages are answered, which ` | ` separates. Before them stands the number of the call of the link that fails,
@@ -26,7 +26,10 @@ pub fn conversation<R: Threads + Wait + Copy + Send + 'static>(
     let fail = u64::from(*numbers.first().context("no call")?);
     let closes = *numbers.get(1).context("no close")? == 1;
     let mut link = link_of(alloc, messages, fail)?;
-    let mut door = OneDoor::new(closes);
+    let mut door = OneDoor::new(NAME, MOST_ENTRIES);
+    if closes {
+        door.set(Opens::Closed);
+    }
     let run = ws_serve(rt, alloc, &mut link, &mut door, &MemBell::new());
     let mut text = String::new(alloc);
     for sent in link.sent() {
@@ -70,7 +73,7 @@ fn push_rest<R: Wait>(
 ) -> Result<()> {
     if let Some((id, place)) = run.place {
         text.push_str(" | [")?;
-        push_escaped(text, &door.sent(rt, alloc)?)?;
+        push_escaped(text, &door.session()?.sent(rt, alloc)?)?;
         text.push(']')?;
         door.give(rt, id.as_str(), place);
     }
