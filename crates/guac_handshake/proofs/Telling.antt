@@ -20,7 +20,8 @@ use Rattle.guac_handshake.specs.Asks.{Wish, Refuses, asks, asks_behind, asks_fir
 use Rattle.guac_handshake.specs.Causes.{HasCause, IsCaused}
 use Rattle.guac_handshake.specs.Doors.{AreTaken, HasConflict, HasRefused, IsBeginRefusal, IsJoinRefusal, MayRefuse, Names, RefusesAt, Sessions, at_name, refused_of}
 use Rattle.guac_handshake.specs.Greetings.{Broken, ByDoor, ByForm, Ends, IsGreeting, OutOfForm, RefusedEarly, RefusedFor}
-use Rattle.guac_handshake.specs.Statuses.{bad_request, status_of}
+use Rattle.gate_model.specs.text.Statuses.{bad_request}
+use Rattle.guac_handshake.specs.Statuses.{status_of}
 use Rattle.guac_handshake.specs.Texts.{args_for}
 
 -- the statuses of an unknown name and of a bad form are all that instructions are refused with
@@ -124,7 +125,7 @@ many_status TooMany e = refl
 there_at : (o : Option (Option History)) (role : Asked) (r : Refused) → (r ≡ Absent → ⊥) → (r ≡ NoMemory → ⊥) → RefusesAt o role r → (told : Option History) × (o ≡ Some told) × IfSome told (λ h. option_map refused_of (join_refusal h role) ≡ Some r)
 there_at None role r na ns e = absurd (na e)
 there_at (Some None) role r na ns is = (None, refl, tt)
-there_at (Some (Some h)) role r na ns (inl e) = absurd (ns e)
+there_at (Some (Some h)) role r na ns (inl e) = absurd (ns e.0)
 there_at (Some (Some h)) role r na ns (inr e) = (Some h, refl, e)
 
 has_refused : (id : Option (List ℕ)) (after : Option Sessions) (role : Asked) (r : Refused) → (r ≡ Absent → ⊥) → (r ≡ NoMemory → ⊥) → IfSome after (λ n. RefusesAt (at_name id n) role r) → HasRefused after r

@@ -14,7 +14,8 @@ use Rattle.guac_handshake.specs.declared.welcome.Welcome.{Welcome}
 use Rattle.guac_handshake.specs.Doors.{AddedOne, Grants, IsAbsent, IsJoinRefusal, JoinRefuses, KeepsIds, MayRefuse, MeetsHistory, MeetsTold, Names, RefusesAt, SameId, Sessions, TouchesOne, at_name}
 use Rattle.guac_handshake.specs.Greetings.{HasAnswered, HasTouched, IsToldError, IsToldReady}
 use Rattle.guac_handshake.specs.Opening.{HasMoved}
-use Rattle.guac_handshake.specs.Statuses.{bad_request, status_of}
+use Rattle.gate_model.specs.text.Statuses.{bad_request}
+use Rattle.guac_handshake.specs.Statuses.{status_of}
 use Rattle.guac_handshake.specs.declared.ask.Ask.{Ask}
 use Rattle.guac_handshake.specs.declared.form_refusal.FormRefusal.{FormRefusal}
 use Rattle.guac_handshake.specs.declared.form_refusal.FormRefusal.TheVariants as form
@@ -185,7 +186,7 @@ at_told A h role Closed is a m = inr m
 at_told A h role Forbidden is a m = inr m
 at_told A h role TooMany is a m = inr m
 at_told A h role Worn is a m = inr m
-at_told A h role NoMemory is a m = inl refl
+at_told A h role NoMemory is a m = inl (refl, m)
 
 refuses_at : (A : Type 0) (o : Option (Option History)) (role : Asked) (r : Refused) → IsJoinRefusal r → IsAbsent {A = A} (Err r) (is_some o) → MeetsHistory {A = A} o role (Err r) → RefusesAt o role r
 refuses_at A None role r is a m = at_none A role r a

@@ -151,14 +151,15 @@ refused_of (refusal.TooMany live joined) = TooMany
 refused_of (refusal.Worn entries) = Worn
 refused_of refusal.NoMemory = NoMemory
 
--- the answer is that of the rules after a history, which at Ok ends with a Join of the role that the table gives
+-- the answer is that of the rules after a history, which at Ok ends with a Join of the role that the table gives; want of
+-- memory is told only where they refuse nothing
 abbrev pub MeetsTold : {A : Type 0} → History → Asked → Result A Refused → Type 0
 MeetsTold h role (Ok a) = (viewer : ℕ) × (granted : Role) × (first : List Instr) × (before : History) × (h ≡ entry.Join viewer granted first ∷ before) × (join_refusal before role ≡ None) × (grant_of (share_mode before) role ≡ Ok granted)
 MeetsTold h role (Err Closed) = option_map refused_of (join_refusal h role) ≡ Some Closed
 MeetsTold h role (Err Forbidden) = option_map refused_of (join_refusal h role) ≡ Some Forbidden
 MeetsTold h role (Err TooMany) = option_map refused_of (join_refusal h role) ≡ Some TooMany
 MeetsTold h role (Err Worn) = option_map refused_of (join_refusal h role) ≡ Some Worn
-MeetsTold h role (Err NoMemory) = Unit {0}
+MeetsTold h role (Err NoMemory) = join_refusal h role ≡ None
 MeetsTold h role (Err Absent) = Unit {0}
 MeetsTold h role (Err Dial) = Unit {0}
 MeetsTold h role (Err Conflict) = Unit {0}
@@ -203,14 +204,14 @@ logged log request (Err refused) = logged_for log request refused
 abbrev pub BeginRefuses : Option Sessions → Option (ℕ → List ℕ) → Refused → Type 0
 BeginRefuses before draws refusal = IsBeginRefusal refusal × (refusal ≡ Conflict → HasConflict before × AreTaken before draws)
 
--- what the rules refuse to a joiner after the history of a session that is there, or memory was wanting; where none is,
--- it is Absent
+-- what the rules refuse to a joiner after the history of a session that is there, or, where they refuse nothing, want of
+-- memory; where none is there, it is Absent
 abbrev pub RefusesAt : Option (Option History) → Asked → Refused → Type 0
 RefusesAt None role refusal = refusal ≡ Absent
-RefusesAt (Some told) role refusal = IfSome told (λ h. (refusal ≡ NoMemory) ⊎ (option_map refused_of (join_refusal h role) ≡ Some refusal))
+RefusesAt (Some told) role refusal = IfSome told (λ h. ((refusal ≡ NoMemory) × (join_refusal h role ≡ None)) ⊎ (option_map refused_of (join_refusal h role) ≡ Some refusal))
 
--- it refused a joiner: for Absent exactly where the ID wasn't there, and else by the rules after the session's history, or
--- for want of memory
+-- it refused a joiner: for Absent exactly where the ID wasn't there, and else by the rules after the session's history, or,
+-- last, for want of memory
 abbrev pub JoinRefuses : Option (List ℕ) → Option Sessions → Option Sessions → Asked → Refused → Type 0
 JoinRefuses id before after role refusal =
     IsJoinRefusal refusal × IfSome before (λ m. IsAbsent {A = Unit {0}} (Err refusal) (is_some (at_name id m))) × IfSome after (λ n. RefusesAt (at_name id n) role refusal)

@@ -96,16 +96,6 @@ ruled v w asked r before after t =
 told_rule : (w : View Entry) (asked : Asked) (r : JoinRefusal) → join_refusal w.seen asked ≡ Some r → option_map refused_of (join_refusal w.seen asked) ≡ Some (refused_of r)
 told_rule w asked r is = ap (λ (o : Option JoinRefusal). option_map refused_of o) is
 
-pub meets_refused : (A : Type 0) (v w : View Entry) (asked : Asked) (r : JoinRefusal) (before after : List ℕ) → JoinEnds v asked (Err r) w before after → MeetsTold {A = A} w.seen asked (Err (refused_of r))
-meets_refused A v w asked (Closed c) before after e = told_rule w asked (Closed c) (ruled v w asked (Closed c) before after e)
-meets_refused A v w asked Forbidden before after e = told_rule w asked Forbidden (ruled v w asked Forbidden before after e)
-meets_refused A v w asked (TooMany l j) before after e = told_rule w asked (TooMany l j) (ruled v w asked (TooMany l j) before after e)
-meets_refused A v w asked (Worn n) before after e = told_rule w asked (Worn n) (ruled v w asked (Worn n) before after e)
-meets_refused A v w asked NoMemory before after e = tt
-
-pub refused_later : (v w : View Entry) (asked : Asked) (r : JoinRefusal) (before after : List ℕ) → JoinEnds v asked (Err r) w before after → IsLater v.seen w.seen
-refused_later v w asked r before after e = later_turn v w _ e
-
 -- want of memory is told where the rules refuse nothing
 unrefused : (v w : View Entry) (asked : Asked) (before after : List ℕ) → JoinEnds v asked (Err NoMemory) w before after → join_refusal w.seen asked ≡ None
 unrefused v w asked before after t =
@@ -115,16 +105,15 @@ unrefused v w asked before after t =
     none None e = refl
     none (Some x) e = absurd (let w : Some (joined_as (Err x)) ≡ None = e in cc)
 
-unrefused_as : (v w : View Entry) (asked : Asked) (r : JoinRefusal) (before after : List ℕ) → JoinEnds v asked (Err r) w before after → refused_of r ≡ refused.NoMemory → join_refusal w.seen asked ≡ None
-unrefused_as v w asked (Closed c) before after e is = absurd (let x : refused.Closed ≡ refused.NoMemory = is in cc)
-unrefused_as v w asked Forbidden before after e is = absurd (let x : refused.Forbidden ≡ refused.NoMemory = is in cc)
-unrefused_as v w asked (TooMany l j) before after e is = absurd (let x : refused.TooMany ≡ refused.NoMemory = is in cc)
-unrefused_as v w asked (Worn n) before after e is = absurd (let x : refused.Worn ≡ refused.NoMemory = is in cc)
-unrefused_as v w asked NoMemory before after e is = unrefused v w asked before after e
+pub meets_refused : (A : Type 0) (v w : View Entry) (asked : Asked) (r : JoinRefusal) (before after : List ℕ) → JoinEnds v asked (Err r) w before after → MeetsTold {A = A} w.seen asked (Err (refused_of r))
+meets_refused A v w asked (Closed c) before after e = told_rule w asked (Closed c) (ruled v w asked (Closed c) before after e)
+meets_refused A v w asked Forbidden before after e = told_rule w asked Forbidden (ruled v w asked Forbidden before after e)
+meets_refused A v w asked (TooMany l j) before after e = told_rule w asked (TooMany l j) (ruled v w asked (TooMany l j) before after e)
+meets_refused A v w asked (Worn n) before after e = told_rule w asked (Worn n) (ruled v w asked (Worn n) before after e)
+meets_refused A v w asked NoMemory before after e = unrefused v w asked before after e
 
--- .. of the door's answer
-pub unrefused_by : (v w : View Entry) (asked : Asked) (r : JoinRefusal) (x : Refused) (before after : List ℕ) → x ≡ refused_of r → JoinEnds v asked (Err r) w before after → x ≡ refused.NoMemory → join_refusal w.seen asked ≡ None
-unrefused_by v w asked r x before after is e none = unrefused_as v w asked r before after e (sym is ∙ none)
+pub refused_later : (v w : View Entry) (asked : Asked) (r : JoinRefusal) (before after : List ℕ) → JoinEnds v asked (Err r) w before after → IsLater v.seen w.seen
+refused_later v w asked r before after e = later_turn v w _ e
 
 -- .. of the door's refusal for it
 pub meets_refusal : (A : Type 0) (v w : View Entry) (asked : Asked) (r : JoinRefusal) (x : Refused) (before after : List ℕ) → x ≡ refused_of r → JoinEnds v asked (Err r) w before after → MeetsTold {A = A} w.seen asked (Err x)

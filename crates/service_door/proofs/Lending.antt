@@ -108,16 +108,6 @@ miss_history r t name id role answer is s =
     after_so r t (Misses id) (λ n. MeetsHistory (at_name name n) role answer)
     (λ m n p. subst (λ (o : Option (Option History)). MeetsHistory o role answer) (sym (ap (λ (x : Option (List ℕ)). at_name x (histories n)) is ∙ ap history_of (p.1 id ∙ p.0))) tt) s
 
--- what isn't refused by the rules says nothing of a history
-meets_free : {A : Type 0} (o : Option (Option History)) (role : Asked) (answer : Result A Refused) → ((h : History) → MeetsTold h role answer) → MeetsHistory o role answer
-meets_free None role answer f = tt
-meets_free (Some None) role answer f = tt
-meets_free (Some (Some h)) role answer f = f h
-
-pub free_history : {A : Type 0} (r : Option Table) (name : Option (List ℕ)) (role : Asked) (answer : Result A Refused) → ((h : History) → MeetsTold h role answer) → IfSome (sessions_of r) (λ n. MeetsHistory (at_name name n) role answer)
-free_history None name role answer f = tt
-free_history (Some m) name role answer f = meets_free (at_name name (histories m)) role answer f
-
 -- ---- this door tells neither its places nor what it was asked
 
 pub untold_out : {A : Type 0} (r : Result A Refused) → None ≡ one_more_out r None

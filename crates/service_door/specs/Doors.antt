@@ -2,7 +2,6 @@
 use Rattle.std.specs.Prelude.{◌≡◌, ◌≢◌, ℕ, true, false, List, Option, Some, None, Result, Ok, Err}
 use Rattle.gate_model.specs.Sequences.{IsLater}
 use Rattle.gate_model.specs.session.History.{is_closed}
-use Rattle.gate_model.specs.session.Refusals.{join_refusal}
 use Rattle.gate_model.specs.session.Rights.{is_live}
 use Rattle.gate_model.specs.declared.answer.Answer.TheVariants.{Close as closed, Leave as left}
 use Rattle.gate_model.specs.declared.cause.Cause.TheVariants.{Stopped}
@@ -12,7 +11,6 @@ use Rattle.gate_model.specs.declared.event.Event.TheVariants.{Close, Leave}
 use Rattle.gate_model.specs.declared.no_viewer.NoViewer.{NoViewer}
 use Rattle.gate_model.specs.declared.sharing.Asked.{Asked}
 use Rattle.guac_handshake.specs.declared.refused.Refused.{Refused}
-use Rattle.guac_handshake.specs.declared.refused.Refused.TheVariants.{NoMemory}
 use Rattle.guac_handshake.specs.declared.welcome.Welcome.{Welcome}
 use Rattle.id_table.specs.Maps.{Shelved}
 use Rattle.shared_desk.specs.Called.{Called}
@@ -33,11 +31,10 @@ pub record GoesOn (s t : SessionState) : Type 0 where
   pub session : t.host.session ≡ s.host.session
   pub seen : IsLater s.host.view.seen t.host.view.seen
 
--- how a join leaves the session: it went on, and at Ok the Join is its last entry and one place more is out. Want of
--- memory is told only where its rules refuse nothing
+-- how a join leaves the session: it went on, and at Ok the Join is its last entry and one place more is out
 abbrev pub JoinLeaves : Asked → Result (Welcome Place) Refused → SessionState → SessionState → Type 0
 JoinLeaves asked (Ok welcome) s t = GoesOn s t × HasJoinedLast asked welcome.place t.host × (t.places ≡ one_more s.places)
-JoinLeaves asked (Err refused) s t = GoesOn s t × (t.places ≡ s.places) × (refused ≡ NoMemory → join_refusal t.host.view.seen asked ≡ None)
+JoinLeaves asked (Err refused) s t = GoesOn s t × (t.places ≡ s.places)
 
 -- what was under an ID and what is there now are so related; without a session there it stays without
 abbrev pub Both : (SessionState → SessionState → Type 0) → Option (Option SessionState) → Option (Option SessionState) → Type 0

@@ -1,7 +1,7 @@
 use Rattle.std.proofs.Common.{[], refl}
 use Rattle.guac_handshake.specs.declared.welcome.Welcome.{Welcome}
 use Rattle.shared_desk.specs.declared.place.Place.{Place}
-use Rattle.service_door.proofs.Joined.{joined_last, joined_later, meets_joined, meets_refusal, refusal_there, refused_later, unrefused_by}
+use Rattle.service_door.proofs.Joined.{joined_last, joined_later, meets_joined, meets_refusal, refusal_there, refused_later}
 use Rattle.service_door.proofs.door.welcome.Goals as goal
 
 pub returns-in_default-clause-there : goal.returns-in_default-clause-there
@@ -14,7 +14,6 @@ pub returns-in_default-clause-leaves : goal.returns-in_default-clause-leaves
 returns-in_default-clause-leaves g c = (
   record { session = c.refuse.ensures.session; seen = refused_later _ _ _ c.refuse.result [] [] (c.refuse.ensures.step []) },
   c.refuse.ensures.unchanged,
-  unrefused_by _ _ _ c.refuse.result _ [] [] c.refused_of.ensures (c.refuse.ensures.step []),
 )
 
 pub returns-in-Ok-join-clause-history : goal.returns-in-Ok-join-clause-history
@@ -37,5 +36,4 @@ pub returns-in-Err-clause-leaves : goal.returns-in-Err-clause-leaves
 returns-in-Err-clause-leaves g c = (
   record { session = c.join.ensures.session; seen = refused_later _ _ _ c.in-Err.refusal _ _ c.in-Err.ensures.step },
   c.in-Err.ensures.unchanged,
-  unrefused_by _ _ _ c.in-Err.refusal _ _ _ c.refused_of-in-Err.ensures c.in-Err.ensures.step,
 )
