@@ -10,9 +10,9 @@ ghost use Rattle.id_table.specs.Tables.{held};
 
 use crate::connecting::owned;
 use crate::names::{id_named, name_of};
-use crate::{Ask, Begun, Door, Job, Recorder, Refused, Seat, Welcome};
+use crate::{Ask, Begun, Door, Recorder, Refused, Welcome};
 use gate_model::{Asked, Bytes, NoMemory, Text};
-use gate_outside::{Counted, DialFault, Dialer, MemDialer, MemDice, Way};
+use gate_outside::{Counted, DialFault, Dialer, Job, MemDialer, MemDice, Seat, Way};
 use id_table::{AddRefusal, IdTable};
 use std::alloc::Global;
 use std::sync::Wait;

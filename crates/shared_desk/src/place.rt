@@ -3,7 +3,7 @@
 use crate::reader::ReaderPass;
 use crate::writer::WriterPass;
 use gate_model::Role;
-use guac_handshake::Seat;
+use gate_outside::Seat;
 
 /// The passes of a viewer, and its role.
 #[derive(Drop)]
