@@ -3,13 +3,14 @@ use Rattle.std.specs.Prelude.{◌≡◌, ◌≤◌, ◌⊎◌, ℕ, List, [], le
 use Rattle.guac_handshake.specs.Doors.{Sessions}
 use Rattle.guac_handshake.specs.declared.request.Request.{Request as DoorRequest}
 use Rattle.guac_handshake.specs.declared.welcome.Welcome.{Welcome}
+use Rattle.http_front.specs.Refusals.{IsResponse}
 use Rattle.http_front.specs.Requests.{Receives}
 use Rattle.http_front.specs.Responses.{response_text}
 use Rattle.http_front.specs.declared.request.Incoming.{Incoming}
 use Rattle.http_front.specs.declared.request.Incoming.TheVariants as incoming
 use Rattle.http_front.specs.declared.request.Request.{Request}
 use Rattle.http_front.specs.declared.response.Response.{Response}
-use Rattle.http_tunnel.specs.Requests.{IsResponse, Serves}
+use Rattle.http_tunnel.specs.Requests.{Serves}
 use Rattle.http_tunnel.specs.Routes.{route_of}
 use Rattle.http_tunnel.specs.declared.tunnel.Tunnel.{Tunnel}
 use Rattle.id_table.specs.Maps.{Map, Shelved}
@@ -36,7 +37,7 @@ IsRefusal status code response = (response.status ≡ status) × (response.code 
 -- next; of what the table of links held nothing is said
 abbrev pub IsLinkAnswer : (List ℕ → Option (List ℕ)) → Option Sessions → Option (ℕ → List ℕ) → Request → Response → Type 0
 IsLinkAnswer id_of sessions drawn request response =
-    (answered : _) × (links : Map Link) × (links_new : Map Link) × link.IsResponse answered response × link.Serves id_of sessions drawn request.body.now links links_new answered (link_route request.method request.target.now)
+    (answered : _) × (links : Map Link) × (links_new : Map Link) × IsResponse answered response × link.Serves id_of sessions drawn request.body.now links links_new answered (link_route request.method request.target.now)
 
 -- one of two, by whether a path is that of links
 abbrev pub ByPath : Bool → Type 0 → Type 0 → Type 0

@@ -7,6 +7,7 @@ use crate::refused::refused_with;
 use crate::seen::WatchedShelf;
 use crate::{ConnEnd, Lookahead, connection};
 use fetch_site::{Front, look};
+use gate_model::statuses::FORBIDDEN;
 use gate_model::{Bytes, Faces, NoMemory, Text};
 use gate_outside::{Again, Bell, Dice, Helper, Sink, Source};
 use guac_handshake::Door;
@@ -20,9 +21,6 @@ use std::alloc::Global;
 use std::sync::{Arc, Mutex, Wait};
 use std::thread::Threads;
 use user_serve::{UserEnd, Visit};
-
-/// The Guacamole status of what another site's page asks, or who calls this machine by a name that isn't given.
-pub(crate) const FOREIGN: u16 = 771;
 
 /// The two ends of a connection.
 #[derive(Drop)]
@@ -151,7 +149,7 @@ fn front_of<S: Source, K: Sink, L: Log>(
     match look(source, &mut front) {
         Ok(Front::Foreign) => {
             note_foreign(log);
-            list.refuse(FOREIGN);
+            list.refuse(FORBIDDEN);
             refuse(alloc, sink);
             return None;
         }

@@ -1,10 +1,9 @@
 //! The page that the service hands out, where one is wanted.
 
-use crate::jobs::FOREIGN;
 use crate::notes::note_unknown;
-use gate_model::Bytes;
+use gate_model::statuses::FORBIDDEN;
 use gate_outside::Sink;
-use http_front::{Response, write_response};
+use http_front::{Refusal, Response, write_response};
 use log::Log;
 use page_files::{Judged, PageFile, answer, judge};
 use serve_options::Names;
@@ -36,7 +35,7 @@ impl Page {
             }
             Judged::Refused => {
                 note_unknown(log);
-                list.refuse(FOREIGN);
+                list.refuse(FORBIDDEN);
                 refuse(alloc, sink);
                 true
             }
@@ -47,10 +46,5 @@ impl Page {
 
 /// Refuses a request with 403, before anything is done for it.
 pub(crate) fn refuse<K: Sink>(alloc: Global, sink: &mut K) {
-    let response = Response {
-        status: 403,
-        code: FOREIGN,
-        body: Bytes::of(Vec::new(alloc)),
-    };
-    let _ = write_response(alloc, sink, &response);
+    let _ = write_response(alloc, sink, &Response::of(alloc, Err(Refusal::Forbidden)));
 }

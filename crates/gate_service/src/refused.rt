@@ -1,6 +1,8 @@
 //! With which status a connection was refused, for the list of what runs.
 
 use crate::{ConnEnd, HttpEnd};
+use gate_model::statuses::NO_MEMORY;
+use http_front::code_beside;
 use user_serve::UserEnd;
 use ws_tunnel::{WsEnd, WsRun};
 
@@ -17,23 +19,7 @@ pub(crate) fn refused_with(end: &ConnEnd) -> Option<u16> {
         ) => Some(*status),
         ConnEnd::Http(HttpEnd::Answered(status)) => code_beside(*status),
         ConnEnd::NoMemory | ConnEnd::User(UserEnd::NoMemory) | ConnEnd::Http(HttpEnd::NoMemory) =>
-            Some(512),
-        _ => None,
-    }
-}
-
-// The Guacamole status beside one of HTTP, where that refuses (docs/PROTOCOL.md, "Statuses").
-fn code_beside(status: u16) -> Option<u16> {
-    match status {
-        400 | 405 | 413 | 431 | 501 => Some(768),
-        403 => Some(771),
-        404 => Some(516),
-        409 => Some(517),
-        410 => Some(523),
-        429 => Some(797),
-        500 => Some(512),
-        502 => Some(519),
-        503 => Some(513),
+            Some(NO_MEMORY),
         _ => None,
     }
 }

@@ -9,6 +9,7 @@ ghost use Rattle.share_links.specs.Doors.{IsJoinedAs};
 ghost use Rattle.gate_service.specs.Requests.{HasAnswered, IsAnswer, IsDue, IsHttpCaused, IsLinkAnswer, IsRefusal, IsSilent, OnSilent, Wrote};
 
 use gate_model::Bytes;
+use gate_model::statuses::{BAD_REQUEST, NO_MEMORY};
 use gate_outside::{Bell, Dice, Sink};
 use guac_handshake::Door;
 use http_front::{Incoming, ReplyFault, Request, Response, write_response};
@@ -19,9 +20,6 @@ use shared_desk::Place;
 use std::alloc::Global;
 use std::sync::Wait;
 use std::thread::Threads;
-
-/// The Guacamole status of a request that can't be read.
-const BAD_REQUEST: u16 = 768;
 
 /// How a connection ended that isn't a viewer's (this project's own).
 #[derive(Clone, Copy, Debug, PartialEq, Eq)]
@@ -107,7 +105,7 @@ where
             }
         }
         Incoming::Refused(status) => Ok(refusal(alloc, status, BAD_REQUEST)),
-        Incoming::NoMemory => Ok(refusal(alloc, 500, 512)),
+        Incoming::NoMemory => Ok(refusal(alloc, 500, NO_MEMORY)),
         Incoming::Ended => Err(HttpEnd::Ended),
         Incoming::ReadFault => Err(HttpEnd::ReadFault),
     }

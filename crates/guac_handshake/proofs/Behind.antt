@@ -21,7 +21,7 @@ use Rattle.guac_handshake.specs.declared.request.Selected.TheVariants.{Telnet, K
 use Rattle.guac_handshake.specs.Heard.{HasHeard, StopsAt, said_behind, said_of, wish_said}
 use Rattle.guac_handshake.specs.Greetings.{Answers, HasConnected, OutOfForm, Broken}
 use Rattle.guac_handshake.specs.Splits.{IsInstruction, Splits}
-use Rattle.guac_handshake.specs.Statuses.{bad_request}
+use Rattle.gate_model.specs.text.Statuses.{bad_request}
 
 -- bytes behind the rest
 pub splits_append : (es : List (List (List ℕ))) (text rest more : List ℕ) → Splits text es rest → Splits (text ++ more) es (rest ++ more)

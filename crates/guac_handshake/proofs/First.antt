@@ -16,7 +16,7 @@ use Rattle.guac_handshake.specs.Doors.{Sessions, at_name}
 use Rattle.guac_handshake.specs.Heard.{HasHeard, said_first}
 use Rattle.guac_handshake.specs.Greetings.{Answers, Chose, HasAsked, HasConnected, HasSelected, IsFound, IsLook, OutOfForm, WroteArgs, found_as, name_looked_at}
 use Rattle.guac_handshake.specs.Splits.{Splits}
-use Rattle.guac_handshake.specs.Statuses.{bad_request}
+use Rattle.gate_model.specs.text.Statuses.{bad_request}
 use Rattle.guac_handshake.specs.Texts.{args_for, args_text}
 use Rattle.guac_handshake.proofs.Behind.{asks_open, not_none, stop_answers}
 

@@ -14,7 +14,7 @@ use Rattle.guac_handshake.specs.declared.request.Request.{Request}
 use Rattle.guac_handshake.specs.declared.request.Request.TheVariants.{Begin, Join}
 use Rattle.guac_handshake.specs.declared.request.Selected.{Selected}
 use Rattle.guac_handshake.specs.declared.request.Selected.TheVariants.{Telnet, Known}
-use Rattle.guac_handshake.specs.Statuses.{not_found, bad_request}
+use Rattle.gate_model.specs.text.Statuses.{not_found, bad_request}
 
 -- an answer to come, a request to a door, or a refusal with its status
 pub data Wish : Type 0 where

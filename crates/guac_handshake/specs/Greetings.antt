@@ -17,7 +17,8 @@ use Rattle.guac_handshake.specs.Asks.{ReadsNoFurther, Wish, Unfinished, Wants, R
 use Rattle.id_table.specs.Maps.{Same}
 use Rattle.guac_handshake.specs.Doors.{KeepsIds, MayRefuse, Names, Sessions, TouchesOne, asked_more, at_name, logged_for, option_less}
 use Rattle.guac_handshake.specs.Splits.{Splits}
-use Rattle.guac_handshake.specs.Statuses.{bad_request, not_found, status_of}
+use Rattle.gate_model.specs.text.Statuses.{bad_request, not_found}
+use Rattle.guac_handshake.specs.Statuses.{status_of}
 use Rattle.guac_handshake.specs.Texts.{args_for, error_text, ready_text}
 
 -- the bytes begin no instruction

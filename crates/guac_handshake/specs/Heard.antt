@@ -13,7 +13,7 @@ use Rattle.guac_handshake.specs.declared.stop.Stop.TheVariants as stop
 use Rattle.guac_handshake.specs.Asks.{Wish, Unfinished, Wants, Refuses, connects_as}
 use Rattle.guac_handshake.specs.declared.request.Selected.{Selected}
 use Rattle.guac_handshake.specs.Splits.{IsInstruction}
-use Rattle.guac_handshake.specs.Statuses.{bad_request}
+use Rattle.gate_model.specs.text.Statuses.{bad_request}
 
 -- the wish of `connect`
 abbrev pub wish_said : Wish → Said

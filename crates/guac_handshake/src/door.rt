@@ -9,9 +9,9 @@ ghost use Rattle.guac_handshake.specs.declared.request.Request.{Request};
 ghost use Rattle.guac_handshake.specs.declared.request.Request.TheVariants.{Begin as begin_request, Join as join_request};
 ghost use Rattle.guac_handshake.specs.declared.welcome.Welcome.{Welcome};
 
-use crate::{Ask, Begun, Job, Recorder, Refused, Seat, Welcome};
+use crate::{Ask, Begun, Recorder, Refused, Welcome};
 use gate_model::{Asked, Text};
-use gate_outside::{Counted, Way, start_by};
+use gate_outside::{Counted, Job, Seat, Way, start_by};
 use std::alloc::Global;
 use std::sync::Wait;
 use std::thread::Threads;

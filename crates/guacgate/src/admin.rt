@@ -3,6 +3,7 @@
 use crate::asking::is_own;
 use crate::noting::Notes;
 use bytes::Bytes;
+use gate_model::statuses::FORBIDDEN;
 use gate_model::{NoMemory, Text};
 use http::{HeaderValue, Request, StatusCode, header};
 use http_server::{Response, Service};
@@ -11,9 +12,6 @@ use serve_options::Names;
 use session_list::{Ending, Outside, SessionList};
 use std::alloc::AllocError;
 use std::sync::Wait;
-
-/// The Guacamole status with which a request of another site's page is counted.
-const FOREIGN: u16 = 771;
 
 /// What an answer is of: JSON, the text of Prometheus, or plain text.
 #[derive(Clone, Copy)]
@@ -77,7 +75,7 @@ impl<'a, R: Wait + AllocGlobal> Admin<'a, R> {
     // What a request is answered.
     fn answer(&self, request: &Request<Bytes>) -> Result<Answer, NoMemory> {
         if !is_own(request, self.office.names()) {
-            self.office.list.refuse(FOREIGN);
+            self.office.list.refuse(FORBIDDEN);
             return self.plain(StatusCode::FORBIDDEN, "another site's page asks\n");
         }
         let (rt, office) = (self.rt, self.office);

@@ -1,3 +1,4 @@
 -- In reading order.
 pub mod Tokens
 pub mod Growing
+mod RefusalFacts

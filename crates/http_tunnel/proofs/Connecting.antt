@@ -20,8 +20,8 @@ use Rattle.uuid.specs.Text.{hyphenated_text, lower}
 use Rattle.uuid.proofs.TextLemmas.{by_index_length}
 use Rattle.http_tunnel.specs.Connects.{ConnectOf, IsAdded, IsId, refused_by_door, refused_form, tunnel_of}
 use Rattle.http_tunnel.specs.Tunnels.{AreHome, IsHome, less_one}
-use Rattle.http_tunnel.specs.declared.refusal.Refusal.{Refusal}
-use Rattle.http_tunnel.specs.declared.refusal.Refusal.TheVariants.{NotFound, Form, Dial, Busy, Conflict, Forbidden, TooMany, Closed, NoMemory}
+use Rattle.http_front.specs.declared.refusal.Refusal.{Refusal}
+use Rattle.http_front.specs.declared.refusal.Refusal.TheVariants.{NotFound, Form, Dial, Busy, Conflict, Forbidden, TooMany, Closed, NoMemory}
 use Rattle.http_tunnel.specs.declared.tunnel.Tunnel.{Tunnel}
 use Rattle.http_tunnel.proofs.Shelves.{after_told, all_changed, all_same, told_as, told_with}
 

@@ -10,17 +10,17 @@ use Rattle.guac_handshake.specs.declared.request.Request.{Request}
 use Rattle.guac_handshake.specs.declared.welcome.Welcome.{Welcome}
 use Rattle.shared_desk.specs.declared.place.Place.{Place}
 use Rattle.id_table.specs.Maps.{Shelved}
-use Rattle.http_tunnel.specs.Requests.{IsResponse, IsTunnelRefusal, Serves, without_body}
+use Rattle.http_tunnel.specs.Requests.{IsTunnelRefusal, Serves, without_body}
 use Rattle.http_tunnel.specs.Reads.{mark_of}
 use Rattle.http_tunnel.specs.Routes.{IsAsked}
-use Rattle.http_tunnel.specs.Statuses.{status_of}
+use Rattle.http_front.specs.Refusals.{IsResponse, status_of}
 use Rattle.http_tunnel.specs.Tunnels.{answer_with, read_answer, refused_read}
 use Rattle.http_tunnel.specs.Writes.{IsRefusedWrite, WriteCause, WritesBody, without_value}
 use Rattle.http_tunnel.specs.declared.reading.TunnelEnd.{TunnelEnd}
 use Rattle.http_tunnel.specs.declared.reading.TunnelRefusal.{TunnelRefusal}
 use Rattle.http_tunnel.specs.declared.reading.TunnelRefusal.TheVariants as tunnel
-use Rattle.http_tunnel.specs.declared.refusal.Refusal.{Refusal}
-use Rattle.http_tunnel.specs.declared.refusal.Refusal.TheVariants.{NotFound, Form, Method, Dial, Busy, Conflict, Forbidden, TooMany, Closed, NoMemory}
+use Rattle.http_front.specs.declared.refusal.Refusal.{Refusal}
+use Rattle.http_front.specs.declared.refusal.Refusal.TheVariants.{NotFound, Form, Method, Dial, Busy, Conflict, Forbidden, TooMany, Closed, NoMemory}
 use Rattle.http_tunnel.specs.declared.route.Route.{Route}
 use Rattle.http_tunnel.specs.declared.route.Route.TheVariants as route
 use Rattle.http_tunnel.specs.declared.tunnel.Tunnel.{Tunnel}

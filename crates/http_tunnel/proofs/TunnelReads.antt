@@ -21,8 +21,8 @@ use Rattle.http_tunnel.specs.declared.read.Taken.TheVariants as taken
 use Rattle.http_tunnel.specs.declared.reading.TunnelEnd.{TunnelEnd}
 use Rattle.http_tunnel.specs.declared.reading.TunnelRefusal.{TunnelRefusal}
 use Rattle.http_tunnel.specs.declared.reading.TunnelRefusal.TheVariants.{NoViewer, Worn, NoMemory}
-use Rattle.http_tunnel.specs.declared.refusal.Refusal.{Refusal}
-use Rattle.http_tunnel.specs.declared.refusal.Refusal.TheVariants.{NotFound}
+use Rattle.http_front.specs.declared.refusal.Refusal.{Refusal}
+use Rattle.http_front.specs.declared.refusal.Refusal.TheVariants.{NotFound}
 use Rattle.http_tunnel.specs.declared.tunnel.Tunnel.{Tunnel}
 use Rattle.http_tunnel.proofs.Looks.{append_nil, chain, mapped_read, stops_after}
 use Rattle.http_tunnel.proofs.Shelves.{Lends, after_told, all_changed, all_same, changed_after, changed_none, changed_twice, same_refl, same_trans, some_inj, told_as, told_none, told_on, told_with}

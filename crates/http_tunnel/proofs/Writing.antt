@@ -24,8 +24,8 @@ use Rattle.http_tunnel.specs.Tunnels.{AreHome, IsHome}
 use Rattle.http_tunnel.specs.Writes.{HasLeft, HasPut, StopsWish, WriteCause, WriteOf, WritesBody, WritesWish, is_ended, refused_write, without_value}
 use Rattle.http_tunnel.specs.declared.acts.BodyFault.{BodyFault}
 use Rattle.http_tunnel.specs.declared.acts.BodyFault.TheVariants as fault_kind
-use Rattle.http_tunnel.specs.declared.refusal.Refusal.{Refusal}
-use Rattle.http_tunnel.specs.declared.refusal.Refusal.TheVariants.{NotFound}
+use Rattle.http_front.specs.declared.refusal.Refusal.{Refusal}
+use Rattle.http_front.specs.declared.refusal.Refusal.TheVariants.{NotFound}
 use Rattle.http_tunnel.specs.declared.tunnel.Tunnel.{Tunnel}
 use Rattle.http_tunnel.proofs.TunnelReads.{kept_both}
 use Rattle.http_tunnel.proofs.Shelves.{Lends, all_changed, all_same, changed_none, changed_twice, told_as, told_on, told_with}

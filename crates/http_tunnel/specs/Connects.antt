@@ -12,8 +12,8 @@ use Rattle.id_table.specs.Maps.{Changed, Same, Shelved}
 use Rattle.shared_desk.specs.Hosts.{IsFresh}
 use Rattle.shared_desk.specs.declared.place.Place.{Place}
 use Rattle.uuid.specs.Text.{hyphenated_text, lower}
-use Rattle.http_tunnel.specs.declared.refusal.Refusal.{Refusal}
-use Rattle.http_tunnel.specs.declared.refusal.Refusal.TheVariants.{NotFound, Form, Dial, Busy, Conflict, Forbidden, TooMany, Closed, NoMemory}
+use Rattle.http_front.specs.declared.refusal.Refusal.{Refusal}
+use Rattle.http_front.specs.declared.refusal.Refusal.TheVariants.{NotFound, Form, Dial, Busy, Conflict, Forbidden, TooMany, Closed, NoMemory}
 use Rattle.http_tunnel.specs.declared.tunnel.Tunnel.{Tunnel}
 
 -- the tunnel of a viewer that was let in, whose first read hands out what its Join gave

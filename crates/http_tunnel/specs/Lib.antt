@@ -1,7 +1,6 @@
--- In reading order: what a request asks, the statuses of refusals, what a read did, what a place that goes back does,
+-- In reading order: what a request asks, what a read did, what a place that goes back does,
 -- what a read does to the tunnels, what a body asks, what a write does to the tunnels, what a request for a tunnel does, how each is answered.
 pub mod Routes
-pub mod Statuses
 pub mod Reads
 pub mod Places
 pub mod Tunnels

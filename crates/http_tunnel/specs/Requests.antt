@@ -5,24 +5,17 @@ use Rattle.guac_handshake.specs.Opening.{HasMoved, HasOpened}
 use Rattle.guac_handshake.specs.declared.form_refusal.FormRefusal.{FormRefusal}
 use Rattle.guac_handshake.specs.declared.request.Request.{Request}
 use Rattle.guac_handshake.specs.declared.welcome.Welcome.{Welcome}
-use Rattle.http_front.specs.declared.response.Response.{Response}
 use Rattle.id_table.specs.Maps.{Same, Shelved, Told}
 use Rattle.shared_desk.specs.declared.place.Place.{Place}
 use Rattle.http_tunnel.specs.Connects.{AnswersOpened, ConnectOf, out_after}
 use Rattle.http_tunnel.specs.Places.{HasGiven, IsOfTunnel}
-use Rattle.http_tunnel.specs.Statuses.{code_of, status_of}
 use Rattle.http_tunnel.specs.Tunnels.{ReadOf, less_one}
 use Rattle.http_tunnel.specs.Writes.{WriteOf}
-use Rattle.http_tunnel.specs.declared.refusal.Refusal.{Refusal}
-use Rattle.http_tunnel.specs.declared.refusal.Refusal.TheVariants.{NotFound, Form, Method, Dial, Busy, Conflict, Forbidden, TooMany, Closed, NoMemory}
+use Rattle.http_front.specs.declared.refusal.Refusal.{Refusal}
+use Rattle.http_front.specs.declared.refusal.Refusal.TheVariants.{NotFound, Form, Method, Dial, Busy, Conflict, Forbidden, TooMany, Closed, NoMemory}
 use Rattle.http_tunnel.specs.declared.route.Route.{Route}
 use Rattle.http_tunnel.specs.declared.route.Route.TheVariants as route
 use Rattle.http_tunnel.specs.declared.tunnel.Tunnel.{Tunnel}
-
--- the response to a request that was answered so
-abbrev pub IsResponse : Result (List ℕ) Refusal → Response → Type 0
-IsResponse (Ok body) response = (response.status ≡ 200) × (response.code ≡ 0) × (response.body ≡ body)
-IsResponse (Err refusal) response = (response.status ≡ status_of refusal) × (response.code ≡ code_of refusal) × (response.body ≡ [])
 
 abbrev pub without_body : Result (Unit {0}) Refusal → Result (List ℕ) Refusal
 without_body (Ok done) = Ok []

@@ -14,8 +14,8 @@ use Rattle.http_tunnel.specs.declared.reading.TunnelEnd.{TunnelEnd}
 use Rattle.http_tunnel.specs.declared.reading.TunnelEnd.TheVariants.{Open, Ended}
 use Rattle.http_tunnel.specs.declared.reading.TunnelRefusal.{TunnelRefusal}
 use Rattle.http_tunnel.specs.declared.reading.TunnelRefusal.TheVariants as tunnel
-use Rattle.http_tunnel.specs.declared.refusal.Refusal.{Refusal}
-use Rattle.http_tunnel.specs.declared.refusal.Refusal.TheVariants.{NotFound, Closed, NoMemory}
+use Rattle.http_front.specs.declared.refusal.Refusal.{Refusal}
+use Rattle.http_front.specs.declared.refusal.Refusal.TheVariants.{NotFound, Closed, NoMemory}
 use Rattle.http_tunnel.specs.declared.tunnel.Tunnel.{Tunnel}
 
 -- between two requests each tunnel that is there has its reader's pass, and none goes

@@ -13,8 +13,8 @@ use Rattle.shared_desk.specs.Own.{own_entries}
 use Rattle.viewer_acts.specs.Parts.{Part, parts_of}
 use Rattle.viewer_acts.specs.Doing.{GoesOn, HasDone, WritesParts}
 use Rattle.http_tunnel.specs.Bodies.{IsBody, IsNoBody, Wish, wish_of}
-use Rattle.http_tunnel.specs.declared.refusal.Refusal.{Refusal}
-use Rattle.http_tunnel.specs.declared.refusal.Refusal.TheVariants.{NotFound, Form, Method, Dial, Busy, Conflict, Forbidden, TooMany, Closed, NoMemory}
+use Rattle.http_front.specs.declared.refusal.Refusal.{Refusal}
+use Rattle.http_front.specs.declared.refusal.Refusal.TheVariants.{NotFound, Form, Method, Dial, Busy, Conflict, Forbidden, TooMany, Closed, NoMemory}
 use Rattle.http_tunnel.specs.declared.tunnel.Tunnel.{Tunnel}
 
 -- none or one Leave of the viewer, which comes only at the end that a body asks for

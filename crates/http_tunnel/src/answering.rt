@@ -3,41 +3,27 @@
 ghost use Rattle.std.specs.Prelude.{◌≡◌, ◌≤◌, ℕ, List, Err, Result};
 ghost use Rattle.gate_outside.specs.Edge.{Rose};
 ghost use Rattle.guac_handshake.specs.Doors.{Grants};
-ghost use Rattle.http_tunnel.specs.Requests.{IsResponse, Serves, without_body};
+ghost use Rattle.http_front.specs.Refusals.{IsResponse};
+ghost use Rattle.http_tunnel.specs.Requests.{Serves, without_body};
 ghost use Rattle.http_tunnel.specs.Routes.{IsAsked, route_of};
 ghost use Rattle.http_tunnel.specs.Tunnels.{AreHome};
-ghost use Rattle.http_tunnel.specs.declared.refusal.Refusal.{Refusal};
-ghost use Rattle.http_tunnel.specs.declared.refusal.Refusal.TheVariants.{Busy, Dial};
+ghost use Rattle.http_front.specs.declared.refusal.Refusal.{Refusal};
+ghost use Rattle.http_front.specs.declared.refusal.Refusal.TheVariants.{Busy, Dial};
 
 use crate::connect::connect;
 use crate::read::read;
-use crate::refusal::Refusal;
 use crate::route::{Route, find_route};
 use crate::tunnel::Tunnel;
 use crate::write::write;
 use gate_model::Bytes;
 use gate_outside::{Bell, Dice};
 use guac_handshake::Door;
-use http_front::{Request, Response};
+use http_front::{Refusal, Request, Response};
 use id_table::Shelf;
 use shared_desk::Place;
 use std::alloc::Global;
 use std::sync::Wait;
 use std::thread::Threads;
-
-// The response of a request that was answered so.
-fn answer(alloc: Global, answered: Result<Bytes, Refusal>) -> Response
-    ensures { IsResponse answered result }
-{
-    match answered {
-        Ok(body) => Response {
-            status: 200,
-            code: 0,
-            body,
-        },
-        Err(refusal) => refusal.response(alloc),
-    }
-}
 
 fn without_body(alloc: Global, done: Result<(), Refusal>) -> Result<Bytes, Refusal>
     ensures { result ≡ without_body done }
@@ -117,5 +103,5 @@ where
         request.target.as_bytes(),
     );
     let answered = serve(rt, alloc, tunnels, route, request.body, door, dice, bell);
-    answer(alloc, answered)
+    Response::of(alloc, answered)
 }

@@ -10,14 +10,14 @@ ghost use Rattle.id_table.specs.Maps.{Told};
 ghost use Rattle.shared_desk.specs.declared.place.Place.{Place};
 ghost use Rattle.http_tunnel.specs.Connects.{AnswersOpened, ConnectOf, IsAdded, IsId, out_added, out_after, refused_by_door, refused_form};
 ghost use Rattle.http_tunnel.specs.Tunnels.{AreHome};
-ghost use Rattle.http_tunnel.specs.declared.refusal.Refusal.TheVariants.{Busy, Conflict, Dial, NoMemory};
+ghost use Rattle.http_front.specs.declared.refusal.Refusal.TheVariants.{Busy, Conflict, Dial, NoMemory};
 
 use crate::giving::give_back;
-use crate::refusal::Refusal;
 use crate::tunnel::Tunnel;
 use gate_model::Bytes;
 use gate_outside::Dice;
 use guac_handshake::{Door, FormRefusal, Refused, Welcome, open_form};
+use http_front::Refusal;
 use id_table::{AddRefusal, Shelf};
 use shared_desk::Place;
 use std::alloc::Global;

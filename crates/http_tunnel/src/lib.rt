@@ -1,8 +1,7 @@
 //! Sessions over plain HTTP requests, after the tunnel of guacamole-common: a request opens a tunnel, and others read
 //! what its viewer is given and write what it sends (this project's own profile).
 //!
-//! What a request asks is `route_of` of `specs/Routes.antt`, and the statuses of refusals stand in
-//! `specs/Statuses.antt`.
+//! What a request asks is `route_of` of `specs/Routes.antt`; the refusals and their statuses are those of http_front.
 #![tactic(auto)]
 
 mod acts;
@@ -11,7 +10,6 @@ mod connect;
 mod giving;
 mod read;
 mod reading;
-mod refusal;
 mod route;
 mod tunnel;
 mod write;

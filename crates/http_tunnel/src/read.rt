@@ -12,11 +12,11 @@ ghost use Rattle.http_tunnel.specs.declared.tunnel.Tunnel.{Tunnel};
 
 use crate::giving::give;
 use crate::reading::{TunnelEnd, TunnelRefusal, Waits, read_within};
-use crate::refusal::Refusal;
 use crate::tunnel::Tunnel;
 use gate_model::Bytes;
 use gate_outside::Bell;
 use guac_handshake::Door;
+use http_front::Refusal;
 use id_table::Shelf;
 use shared_desk::{Place, ReaderPass};
 use std::alloc::Global;

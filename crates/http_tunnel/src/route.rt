@@ -4,7 +4,7 @@ ghost use Rattle.std.specs.Prelude.{◌≡◌, ◌≤◌, length, IfSome, option
 ghost use Rattle.uuid.specs.Text.{parsed};
 ghost use Rattle.http_tunnel.specs.Routes.{IsAsked, asked_by, digits_after, method_of, query_of, read_id, route_of, without_number};
 
-use crate::refusal::Refusal;
+use http_front::Refusal;
 use uuid::Uuid;
 
 /// What a request asks of the tunnels.

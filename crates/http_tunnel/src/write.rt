@@ -10,11 +10,11 @@ ghost use Rattle.http_tunnel.specs.Writes.{HasLeft, HasPut, WriteOf, WritesBody,
 
 use crate::acts::{BodyFault, Wanted, read_body};
 use crate::giving::give_back;
-use crate::refusal::Refusal;
 use crate::tunnel::Tunnel;
 use desk_core::WriteRefusal;
 use gate_outside::{Bell, ring_after_leave};
 use guac_handshake::Door;
+use http_front::Refusal;
 use id_table::Shelf;
 use shared_desk::{Place, WriterPass};
 use std::alloc::Global;

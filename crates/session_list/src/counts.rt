@@ -1,6 +1,6 @@
 //! Counts of what came to pass.
 
-use gate_model::Cause;
+use gate_model::{Cause, statuses};
 use std::sync::atomic::AtomicU64;
 use std::sync::atomic::Ordering::SeqCst;
 
@@ -19,7 +19,17 @@ pub(crate) struct Counts {
 pub(crate) const CAUSES: [&str; 4] = ["host", "fault", "stopped", "full"];
 
 /// The statuses that are counted (docs/REFUSALS.md). Any other one counts as the first, of which it is a kind.
-pub(crate) const STATUSES: [u16; 9] = [512, 513, 516, 517, 519, 523, 768, 771, 797];
+pub(crate) const STATUSES: [u16; 9] = [
+    statuses::NO_MEMORY,
+    statuses::SERVER_BUSY,
+    statuses::NOT_FOUND,
+    statuses::CONFLICT,
+    statuses::UPSTREAM_NOT_FOUND,
+    statuses::SESSION_CLOSED,
+    statuses::BAD_REQUEST,
+    statuses::FORBIDDEN,
+    statuses::TOO_MANY,
+];
 
 /// What went wrong: a host couldn't be dialed, a job of a session couldn't be started, or a recorder couldn't be had or
 /// has gone.

@@ -3,27 +3,20 @@ use Rattle.std.specs.Prelude.{◌≡◌, ℕ, List, [], ◌∷◌, true, false, 
 use Rattle.guac_handshake.specs.Doors.{Sessions}
 use Rattle.guac_handshake.specs.declared.form_refusal.FormRefusal.{FormRefusal}
 use Rattle.guac_handshake.specs.declared.form_refusal.FormRefusal.TheVariants as form
-use Rattle.http_front.specs.declared.response.Response.{Response}
 use Rattle.id_table.specs.Draws.{AreNext, AreThere, IsFirstAbsent}
 use Rattle.id_table.specs.Maps.{Map, Same}
 use Rattle.uuid.specs.Text.{hyphenated_text, lower}
 use Rattle.share_links.specs.Doors.{HasName}
 use Rattle.share_links.specs.Forms.{IsForm, IsNoForm}
 use Rattle.share_links.specs.Links.{Makes, Revokes}
-use Rattle.share_links.specs.Statuses.{code_of, status_of}
 use Rattle.share_links.specs.declared.form.Wanted.{Wanted}
 use Rattle.share_links.specs.declared.link.Link.{Link}
-use Rattle.share_links.specs.declared.refusal.Refusal.{Refusal}
-use Rattle.share_links.specs.declared.refusal.Refusal.TheVariants.{NotFound, Form, Method, Conflict, NoMemory}
+use Rattle.http_front.specs.declared.refusal.Refusal.{Refusal}
+use Rattle.http_front.specs.declared.refusal.Refusal.TheVariants.{NotFound, Form, Method, Dial, Busy, Conflict, Forbidden, TooMany, Closed, NoMemory}
 use Rattle.share_links.specs.declared.route.Route.{Route}
 use Rattle.share_links.specs.declared.table.LinkRefusal.{LinkRefusal}
 use Rattle.share_links.specs.declared.table.LinkRefusal.TheVariants as unmade
 use Rattle.share_links.specs.declared.route.Route.TheVariants as route
-
--- the response to a request that was answered so
-abbrev pub IsResponse : Result (List ℕ) Refusal → Response → Type 0
-IsResponse (Ok body) response = (response.status ≡ 200) × (response.code ≡ 0) × (response.body ≡ body)
-IsResponse (Err refusal) response = (response.status ≡ status_of refusal) × (response.code ≡ code_of refusal) × (response.body ≡ [])
 
 -- the refusal of a form that wasn't read, and of a link that wasn't made
 abbrev pub refused_form : FormRefusal → Refusal
@@ -62,6 +55,11 @@ MakeOf id_of sessions drawn body m n (Err NotFound) = ((wanted : Wanted) × IsUn
 MakeOf id_of sessions drawn body m n (Err Conflict) = ((wanted : Wanted) × IsWanted id_of sessions body wanted) × FourAreThere drawn m × Same m n
 MakeOf id_of sessions drawn body m n (Err NoMemory) = Same m n
 MakeOf id_of sessions drawn body m n (Err Method) = ⊥
+MakeOf id_of sessions drawn body m n (Err Dial) = ⊥
+MakeOf id_of sessions drawn body m n (Err Busy) = ⊥
+MakeOf id_of sessions drawn body m n (Err Forbidden) = ⊥
+MakeOf id_of sessions drawn body m n (Err TooMany) = ⊥
+MakeOf id_of sessions drawn body m n (Err Closed) = ⊥
 
 -- a link was revoked, or there is none
 abbrev pub RevokeOf : List ℕ → Map Link → Map Link → Result (List ℕ) Refusal → Type 0
@@ -70,6 +68,11 @@ RevokeOf id m n (Err NotFound) = Revokes id false m n
 RevokeOf id m n (Err Form) = ⊥
 RevokeOf id m n (Err Method) = ⊥
 RevokeOf id m n (Err Conflict) = ⊥
+RevokeOf id m n (Err Dial) = ⊥
+RevokeOf id m n (Err Busy) = ⊥
+RevokeOf id m n (Err Forbidden) = ⊥
+RevokeOf id m n (Err TooMany) = ⊥
+RevokeOf id m n (Err Closed) = ⊥
 RevokeOf id m n (Err NoMemory) = ⊥
 
 -- what was done for a request that asks this, at a door of which the IDs of names and the sessions are told, and dice of

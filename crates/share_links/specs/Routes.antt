@@ -2,7 +2,7 @@
 use Rattle.std.specs.Prelude.{ℕ, List, [], length, take, drop, Bool, if◌then◌else◌, bytes_eq, codes, Option, Some, None, is_some}
 use Rattle.std.specs.Option.{option_map}
 use Rattle.uuid.specs.Text.{parsed}
-use Rattle.share_links.specs.declared.refusal.Refusal.TheVariants.{NotFound, Form, Method}
+use Rattle.http_front.specs.declared.refusal.Refusal.TheVariants.{NotFound, Form, Method}
 use Rattle.share_links.specs.declared.route.Route.{Route}
 use Rattle.share_links.specs.declared.route.Route.TheVariants.{Make, Revoke, Refused}
 

@@ -3,35 +3,21 @@
 ghost use Rattle.std.specs.Prelude.{◌≡◌, ◌≤◌, ℕ, List, [], Result, vec_capacity};
 ghost use Rattle.id_table.specs.Maps.{Same, Told};
 ghost use Rattle.share_links.specs.Links.{links_of};
-ghost use Rattle.share_links.specs.Requests.{IsResponse, MakeOf, RevokeOf, Serves, name_of_link, refused_form, refused_make};
+ghost use Rattle.http_front.specs.Refusals.{IsResponse};
+ghost use Rattle.share_links.specs.Requests.{MakeOf, RevokeOf, Serves, name_of_link, refused_form, refused_make};
 ghost use Rattle.share_links.specs.Routes.{route_of};
-ghost use Rattle.share_links.specs.declared.refusal.Refusal.{Refusal};
+ghost use Rattle.http_front.specs.declared.refusal.Refusal.{Refusal};
 
 use crate::form::{Wanted, read_form};
-use crate::refusal::Refusal;
 use crate::route::{Route, find_route};
 use crate::table::{LinkRefusal, LinkTable};
 use gate_model::Bytes;
 use gate_outside::Dice;
 use guac_handshake::{Door, FormRefusal, NAME_BYTES};
-use http_front::{Request, Response};
+use http_front::{Refusal, Request, Response};
 use std::alloc::Global;
 use std::sync::Wait;
 use uuid::Uuid;
-
-// The response of a request that was answered so.
-fn answer(alloc: Global, answered: Result<Bytes, Refusal>) -> Response
-    ensures { IsResponse answered result }
-{
-    match answered {
-        Ok(body) => Response {
-            status: 200,
-            code: 0,
-            body,
-        },
-        Err(refusal) => refusal.response(alloc),
-    }
-}
 
 fn refused_form(refusal: FormRefusal) -> Refusal
     ensures { result ≡ refused_form refusal }
@@ -138,5 +124,5 @@ pub fn link_request<R: Wait, D: Door, X: Dice>(
         Route::Revoke(link) => revoke(alloc, links, &link),
         Route::Refused(refusal) => Err(refusal),
     };
-    answer(alloc, answered)
+    Response::of(alloc, answered)
 }

@@ -12,7 +12,6 @@ mod form;
 pub mod laws;
 mod link;
 mod linked;
-mod refusal;
 mod route;
 mod table;
 #[cfg(test)]

@@ -4,7 +4,7 @@ ghost use Rattle.std.specs.Prelude.{◌≡◌, option_copied};
 ghost use Rattle.uuid.specs.Text.{parsed};
 ghost use Rattle.share_links.specs.Routes.{asked_by, is_links_path, query_of, route_of};
 
-use crate::refusal::Refusal;
+use http_front::Refusal;
 use uuid::Uuid;
 
 /// What a request asks of the links.

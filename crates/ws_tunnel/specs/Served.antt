@@ -7,7 +7,8 @@ use Rattle.gate_model.specs.declared.entry.Entry.{Entry}
 use Rattle.gate_model.specs.session.History.{History}
 use Rattle.turn_lock.specs.declared.view.View.{View}
 use Rattle.guac_handshake.specs.Opening.{HasMoved, HasOpened, IsDoor, with_opened}
-use Rattle.guac_handshake.specs.Statuses.{bad_request, status_of}
+use Rattle.gate_model.specs.text.Statuses.{bad_request}
+use Rattle.guac_handshake.specs.Statuses.{status_of}
 use Rattle.guac_handshake.specs.Texts.{error_text, ready_text}
 use Rattle.guac_handshake.specs.declared.form_refusal.FormRefusal.{FormRefusal}
 use Rattle.guac_handshake.specs.declared.form_refusal.FormRefusal.TheVariants as refusal

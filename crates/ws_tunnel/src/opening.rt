@@ -10,14 +10,12 @@ ghost use Rattle.ws_tunnel.specs.declared.ends.WsEnd.TheVariants as ends;
 use crate::moving::{receive, send};
 use crate::texts::error;
 use crate::{Messages, WsEnd};
+use gate_model::statuses::BAD_REQUEST;
 use guac_handshake::{Door, FormRefusal, Refused, Welcome, open_form, status_of};
 use shared_desk::Place;
 use std::alloc::Global;
 use std::sync::Wait;
 use std::thread::Threads;
-
-// A form that can't be read (the Guacamole manual, "Guacamole protocol reference", status codes).
-const BAD_REQUEST: u16 = 768;
 
 // The status that a form's refusal is told with.
 fn status_for(refusal: FormRefusal) -> u16

@@ -4,7 +4,7 @@ use Rattle.gate_model.specs.text.HelloMeaning.{greeting_of}
 use Rattle.guac_handshake.specs.declared.stop.Stop.{Stop}
 use Rattle.guac_handshake.specs.declared.stop.Stop.TheVariants.{Refused}
 use Rattle.guac_handshake.specs.Greetings.{OutOfForm}
-use Rattle.guac_handshake.specs.Statuses.{bad_request}
+use Rattle.gate_model.specs.text.Statuses.{bad_request}
 use Rattle.guac_handshake.proofs.Behind.{connected, connected_many, connected_stop, read_more, read_none, said_asks, said_bad, said_is, said_others, said_sizes, values_of}
 use Rattle.guac_handshake.proofs.Causes.{early_heard}
 use Rattle.guac_handshake.proofs.greeting.connect.Goals as goal
