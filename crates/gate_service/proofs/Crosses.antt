@@ -25,6 +25,8 @@ use Rattle.service_door.specs.contracts.session.Session as session
 use Rattle.share_links.specs.contracts.link.Link as link
 use Rattle.share_links.specs.contracts.table.LinkTable as links
 use Rattle.session_list.proofs.Crosses.{list_send, traffic_send}
+use Rattle.thread_pool.proofs.Crosses.{pool_send}
+use Rattle.thread_pool.specs.contracts.pool.Pool as pool
 use Rattle.gate_model.specs.contracts.faces.Faces as faces
 use Rattle.gate_service.specs.contracts.jobs.ConnectionJob as connection
 use Rattle.gate_service.specs.contracts.jobs.Pair as pair
@@ -34,6 +36,7 @@ use Rattle.gate_service.specs.contracts.paging.Page as page
 use Rattle.gate_service.specs.contracts.seen.Seen as seen
 use Rattle.gate_service.specs.contracts.seen.WatchedShelf as watched
 use Rattle.gate_service.specs.contracts.tidying.TidyJob as tidy
+use Rattle.gate_service.specs.contracts.worker.Worker as worker
 
 -- the ends of a connection, until its job takes them
 pair_send : (S K : RattleType) → IsSend S → IsSend K → IsSend (pair.the_row S K)
@@ -83,7 +86,7 @@ tally_send = declared_send tally.the_type (list_send, (traffic_send, (traffic_se
 faces_send : IsSend faces.the_row
 faces_send = search sendable depth 20
 
-pub connection_send : (S K H B L : RattleType) → IsSend S → IsSend K → IsSend H → IsSend B → IsSend L → IsSend (connection.the_row S K H B L)
+connection_send : (S K H B L : RattleType) → IsSend S → IsSend K → IsSend H → IsSend B → IsSend L → IsSend (connection.the_row S K H B L)
 connection_send S K H B L s k h b l =
     declared_send (connection.the_type S K H B L) (
       search (sendable, crosses),
@@ -95,6 +98,12 @@ connection_send S K H B L s k h b l =
         ),
       ),
     )
+
+-- a thread's first connection, and where it is given the next
+pub worker_send : (S K H B L : RattleType) → IsSend S → IsSend K → IsSend H → IsSend B → IsSend L → IsSend (worker.the_row S K H B L)
+worker_send S K H B L s k h b l =
+    let job = connection_send S K H B L s k h b l in
+    declared_send (worker.the_type S K H B L) (job, (option_send (pool.the_row (connection.the_row S K H B L)) (pool_send (connection.the_row S K H B L) job), tt))
 
 -- the job that gives up what nobody uses
 pub tidy_send : (H B L : RattleType) → IsSend H → IsSend B → IsSend L → IsSend (tidy.the_row H B L)

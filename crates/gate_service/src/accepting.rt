@@ -8,8 +8,10 @@ use crate::notes::{note_end, note_recorder_failed, note_refused, note_untidied};
 use crate::paging::Page;
 use crate::seen::WatchedShelf;
 use crate::tidying::TidyJob;
+use crate::worker::Worker;
+use gate_model::statuses::{NO_MEMORY, SERVER_BUSY};
 use gate_model::{Cause, Faces, Instr, NoMemory, Text};
-use gate_outside::{Bell, Dialer, Helper, Net, Sink, Spawner, write_all};
+use gate_outside::{Bell, Dialer, Helper, Net, Sink, Spawner, Way, start_by, write_all};
 use guac_instr::text_of;
 use id_table::LockedShelf;
 use log::Log;
@@ -20,6 +22,7 @@ use std::sync::atomic::AtomicU64;
 use std::sync::{Arc, Mutex, Wait};
 use std::thread::Threads;
 use std::time::Duration;
+use thread_pool::Pool;
 
 // How often it is looked for sessions that are to be stopped, and how long is waited before each other look, in
 // milliseconds.
@@ -29,9 +32,9 @@ const PAUSE: u64 = 20;
 
 /// What the service has for every connection: the tables of sessions, of tunnels and of links, a helper of its own, the one
 /// bell, the host and the port of the recorder of sessions, where one is wanted, the faces of each session, the page, where it
-/// is, where it notes, and the list of what runs.
+/// is, where it notes, the list of what runs, and the threads that have served a connection and wait for the next.
 #[derive(Drop)]
-pub(crate) struct Service<H, B, L> {
+pub(crate) struct Service<H: Helper, B, L> {
     pub(crate) alloc: Global,
     pub(crate) sessions: LockedShelf<Session>,
     pub(crate) tunnels: WatchedShelf,
@@ -43,6 +46,7 @@ pub(crate) struct Service<H, B, L> {
     pub(crate) page: Option<Arc<Page, Global>>,
     pub(crate) log: L,
     pub(crate) list: SessionList,
+    pub(crate) pool: Pool<ConnectionJob<H::Input, H::Output, H, B, L>>,
 }
 
 impl<H, B, L> Service<H, B, L>
@@ -128,24 +132,17 @@ where
         })
     }
 
-    // Starts the job of a connection. Where it isn't started the connection is sent `error` with 513, and where
+    // Serves a connection in another thread. Where none can be had the connection is sent `error` with 513, and where
     // memory is wanting with 512.
     fn serve<R>(&mut self, rt: &R, source: H::Input, sink: H::Output)
     where
         R: Threads + Wait + Copy + Send + Sync + 'static,
     {
         let Ok(ends) = Arc::new(self.alloc, Mutex::new(Some(Pair { source, sink }))) else {
-            return self.tell_refused(512);
+            return self.tell_refused(NO_MEMORY);
         };
-        let status = match self.job(&ends) {
-            Ok(job) => {
-                let inner = *rt;
-                match self.helper.start(rt, move || job.run(&inner)) {
-                    Ok(()) => return,
-                    Err(_) => 513,
-                }
-            }
-            Err(NoMemory) => 512,
+        let Err(status) = self.hand_on(rt, &ends) else {
+            return;
         };
         self.tell_refused(status);
         let taken = ends.lock(rt).take();
@@ -158,6 +155,31 @@ where
         {
             refuse(self.alloc, &mut sink, status);
         }
+    }
+
+    // Gives the job of a connection to a thread that waits, or else starts one. The status where that fails.
+    fn hand_on<R>(&mut self, rt: &R, ends: &Ends<H::Input, H::Output>) -> Result<(), u16>
+    where
+        R: Threads + Wait + Copy + Send + Sync + 'static,
+    {
+        let Ok(job) = self.job(ends) else {
+            return Err(NO_MEMORY);
+        };
+        let Err(job) = self.pool.give(rt, job) else {
+            return Ok(());
+        };
+        let way = self.helper.way();
+        // A job that runs in this very call isn't to wait there for a further connection.
+        let pool = match way {
+            Way::Thread => self.pool.another().ok(),
+            Way::Here | Way::Refused => None,
+        };
+        let (worker, inner) = (Worker { job, pool }, *rt);
+        if start_by(rt, way, move || worker.run(&inner)).is_err() {
+            self.helper.note();
+            return Err(SERVER_BUSY);
+        }
+        Ok(())
     }
 
     // Tells that a connection was refused with a status.

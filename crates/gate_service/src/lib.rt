@@ -23,6 +23,7 @@ mod seen;
 mod service;
 mod tidying;
 mod typing;
+mod worker;
 
 pub use lookahead::Lookahead;
 pub use program::{Host, top};

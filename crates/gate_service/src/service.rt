@@ -21,6 +21,11 @@ use share_links::LinkTable;
 use std::alloc::Global;
 use std::sync::{Arc, Mutex, Wait};
 use std::thread::Threads;
+use std::time::Duration;
+use thread_pool::Pool;
+
+// How many seconds a thread that has served a connection waits for the next one.
+const PATIENCE: u64 = 10;
 
 /// Serves as the words after `serve` say. The statuses: 2, exactly where the words give no options, but for want of
 /// memory, and then the net isn't called; 6, want of memory before the first connection; 8, the net failed at
@@ -79,11 +84,12 @@ where
     let Ok((sessions, tunnels, links)) = tables(alloc, options.silence) else {
         return 6;
     };
-    let (Ok(helper), Ok(bell), Ok(list), Ok(page)) = (
+    let (Ok(helper), Ok(bell), Ok(list), Ok(page), Ok(pool)) = (
         net.helper(alloc),
         net.bell(alloc),
         list.another(),
         page_of(alloc, files, options.page),
+        Pool::new(alloc, Duration::from_secs(PATIENCE)),
     ) else {
         return 6;
     };
@@ -101,6 +107,7 @@ where
         page,
         log,
         list,
+        pool,
     };
     let tells_ends = options.level == LevelFilter::Info || options.admin.is_some();
     service.tidy(rt, options.silence, options.linger, tells_ends);

@@ -1,6 +1,6 @@
 use denote.Exit.{yes}
 use denote.Param.Send.{arg_send, param_send}
-use Rattle.gate_service.proofs.accepting.fn.Service.serve.start.Goals as goal
+use Rattle.gate_service.proofs.accepting.fn.Service.hand_on.start_by.Goals as goal
 
 -- what the job has may go to another thread, as the closure asks
 pub run-requires-send-S : goal.run-requires-send-S

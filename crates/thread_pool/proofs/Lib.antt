@@ -1,0 +1,2 @@
+-- The pool may go to other threads.
+pub mod Crosses
