@@ -129,13 +129,15 @@ impl<
         let (Ok(own), Ok(peer)) = (stream.local_addr(), stream.peer_addr()) else {
             return true;
         };
-        is_same(own.ip(), peer.ip()) && (!named || peer.port() == self.common.port)
+        is_one_machine(own.ip(), peer.ip()) && (!named || peer.port() == self.common.port)
     }
 }
 
-// Whether these are one address.
-fn is_same(one: IpAddr, other: IpAddr) -> bool {
-    one.to_canonical() == other.to_canonical()
+// Whether the two ends of a connection are on one machine: they are one address, or both are of the loopback, of which
+// Linux has more than one (RFC 1122, section 3.2.1.3).
+pub(crate) fn is_one_machine(own: IpAddr, peer: IpAddr) -> bool {
+    let (own, peer) = (own.to_canonical(), peer.to_canonical());
+    own == peer || (own.is_loopback() && peer.is_loopback())
 }
 
 impl<R: Drop> Counted for TcpDialer<R> {

@@ -1,3 +1,4 @@
+use crate::dialing::is_one_machine;
 use crate::rules::{Leave, RuleFault, Rules};
 use crate::{ChaChaDice, CountClock, ParkBell, TcpNet, ThreadSpawner};
 use gate_outside::{
@@ -204,6 +205,23 @@ fn rules_say_what_may_be_dialed(rt: HostRuntime) -> Result<(), Fail> {
         assert!(rt; found == allowed, "{rule} {address}");
         assert!(rt; rules.before_look_up(text, 24).is_none());
         assert!(rt; !rules.allow_address(address, 24));
+    }
+    Ok(())
+}
+
+#[test]
+fn a_machine_has_more_than_one_loopback_address(rt: HostRuntime) -> Result<(), Fail> {
+    for (own, peer, same) in [
+        ("127.0.0.1", "127.0.0.1", true),
+        ("127.0.0.1", "127.0.0.9", true),
+        ("::1", "127.0.0.9", true),
+        ("192.0.2.1", "::ffff:192.0.2.1", true),
+        ("192.0.2.1", "192.0.2.2", false),
+        ("127.0.0.1", "192.0.2.1", false),
+    ] {
+        let own = own.parse::<IpAddr>().ok().ok_or("no address")?;
+        let peer = peer.parse::<IpAddr>().ok().ok_or("no address")?;
+        assert!(rt; is_one_machine(own, peer) == same);
     }
     Ok(())
 }
