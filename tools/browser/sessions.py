@@ -30,8 +30,8 @@ PIXELS = """
 
 
 def pixels_of(page, canvas):
-    """The size and the pixels of a canvas, and the stamp that is shown."""
-    stamp, width, height, pixels = page.run(PIXELS, canvas)
+    """The size and the pixels of a canvas, and the stamp that is shown; none where the page is about to be another one."""
+    stamp, width, height, pixels = page.run(PIXELS, canvas) or (None, 0, 0, "")
     return stamp, (width, height, base64.b64decode(pixels))
 
 
@@ -59,7 +59,7 @@ def check_picture(name, page, stream_of):
 
 def check_text(name, page, stream_of):
     """The rows of text are what `look` reads of the frames up to the same stamp."""
-    stamp, lines, stream = both_have(lambda: page.run(STAMP_AND_LINES), stream_of)
+    stamp, lines, stream = both_have(lambda: page.run(STAMP_AND_LINES) or (None, []), stream_of)
     check(name, screen_at(stream, stamp).split("\n")[:-1], lines)
 
 

@@ -144,6 +144,12 @@ def places_left(port, session):
     return len(tunnels)
 
 
+def reload(page, first=""):
+    """Loads the page anew, and waits until it is another document: the one before may still answer for a moment."""
+    page.run(f"window.wasThere = true; {first} location.reload()")
+    check("it is loaded anew", True, page.until("return window.wasThere !== true", True))
+
+
 def try_places(driver, gateway, telnet, web):
     """40 lost links and reloads leave a session with the places that it had."""
     first, link = owner(gateway.port, telnet.port, "control"), Link(web.port)
@@ -158,10 +164,10 @@ def try_places(driver, gateway, telnet, web):
         page.run(ONLINE)
         until("open", lambda: page.run(STATE))
         until(True, lambda: len(web.texts) > tunnels)
-    page.run("location.reload()")
+    reload(page)
     page.shows("a reload comes back", "open", STATE)
     page.shows("as what it was", "You look on. Your keys are not sent.", "return document.getElementById('rights').textContent")
-    page.run("history.replaceState(null, '', location.pathname); location.reload()")
+    reload(page, "history.replaceState(null, '', location.pathname);")
     page.shows("by what the tab keeps, too", ["open", "You look on. Your keys are not sent."], "return [document.body.dataset.state, document.getElementById('rights').textContent]")
     check_picture("the pixels behind it all", page, stream)
     eventually("places are left for all others", MOST_VIEWERS - 2, lambda: places_left(gateway.port, first.id))
