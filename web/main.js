@@ -1,5 +1,6 @@
 // The page: opens a tunnel as its address or its form asks, shows what it gives, and sends what is typed.
 
+import { Addresses } from './address.js';
 import { choose, kept } from './choices.js';
 import { Display } from './display.js';
 import { Follow } from './follow.js';
@@ -8,6 +9,7 @@ import { meaningOfKey } from './keysyms.js';
 import { BACK, LOST, THROWN, rightsOf, wayOn, wordsOf, wordsOfLink } from './messages.js';
 import { Paster } from './paste.js';
 import { faultOf, formOf, joinBy, linkOf, remember, remembered, requestOf, sessionOf, sizeOf, titleOf } from './request.js';
+import { linesIn, saveAs } from './save.js';
 import { Mouse, copyAsLines, copySelected, selectedText } from './selection.js';
 import { Links, Share } from './share.js';
 import { Speech } from './speech.js';
@@ -218,6 +220,8 @@ at('asking').addEventListener('close', focusKeys);
 buttonsOf(at('touch'), at('keys'), keyboard, paste);
 copyAsLines(at('screen'));
 new Mouse(at('screen'), focusKeys);
+new Addresses(at('screen'), IS_MAC, () => display.size.columns);
+at('save').addEventListener('click', () => saveAs(`${document.title} ${new Date().toISOString().slice(0, 16).replace(':', '.')}.txt`, linesIn(at('screen'))));
 
 at('keys').addEventListener('focus', () => FOLDS.forEach((id) => { at(id).open = false; }));
 for (const id of FOLDS) {

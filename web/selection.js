@@ -76,7 +76,8 @@ export class Mouse {
   }
 }
 
-function placeAt(x, y) {
+/** The place in the page's text at a point of the window. */
+export function placeAt(x, y) {
   const document = /** @type {any} */ (globalThis.document);
   if (document.caretPositionFromPoint) {
     const place = document.caretPositionFromPoint(x, y);

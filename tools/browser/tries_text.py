@@ -2,7 +2,7 @@
 factors; the characters over it; what is selected, by whom it is copied; the lines above the screen."""
 import png
 from checks import check, eventually
-from sessions import ABOVE, CONTROL, END, FOCUS, HOME, PAGE_UP, RETURN, SHIFT, check_picture, check_text, opened, pixels_of, place_of, until_ready, until_shown
+from sessions import ABOVE, CONTROL, END, FOCUS, HOME, LINES, PAGE_UP, RETURN, SHIFT, check_picture, check_text, opened, pixels_of, place_of, until_ready, until_shown
 
 SELECTED = "return getSelection().toString().trimEnd()"
 CLIPBOARD = "navigator.clipboard.readText().then(arguments[0], (fault) => arguments[0](String(fault)))"
@@ -104,6 +104,35 @@ def try_selection(driver, telnet, web):
     page.close()
 
 
+# Keeps what is saved, in place of a file.
+SAVE = "URL.createObjectURL = (it) => { window.wasGiven = it; return 'data:,'; }; HTMLAnchorElement.prototype.click = function click() { window.wasGiven.text().then((text) => { window.wasSaved = [this.download, text]; }); }"
+# Keeps what is opened, in place of a page.
+KEEP = "window.wasOpened = []; window.open = (...given) => { window.wasOpened.push(given); }"
+KEPT = "return window.wasOpened"
+
+
+def try_addresses(driver, telnet, web):
+    """A click with Control opens the address at that place, in one row or over more, and no other click does."""
+    page, stream = opened(driver, telnet, web)
+    long = "https://example.org/" + "x" * 120
+    page.type(*f"clear; echo 'see http://example.org/a_(b), or'; echo {long}", RETURN)
+    until_shown(page, stream, "x" * 40 + "\n")
+    until_ready(page, stream)
+    page.run(KEEP)
+    rows = page.run(LINES)
+    first, wrapped = rows.index("see http://example.org/a_(b), or"), rows.index("x" * 40)
+    check("an address goes on in the next row", long[:100], rows[wrapped - 1])
+    page.clicks(place_of(page, first, 6), 1)
+    page.rest()
+    check("a click opens nothing", [], page.run(KEPT))
+    for x, y, opens in [(6, first, ["http://example.org/a_(b)"]), (1, first, []), (30, first, []), (50, wrapped - 1, [long]), (20, wrapped, [long])]:
+        page.run(KEEP)
+        page.drag(place_of(page, y, x), place_of(page, y, x), CONTROL)
+        page.rest()
+        check(f"a click with Control at {x}, {y - first}", [[it, "_blank", "noopener,noreferrer"] for it in opens], page.run(KEPT))
+    page.close()
+
+
 def try_scrollback(driver, telnet, web):
     page, stream = opened(driver, telnet, web)
     page.type(*"clear", RETURN)
@@ -113,6 +142,14 @@ def try_scrollback(driver, telnet, web):
         until_shown(page, stream, f"\nrow {first + 14}\n")
         until_ready(page, stream)
     check("no line is missing", [f"row {k}" for k in range(1, 91)], [it for it in page.run(ALL) if it.startswith("row ")])
+    page.run(SAVE)
+    page.click("#panel > summary")
+    page.click("#save")
+    page.shows("all of it is saved as text", True, "return window.wasSaved !== undefined")
+    name, text = page.run("return window.wasSaved")
+    check("what is saved is every line", page.run(ALL), [*text.split("\n")[:-1], *[""] * (len(page.run(ALL)) - text.count("\n"))])
+    check("and is named as a text", ".txt", name[-4:])
+    page.clicks(place_of(page, 0, 1), 1)
     page.shows("the end is shown", True, AT_END)
     page.type([SHIFT, PAGE_UP])
     page.shows("Shift-Page Up goes back", True, f"{ROOM}; return below > 100")

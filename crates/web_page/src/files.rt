@@ -1,13 +1,23 @@
 //! The files, made of web/ by tools/page-files.
 
+ghost use Rattle.std.specs.Prelude.{◌≡◌, map};
+ghost use Rattle.web_page.specs.Paths.{path_of, paths};
+
 use page_files::PageFile;
 
-/// How many there are.
-pub const COUNT: usize = 36;
+// How many there are.
+const COUNT: usize = 38;
 
 /// All of them, in the order of their paths.
-pub(crate) fn all() -> [PageFile; COUNT] {
+pub(crate) fn all() -> [PageFile; COUNT]
+    ensures { map path_of result ≡ paths }
+{
     [
+        PageFile {
+            path: "/address.js",
+            kind: "text/javascript; charset=utf-8",
+            body: address_js(),
+        },
         PageFile {
             path: "/cells.js",
             kind: "text/javascript; charset=utf-8",
@@ -124,6 +134,11 @@ pub(crate) fn all() -> [PageFile; COUNT] {
             body: rest_js(),
         },
         PageFile {
+            path: "/save.js",
+            kind: "text/javascript; charset=utf-8",
+            body: save_js(),
+        },
+        PageFile {
             path: "/scrollback.js",
             kind: "text/javascript; charset=utf-8",
             body: scrollback_js(),
@@ -189,6 +204,89 @@ pub(crate) fn all() -> [PageFile; COUNT] {
             body: ways_js(),
         },
     ]
+}
+
+// `/address.js`.
+fn address_js() -> &'static str {
+    "\
+// Addresses of pages in the rows of a terminal, which a click with Control opens, or with Command on a Mac.
+
+import { placeAt } from './selection.js';
+
+// What may stand in an address (RFC 3986, section 2, and letters of all scripts, RFC 3987), and the sign for a character
+// that isn't known, of which no address can be read.
+const ADDRESS = /\\bhttps?:\\/\\/[\\p{L}\\p{M}\\p{N}\\ufffd\\-._~%:/?#[\\]@!$&'()*+,;=]+/giu;
+const OPENED = { ')': '(', ']': '[' };
+
+const count = (text, sign) => text.split(sign).length - 1;
+
+// A sign that ends a sentence, and a bracket that was opened before the address, aren't of it (RFC 3986, appendix C).
+function withoutEnd(text) {
+  const last = text.at(-1);
+  const isOver = /[.,;:!?']/.test(last) || (last in OPENED && count(text, OPENED[last]) < count(text, last));
+  return isOver ? withoutEnd(text.slice(0, -1)) : text;
+}
+
+/** The address that stands at a place of a text, or null. @param {string} text @param {number} place */
+export function addressAt(text, place) {
+  for (const { 0: found, index } of text.matchAll(ADDRESS)) {
+    const address = withoutEnd(found);
+    if (place < index || place > index + address.length) continue;
+    try {
+      return address.includes('\\ufffd') ? null : new URL(address).href;
+    } catch {
+      return null;
+    }
+  }
+  return null;
+}
+
+const isRow = (element) => element?.className === 'line';
+
+// The rows that go on in each other around one: what fills a row goes on in the next.
+function rowsAround(row, columns) {
+  const isFull = (element) => isRow(element) && element.textContent.length >= columns;
+  const rows = [row];
+  while (isFull(rows[0].previousElementSibling)) rows.unshift(rows[0].previousElementSibling);
+  while (isFull(rows[rows.length - 1]) && isRow(rows[rows.length - 1].nextElementSibling)) rows.push(rows[rows.length - 1].nextElementSibling);
+  return rows;
+}
+
+// How many characters stand before a place, from the beginning of a row on.
+function lengthUpTo(row, { node, offset }) {
+  const before = document.createRange();
+  before.setStart(row, 0);
+  before.setEnd(node, offset);
+  return before.toString().length;
+}
+
+/** Opens the address at which a person clicks, and shows where one stands. */
+export class Addresses {
+  #columns;
+
+  /** @param {HTMLElement} element whose rows are looked at @param {boolean} isMac @param {() => number} columns of a full row */
+  constructor(element, isMac, columns) {
+    this.#columns = columns;
+    const at = (event) => ((isMac ? event.metaKey : event.ctrlKey) ? this.#at(event) : null);
+    element.addEventListener('click', (event) => {
+      const address = at(event);
+      if (address !== null) open(address, '_blank', 'noopener,noreferrer');
+    });
+    element.addEventListener('mousemove', (event) => { element.toggleAttribute('data-address', at(event) !== null); });
+    addEventListener('keyup', () => { element.removeAttribute('data-address'); });
+  }
+
+  #at({ clientX, clientY }) {
+    const place = placeAt(clientX, clientY);
+    const node = place?.node instanceof Element ? place.node : place?.node.parentElement;
+    const row = node?.closest('.line');
+    if (!row) return null;
+    const rows = rowsAround(row, this.#columns());
+    const before = rows.slice(0, rows.indexOf(row)).reduce((sum, it) => sum + it.textContent.length, 0);
+    return addressAt(rows.map((it) => it.textContent).join(''), before + lengthUpTo(row, place));
+  }
+}
+"
 }
 
 // `/cells.js`.
@@ -1254,12 +1352,14 @@ fn index_html() -> &'static str {
         <label>Lines kept above the screen <select name=\"lines\"></select></label>
         <label class=\"check\"><input name=\"speaks\" type=\"checkbox\"> say new lines to a screen reader</label>
         <label class=\"check\"><input name=\"asks\" type=\"checkbox\"> ask before several lines are pasted</label>
+        <button type=\"button\" id=\"save\">Save all lines as text</button>
       </form>
       <dl>
         <dt>Control-F6, Control-Shift-Esc</dt><dd>leaves the terminal</dd>
         <dt>Shift-Page Up, Shift-Home</dt><dd>goes back through the lines above</dd>
         <dt>Control-Shift-C, or Control-C where text is selected</dt><dd>copies</dd>
         <dt>Control-Shift-V, Shift-Insert</dt><dd>pastes</dd>
+        <dt>Control-click, on a Mac Command-click</dt><dd>opens the address there</dd>
         <dt>Control-Shift-L</dt><dd>says new lines, or no longer</dd>
       </dl>
       <p>Only lines that were on the screen are kept above it, so what a host sends faster than that is missing there.</p>
@@ -1768,6 +1868,7 @@ fn main_js() -> &'static str {
     "\
 // The page: opens a tunnel as its address or its form asks, shows what it gives, and sends what is typed.
 
+import { Addresses } from './address.js';
 import { choose, kept } from './choices.js';
 import { Display } from './display.js';
 import { Follow } from './follow.js';
@@ -1776,6 +1877,7 @@ import { meaningOfKey } from './keysyms.js';
 import { BACK, LOST, THROWN, rightsOf, wayOn, wordsOf, wordsOfLink } from './messages.js';
 import { Paster } from './paste.js';
 import { faultOf, formOf, joinBy, linkOf, remember, remembered, requestOf, sessionOf, sizeOf, titleOf } from './request.js';
+import { linesIn, saveAs } from './save.js';
 import { Mouse, copyAsLines, copySelected, selectedText } from './selection.js';
 import { Links, Share } from './share.js';
 import { Speech } from './speech.js';
@@ -1986,6 +2088,8 @@ at('asking').addEventListener('close', focusKeys);
 buttonsOf(at('touch'), at('keys'), keyboard, paste);
 copyAsLines(at('screen'));
 new Mouse(at('screen'), focusKeys);
+new Addresses(at('screen'), IS_MAC, () => display.size.columns);
+at('save').addEventListener('click', () => saveAs(`${document.title} ${new Date().toISOString().slice(0, 16).replace(':', '.')}.txt`, linesIn(at('screen'))));
 
 at('keys').addEventListener('focus', () => FOLDS.forEach((id) => { at(id).open = false; }));
 for (const id of FOLDS) {
@@ -3132,6 +3236,31 @@ export class Rest {
 "
 }
 
+// `/save.js`.
+fn save_js() -> &'static str {
+    "\
+// The lines above the screen, and the screen, as a file of text.
+
+// How long, in milliseconds, a browser may take until it has read what it is given.
+const READ = 10000;
+
+/** All lines of an element, with the marks where some may be missing, and without the empty ones at its end. */
+export function linesIn(element) {
+  const lines = [...element.querySelectorAll('.line, .gap')].map((it) => `${it.textContent.trimEnd()}\\n`);
+  return lines.join('').replace(/\\n+$/, '\\n');
+}
+
+/** Has the browser keep a text as a file. */
+export function saveAs(name, text) {
+  const link = document.createElement('a');
+  link.href = URL.createObjectURL(new Blob([text], { type: 'text/plain' }));
+  link.download = name;
+  link.click();
+  setTimeout(() => URL.revokeObjectURL(link.href), READ);
+}
+"
+}
+
 // `/scrollback.js`.
 fn scrollback_js() -> &'static str {
     "\
@@ -3333,7 +3462,8 @@ export class Mouse {
   }
 }
 
-function placeAt(x, y) {
+/** The place in the page's text at a point of the window. */
+export function placeAt(x, y) {
   const document = /** @type {any} */ (globalThis.document);
   if (document.caretPositionFromPoint) {
     const place = document.caretPositionFromPoint(x, y);
@@ -4103,6 +4233,7 @@ details[open] > summary { margin-bottom: .5em; }
 
 /* Above the terminal, which fills the window, are the lines that have left it. */
 #screen { width: 100%; height: 100%; overflow: auto; scrollbar-gutter: stable; scrollbar-color: #4b5560 transparent; forced-color-adjust: none; cursor: text; }
+#screen[data-address] { cursor: pointer; }
 #screen[data-turning] { overflow: hidden; }
 #screen:not(:has(#sheet)) { display: grid; place-items: center; }
 #sheet { width: fit-content; min-width: 100%; min-height: 100%; padding: 0 10px; display: flex; flex-direction: column; align-items: center; }
