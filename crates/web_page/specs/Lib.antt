@@ -1,0 +1,2 @@
+-- The paths of the files.
+pub mod Paths
