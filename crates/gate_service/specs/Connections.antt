@@ -1,5 +1,5 @@
 -- What one connection read and wrote, by its first byte (this project's own).
-use Rattle.std.specs.Prelude.{◌≡◌, ℕ, List, [], ◌∷◌, Option, IfSome}
+use Rattle.std.specs.Prelude.{◌≡◌, ℕ, List, [], ◌∷◌, Option, None, IfSome}
 use Rattle.gate_model.specs.text.Spelling.{IsDigit}
 use Rattle.gate_model.specs.Sequences.{BeginsWith}
 use Rattle.gate_outside.specs.Edge.{AtEnd, came}
@@ -9,9 +9,11 @@ use Rattle.http_front.specs.declared.response.Response.{Response}
 use Rattle.user_serve.specs.Users.{UserRun}
 use Rattle.user_serve.specs.Users as user
 use Rattle.user_serve.specs.declared.ends.UserEnd.{UserEnd}
+use Rattle.gate_service.specs.Messages.{AsksMessages}
 use Rattle.gate_service.specs.Requests.{HttpRun, IsHttpCaused, OnSilent}
 use Rattle.gate_service.specs.declared.routing.ConnEnd.{ConnEnd}
 use Rattle.gate_service.specs.declared.routing.ConnEnd.TheVariants.{User, Http, Ws, Ended, ReadFault, NoMemory}
+use Rattle.ws_tunnel.specs.Served.{HasServed, with_place}
 use Rattle.ws_tunnel.specs.declared.ends.WsRun.{WsRun}
 
 -- the first byte, where the source tells what is left
@@ -58,7 +60,16 @@ IfMessages Ended F = Unit {0}
 IfMessages ReadFault F = Unit {0}
 IfMessages NoMemory F = Unit {0}
 
--- .. and of every other
+-- the connection begins with another byte than a digit, its request asks for messages, and a viewer was served over them
+-- as the door was asked; the place that it has is out
+pub record HasMessages (left : Option (List ℕ)) (out_old out_new : Option ℕ) (asks_door : WsRun → Type 0) (run : WsRun) : Type 0 where
+  pub begins : Begins (λ first. IsDigit first → ⊥) left
+  pub asks : AsksMessages left
+  pub served : (received : List (List ℕ)) × (sent : List (List ℕ)) × HasServed run None received sent
+  pub door : asks_door run
+  pub out : out_new ≡ with_place run.place out_old
+
+-- a fact of every other end
 abbrev pub UnlessMessages : ConnEnd → Type 0 → Type 0
 UnlessMessages (Ws run) P = Unit {0}
 UnlessMessages (User end) P = P

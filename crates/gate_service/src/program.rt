@@ -1,11 +1,9 @@
 //! What the program does.
 
-ghost use Rattle.std.specs.Prelude.{◌≡◌, ◌≤◌, ◌↔◌, ◌⊎◌, IfSome, None, Some, map, option_map, string_bytes};
+ghost use Rattle.std.specs.Prelude.{◌≡◌, ◌≤◌, ◌⊎◌, IfSome, None, map, option_map, string_bytes};
 ghost use Rattle.gate_outside.specs.Edge.{Rose};
 ghost use Rattle.gate_script.specs.Outcomes.{Outcome, Ran};
-ghost use Rattle.script_grammar.specs.declared.form.Form.{Form as Forms};
-ghost use Rattle.script_grammar.specs.Words.{form_of};
-ghost use Rattle.serve_options.specs.Given.{options_given};
+ghost use Rattle.gate_service.specs.Program.{HasRun, HasServed, IsCaused};
 ghost use Rattle.gate_service.specs.Words.{behind_serve};
 
 use crate::service::serve;
@@ -47,30 +45,14 @@ where
     F: Sink,
     N: Net,
     L: Log + Copy + Send + Drop + 'static,
-
-    // The words of `serve`.
-    ensures serve_statuses { IfSome (behind_serve (map string_bytes words.now)) (λ options. (result ≡ 2) ⊎ (result ≡ 6) ⊎ (result ≡ 8)) }
-    ensures serve_usage { IfSome (behind_serve (map string_bytes words.now)) (λ options. result ≡ 2 → options_given options ≡ None) }
-    ensures serve_refused { IfSome (behind_serve (map string_bytes words.now)) (λ options. options_given options ≡ None → (result ≡ 2) ⊎ (result ≡ 6)) }
-    ensures serve_nothing { IfSome (behind_serve (map string_bytes words.now)) (λ options. result ≡ 2 → host.new.net ≡ host.old.net) }
-    ensures serve_ends { IfSome (behind_serve (map string_bytes words.now)) (λ options. (host.new.source ≡ host.old.source) × (host.new.answers ≡ host.old.answers) × (host.new.frames ≡ host.old.frames)) }
-
-    // All other words: the contract of `command`.
-    ensures usage { behind_serve (map string_bytes words.now) ≡ None → (form_of (map string_bytes words.now) ≡ None) ↔ (result ≡ 2) }
-    ensures nothing { behind_serve (map string_bytes words.now) ≡ None → result ≡ 2 → (S.left host.new.source ≡ S.left host.old.source) × (A.written host.new.answers ≡ A.written host.old.answers) × (F.written host.new.frames ≡ F.written host.old.frames) }
-    ensures outcome { behind_serve (map string_bytes words.now) ≡ None → (form : Forms) → form_of (map string_bytes words.now) ≡ Some form →
-        Ran (S.left host.old.source) (S.left host.new.source) (A.written host.old.answers) (A.written host.new.answers) (F.written host.old.frames) (F.written host.new.frames)
-        (Outcome result form (S.left host.new.source)) }
-    ensures net { behind_serve (map string_bytes words.now) ≡ None → host.new.net ≡ host.old.net }
-
-    // A fault is answered only where the count of the source, of a sink or of the net rose in this call.
-    ensures read_fault { result ≡ 4 → Rose (S.faults host.old.source) (S.faults host.new.source) }
-    ensures write_fault { result ≡ 5 → Rose (A.faults host.old.answers) (A.faults host.new.answers) ⊎ Rose (F.faults host.old.frames) (F.faults host.new.frames) }
-    ensures net_fault { result ≡ 8 → Rose (N.net_faults host.old.net) (N.net_faults host.new.net) }
-    ensures later_source { S.faults host.old.source ≤ S.faults host.new.source }
-    ensures later_answers { A.faults host.old.answers ≤ A.faults host.new.answers }
-    ensures later_frames { F.faults host.old.frames ≤ F.faults host.new.frames }
-    ensures later_net { N.net_faults host.old.net ≤ N.net_faults host.new.net }
+    ensures served { IfSome (behind_serve (map string_bytes words.now)) (λ options. HasServed options (host.new.net ≡ host.old.net) result ×
+        ((host.new.source ≡ host.old.source) × (host.new.answers ≡ host.old.answers) × (host.new.frames ≡ host.old.frames))) }
+    ensures ran { behind_serve (map string_bytes words.now) ≡ None → HasRun (map string_bytes words.now)
+        ((S.left host.new.source ≡ S.left host.old.source) × (A.written host.new.answers ≡ A.written host.old.answers) × (F.written host.new.frames ≡ F.written host.old.frames))
+        (λ form. Ran (S.left host.old.source) (S.left host.new.source) (A.written host.old.answers) (A.written host.new.answers) (F.written host.old.frames) (F.written host.new.frames) (Outcome result form (S.left host.new.source)))
+        result × (host.new.net ≡ host.old.net) }
+    ensures cause { IsCaused (Rose (S.faults host.old.source) (S.faults host.new.source)) (Rose (A.faults host.old.answers) (A.faults host.new.answers) ⊎ Rose (F.faults host.old.frames) (F.faults host.new.frames)) (Rose (N.net_faults host.old.net) (N.net_faults host.new.net)) result }
+    ensures later { (S.faults host.old.source ≤ S.faults host.new.source) × (A.faults host.old.answers ≤ A.faults host.new.answers) × (F.faults host.old.frames ≤ F.faults host.new.frames) × (N.net_faults host.old.net ≤ N.net_faults host.new.net) }
 {
     match behind_serve(words) {
         Some(options) => serve(

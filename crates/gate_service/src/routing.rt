@@ -1,18 +1,16 @@
 //! By its first byte a connection is a viewer's, or HTTP.
 
 ghost use Rattle.std.specs.Prelude.{◌≡◌, ◌≤◌, ℕ, List, None};
-ghost use Rattle.gate_model.specs.text.Spelling.{IsDigit};
 ghost use Rattle.gate_outside.specs.Edge.{AtEnd, Rose, gained};
 ghost use Rattle.guac_handshake.specs.Causes.{HasCause};
 ghost use Rattle.guac_handshake.specs.Doors.{Grants};
 ghost use Rattle.http_tunnel.specs.Tunnels.{AreHome};
 ghost use Rattle.user_serve.specs.Users.{HasGreeted, LeavesDoor};
-ghost use Rattle.gate_service.specs.Connections.{Begins, ConnRun, IfMessages, IfUser, IsCaused, LeavesAlone, UnlessMessages};
+ghost use Rattle.gate_service.specs.Connections.{ConnRun, HasMessages, IfMessages, IfUser, IsCaused, LeavesAlone, UnlessMessages};
 ghost use Rattle.gate_service.specs.Lookaheads.{faults_of, left_of, typed_of};
-ghost use Rattle.gate_service.specs.Messages.{AsksMessages};
 ghost use Rattle.share_links.specs.Doors.{IsJoinedAs};
 ghost use Rattle.gate_service.specs.Requests.{IsAnswer, IsDue, IsLinkAnswer};
-ghost use Rattle.ws_tunnel.specs.Served.{AsksDoor, HasServed, with_place};
+ghost use Rattle.ws_tunnel.specs.Served.{AsksDoor};
 
 use crate::Lookahead;
 use crate::messages::{asks_messages, serve_messages};
@@ -84,14 +82,10 @@ where
         (left_of S.left source.old) (typed_of S.left source.old) (left_of S.left source.new) result read written) }
     ensures untouched { LeavesAlone (sink.new ≡ sink.old) (door.new ≡ door.old) ((tunnels.new ≡ tunnels.old) × (dice.new ≡ dice.old)) result }
     ensures cause { IsCaused (Rose (faults_of S.faults source.old) (faults_of S.faults source.new)) (Rose (K.faults sink.old) (K.faults sink.new)) (AtEnd (left_of S.left source.new)) (HasCause None None (D.draws door.old.door) (Rose (D.dial_faults door.old.door) (D.dial_faults door.new.door)) (Rose (D.start_faults door.old.door) (D.start_faults door.new.door))) result }
-    ensures greeting { IfUser result (HasGreeted D.id_of None None (D.draws door.old.door) (Grants D.id_of (D.begun door.new.door) (IsJoinedAs (D.joined door.new.door))) (typed_of S.left source.old) (left_of S.left source.new) (K.written sink.old) (K.written sink.new) None None) }
-    ensures door { IfUser result (LeavesDoor D.id_of (D.out door.old.door) (D.out door.new.door) None None) }
-    ensures messages { IfMessages result (λ run. Begins (λ first. IsDigit first → ⊥) (left_of S.left source.old) × AsksMessages (left_of S.left source.old) × ((received : List (List ℕ)) × (sent : List (List ℕ)) × HasServed run None received sent)) }
-    ensures messages_door { IfMessages result (λ run. (D.out door.new.door ≡ with_place run.place (D.out door.old.door)) × AsksDoor D.id_of None None (D.draws door.old.door) (Grants D.id_of (D.begun door.new.door) (IsJoinedAs (D.joined door.new.door))) None None (D.dial_faults door.old.door) (D.dial_faults door.new.door) (D.start_faults door.old.door) (D.start_faults door.new.door) None run) }
-    ensures later_dials { D.dial_faults door.old.door ≤ D.dial_faults door.new.door }
-    ensures later_starts { D.start_faults door.old.door ≤ D.start_faults door.new.door }
-    ensures later_reads { UnlessMessages result (faults_of S.faults source.old ≤ faults_of S.faults source.new) }
-    ensures later_writes { UnlessMessages result (K.faults sink.old ≤ K.faults sink.new) }
+    ensures viewer { IfUser result (λ end. HasGreeted D.id_of None None (D.draws door.old.door) (Grants D.id_of (D.begun door.new.door) (IsJoinedAs (D.joined door.new.door))) (typed_of S.left source.old) (left_of S.left source.new) (K.written sink.old) (K.written sink.new) None None end × LeavesDoor D.id_of (D.out door.old.door) (D.out door.new.door) None None end) }
+    ensures messages { IfMessages result (HasMessages (left_of S.left source.old) (D.out door.old.door) (D.out door.new.door) (AsksDoor D.id_of None None (D.draws door.old.door) (Grants D.id_of (D.begun door.new.door) (IsJoinedAs (D.joined door.new.door))) None None (D.dial_faults door.old.door) (D.dial_faults door.new.door) (D.start_faults door.old.door) (D.start_faults door.new.door) None)) }
+    ensures later { (D.dial_faults door.old.door ≤ D.dial_faults door.new.door) × (D.start_faults door.old.door ≤ D.start_faults door.new.door) }
+    ensures later_ends { UnlessMessages result ((faults_of S.faults source.old ≤ faults_of S.faults source.new) × (K.faults sink.old ≤ K.faults sink.new)) }
 {
     let byte = match source.peek() {
         Ok(Some(byte)) => byte,

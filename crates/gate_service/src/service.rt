@@ -1,8 +1,8 @@
 //! What `serve` does.
 
-ghost use Rattle.std.specs.Prelude.{◌≡◌, ◌≤◌, ◌⊎◌, None, map, string_bytes};
+ghost use Rattle.std.specs.Prelude.{◌≡◌, ◌≤◌, ◌⊎◌, map, string_bytes};
 ghost use Rattle.gate_outside.specs.Edge.{Rose};
-ghost use Rattle.serve_options.specs.Given.{options_given};
+ghost use Rattle.gate_service.specs.Program.{HasServed};
 
 use crate::accepting::Service;
 use crate::jobs::Links;
@@ -44,10 +44,7 @@ where
     R: Threads + Wait + Copy + Send + Sync + Drop + 'static,
     N: Net,
     L: Log + Copy + Send + Drop + 'static,
-    ensures statuses { (result ≡ 2) ⊎ (result ≡ 6) ⊎ (result ≡ 8) }
-    ensures usage { result ≡ 2 → options_given (map string_bytes words.now) ≡ None }
-    ensures refused { options_given (map string_bytes words.now) ≡ None → (result ≡ 2) ⊎ (result ≡ 6) }
-    ensures untouched { result ≡ 2 → net.new ≡ net.old }
+    ensures served { HasServed (map string_bytes words.now) (net.new ≡ net.old) result }
     ensures net_fault { result ≡ 8 → Rose (N.net_faults net.old) (N.net_faults net.new) }
     ensures later { N.net_faults net.old ≤ N.net_faults net.new }
 {

@@ -20,7 +20,7 @@ pub returns-then-asks_messages-clause-messages : goal.returns-then-asks_messages
 returns-then-asks_messages-clause-messages g c =
     let r = c.read_request-incoming.ensures.received in
     let first = begins _ (left_of g.S.Source.left c.args.source.now) _ _ c.in-Ok-Some.ensures.first c.in-Ok-Some.field-0-is (λ d. elim c.if-not-is_ascii_digit.ensures.cases [ inl h ↦ omega (arith, h, d.0) | inr h ↦ omega (arith, h, d.1) ]) in
-    (first, (r.0, _, c.read_request-incoming.result, sym c.in-Ok-Some.ensures.same ∙ r.1, r.2, sym c.asks_messages.ensures ∙ c.if-asks_messages.true), c.serve_messages.ensures.served)
+    record { begins = first; asks = (r.0, _, c.read_request-incoming.result, sym c.in-Ok-Some.ensures.same ∙ r.1, r.2, sym c.asks_messages.ensures ∙ c.if-asks_messages.true); served = c.serve_messages.ensures.served; door = c.serve_messages.ensures.asked; out = c.serve_messages.ensures.out }
 
 -- .. and so does a viewer's, in which what is pasted is typed from there on
 pub returns-in-Ok-clause-ran : goal.returns-in-Ok-clause-ran
@@ -41,7 +41,7 @@ returns-in-Ok-clause-cause g c =
     user_caused _ _ _ _ c.serve_user.result (λ r. rose_after _ _ _ c.in-Ok-Some.ensures.later (rose_from _ _ _ c.in-Ok.ensures.faults r)) c.serve_user.ensures.cause
 
 -- what is typed from there on is what the viewer's greeting read
-pub returns-in-Ok-clause-greeting : goal.returns-in-Ok-clause-greeting
-returns-in-Ok-clause-greeting g c =
+pub returns-in-Ok-clause-viewer : goal.returns-in-Ok-clause-viewer
+returns-in-Ok-clause-viewer g c =
     let typed = typed_same _ _ _ _ c.in-Ok-Some.ensures.begun c.in-Ok-Some.ensures.same in
-    rw (sym typed ∙ sym c.in-Ok.ensures.typed) c.serve_user.ensures.greeting
+    (rw (sym typed ∙ sym c.in-Ok.ensures.typed) c.serve_user.ensures.greeting, c.serve_user.ensures.door)
