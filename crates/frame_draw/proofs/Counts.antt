@@ -61,12 +61,12 @@ struck_off flags later from to s p e = elim (cases_lt p from) as (λ _. is_on la
 ]
 
 -- ---- one place is struck
-get_same : (xs : List Bool) (n : ℕ) (x : Bool) → n < length xs → slice_index_or (slice_set xs n x) n true ≡ x
+pub get_same : (xs : List Bool) (n : ℕ) (x : Bool) → n < length xs → slice_index_or (slice_set xs n x) n true ≡ x
 get_same [] n x lt = absurd (omega (arith, lt))
 get_same (y ∷ xs) zero x lt = refl
 get_same (y ∷ xs) (suc n) x lt = get_same xs n x (omega (arith, lt))
 
-get_else : (xs : List Bool) (n j : ℕ) (x : Bool) → (j < n) ⊎ (n < j) → slice_index_or (slice_set xs n x) j true ≡ slice_index_or xs j true
+pub get_else : (xs : List Bool) (n j : ℕ) (x : Bool) → (j < n) ⊎ (n < j) → slice_index_or (slice_set xs n x) j true ≡ slice_index_or xs j true
 get_else [] n j x ne = refl
 get_else (y ∷ xs) zero zero x (inl lt) = absurd (omega (arith, lt))
 get_else (y ∷ xs) zero zero x (inr lt) = absurd (omega (arith, lt))
@@ -75,7 +75,7 @@ get_else (y ∷ xs) (suc n) zero x ne = refl
 get_else (y ∷ xs) (suc n) (suc j) x (inl lt) = get_else xs n j x (inl (omega (arith, lt)))
 get_else (y ∷ xs) (suc n) (suc j) x (inr lt) = get_else xs n j x (inr (omega (arith, lt)))
 
-set_length : (xs : List Bool) (n : ℕ) (x : Bool) → length (slice_set xs n x) ≡ length xs
+pub set_length : (xs : List Bool) (n : ℕ) (x : Bool) → length (slice_set xs n x) ≡ length xs
 set_length [] n x = refl
 set_length (y ∷ xs) zero x = refl
 set_length (y ∷ xs) (suc n) x = ap suc (set_length xs n x)

@@ -68,11 +68,11 @@ all_stay kind n key keys more recent ne g all i d lt = cases (slice_index_or rec
 abbrev nobody : Option Held
 nobody = None
 
-pub none_held : (keys : Buffers) → AreBuffers keys (replicate 128 nobody)
-none_held keys = All-from_get_or (λ o. IfSome o (λ h. IsBufferOf keys h.key h.layer)) (replicate 128 nobody) nobody (λ i lt. subst (λ (o : Option Held). IfSome o (λ h. IsBufferOf keys h.key h.layer)) (sym (none_at i lt)) tt)
+pub none_held : (keys : Buffers) → AreBuffers keys (replicate 1024 nobody)
+none_held keys = All-from_get_or (λ o. IfSome o (λ h. IsBufferOf keys h.key h.layer)) (replicate 1024 nobody) nobody (λ i lt. subst (λ (o : Option Held). IfSome o (λ h. IsBufferOf keys h.key h.layer)) (sym (none_at i lt)) tt)
   where
-    none_at : (i : ℕ) → i < length (replicate 128 nobody) → slice_index_or (replicate 128 nobody) i nobody ≡ nobody
-    none_at i lt = get_or-replicate 128 i nobody nobody (omega (arith, lt, length-replicate 128 nobody))
+    none_at : (i : ℕ) → i < length (replicate 1024 nobody) → slice_index_or (replicate 1024 nobody) i nobody ≡ nobody
+    none_at i lt = get_or-replicate 1024 i nobody nobody (omega (arith, lt, length-replicate 1024 nobody))
 
 pub all_held : (keys more : Buffers) (key : Key) (kind : SlotKind) (n : ℕ) (at : ℕ) (held : Held) (recent later : List (Option Held))
     → later ≡ remembered kind recent at held → Gets keys key kind n more → IsBufferOf more held.key held.layer → AreBuffers keys recent → AreBuffers more later
@@ -81,7 +81,7 @@ all_held keys more key Known n at held recent later e g b all =
 all_held keys more key Made n at held recent later e g b all =
     subst (AreBuffers more) (sym e) (All-set (λ o. IfSome o (λ h. IsBufferOf more h.key h.layer)) recent at (Some held) b (all_stay Made n key keys more recent (λ f. absurd (cc)) g all))
 all_held keys more key Reused n at held recent later e g b all =
-    subst (AreBuffers more) (sym e) (All-set (λ o. IfSome o (λ h. IsBufferOf more h.key h.layer)) (replicate 128 None) at (Some held) b (none_held more))
+    subst (AreBuffers more) (sym e) (All-set (λ o. IfSome o (λ h. IsBufferOf more h.key h.layer)) (replicate 1024 None) at (Some held) b (none_held more))
 
 -- one that is remembered
 pub one_held : (keys : Buffers) (recent : List (Option Held)) (i : ℕ) (d : Option Held) (held : Held) → AreBuffers keys recent → i < length recent → slice_index_or recent i d ≡ Some held → IsBufferOf keys held.key held.layer

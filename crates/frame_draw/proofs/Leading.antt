@@ -17,13 +17,12 @@ use Rattle.gate_model.proofs.Readable.{readable_both}
 use Rattle.glyph_strokes.proofs.Allowed.{draws_both}
 use Rattle.frame_draw.specs.declared.wanted.Wanted.{Wanted}
 use Rattle.frame_draw.specs.Strokes.{filling}
-use Rattle.frame_draw.specs.Cells.{Places, AreDrawn, mixed}
-use Rattle.frame_draw.specs.Along.{Along, Fits, IsLeft, count_below, is_next, is_on}
+use Rattle.frame_draw.specs.Cells.{Places, AreDrawn}
+use Rattle.frame_draw.specs.Along.{Fits, IsLeft, count_below, is_next, is_on}
 use Rattle.frame_draw.specs.Leads.{AreFlags, AreStruck, IsRun, IsStrip, Leads, is_blank, known}
 use Rattle.frame_draw.proofs.Allowed.{filling_draws, filling_length, filling_readable}
 use Rattle.frame_draw.proofs.Copied.{place_below}
-use Rattle.frame_draw.proofs.Going.{mixed_all}
-use Rattle.frame_draw.proofs.Counts.{count_same, struck, struck_off}
+use Rattle.frame_draw.proofs.Counts.{struck, struck_off}
 use Rattle.frame_draw.proofs.Left.{left_copied, left_passed, next_is}
 use Rattle.frame_draw.proofs.Strips.{strip_filled}
 

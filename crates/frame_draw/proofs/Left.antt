@@ -28,10 +28,10 @@ drop_next xs at y ys e = subst (λ (n : ℕ). drop n xs ≡ ys) (next at) (go xs
     go (x ∷ xs) (suc at) y ys e = go xs at y ys e
 
 -- the places of a range
-abbrev places : ℕ → (ℕ → Bool) → ℕ → ℕ → List (ℕ × ℕ)
+abbrev pub places : ℕ → (ℕ → Bool) → ℕ → ℕ → List (ℕ × ℕ)
 places cols copies start n = map (place_of cols) (filter copies (range_with_len start n))
 
-itself : (p cols : ℕ) → is_at (Some (place_of cols p)) p cols ≡ true
+pub itself : (p cols : ℕ) → is_at (Some (place_of cols p)) p cols ≡ true
 itself p cols = let e : p / cols * cols + p % cols ≡ p = div-add-mod' p cols in grind (arith, nat_tests)
 
 other : (q p cols : ℕ) → p < q → is_at (Some (place_of cols q)) p cols ≡ false

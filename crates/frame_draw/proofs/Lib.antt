@@ -10,6 +10,7 @@ mod Counts
 mod Strips
 mod Moving
 mod Leading
+mod Marking
 mod Banding
 mod Holding
 mod Walking

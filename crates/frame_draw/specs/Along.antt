@@ -1,5 +1,5 @@
 -- How far a frame has come, place by place (this project's own).
-use Rattle.std.specs.Prelude.{◌≡◌, ℕ, zero, suc, ◌+◌, ◌-◌, ◌*◌, ◌<◌, ◌≤◌, ◌==◌, ℤ, negsuc, List, [], ◌++◌, length, take, drop, map, filter, Bool, true, false, if◌then◌else◌, Option, Some, None, slice_get, slice_index_or}
+use Rattle.std.specs.Prelude.{◌≡◌, ℕ, zero, suc, ◌+◌, ◌-◌, ◌*◌, ◌<◌, ◌≤◌, ◌==◌, ℤ, negsuc, List, [], ◌∷◌, ◌++◌, length, take, drop, map, filter, Bool, true, false, ◌||◌, if◌then◌else◌, Option, Some, None, slice_get, slice_index_or}
 use Rattle.std.specs.List.{range_with_len}
 use Rattle.gate_model.specs.declared.instr.Instr.{Instr}
 use Rattle.gate_model.specs.declared.key.Key.{Key}
@@ -72,6 +72,11 @@ abbrev pub is_next : Wanted → ℕ → ℕ → ℕ → Bool
 is_next All at place cols = true
 is_next (Listed list) at place cols = is_at (slice_get list.now at) place cols
 is_next (Unlike old new) at place cols = is_fresh cols old.now new.now.keys place
+
+-- one of the entries is that place
+abbrev pub is_marked : ℕ → List (ℕ × ℕ) → ℕ → Bool
+is_marked cols [] place = false
+is_marked cols (p ∷ list) place = is_at (Some p) place cols || is_marked cols list place
 
 -- from its entry `at` on, the list has the places from `place` on that `copies` names
 abbrev pub IsLeft : ℕ → ℕ → (ℕ → Bool) → Wanted → ℕ → ℕ → Type 0

@@ -14,4 +14,4 @@ AreBuffers keys recent = All (λ o. IfSome o (λ h. IsBufferOf keys h.key h.laye
 abbrev pub remembered : SlotKind → List (Option Held) → ℕ → Held → List (Option Held)
 remembered Known recent at held = slice_set recent at (Some held)
 remembered Made recent at held = slice_set recent at (Some held)
-remembered Reused recent at held = slice_set (replicate 128 None) at (Some held)
+remembered Reused recent at held = slice_set (replicate 1024 None) at (Some held)

@@ -47,7 +47,7 @@ fn fill_strip(
 {
     let (keys, cols) = (now.as_slice(), now.cols() as usize);
     let key = keys[place];
-    if !is_blank(key) || !wanted[place] {
+    if !wanted[place] || !is_blank(key) {
         return Ok(place + 1);
     }
     let (width, height) = strip_of(place, run_end(keys, place), cols);

@@ -19,7 +19,7 @@ ghost use Rattle.frame_draw.specs.Cells.{Places};
 
 use crate::bands::band_of;
 use crate::blanks::fill_blanks;
-use crate::runs::{add_pair, copy_run, pairs_of};
+use crate::runs::{add_pair, copy_run, number_of, pairs_of};
 use crate::strokes::{copy_band, copy_to, paint, scroll};
 use crate::wanted::{Wanted, flags_of, is_few, is_next};
 use dirty_region::{changes, left};
@@ -119,8 +119,8 @@ pub fn frame(
     Ok(Instrs::of(drawn))
 }
 
-// How many keys are remembered with their buffers: one for each face of the font, and more.
-const RECENT: usize = 128;
+// How many keys are remembered with their buffers: one for each number of a key.
+const RECENT: usize = 1_024;
 
 // A key and the layer of its buffer.
 #[derive(Clone, Copy)]
@@ -216,6 +216,7 @@ fn draw_runs(
     let (keys, cols) = (now.as_slice(), now.cols() as usize);
     let mut recent = [None; RECENT];
     let mut pairs = pairs_of(keys, wanted);
+    let mut last = 0;
     for place in 0..keys.len() {
         let buffer = hold(list, cache, &mut recent, keys[place])?;
         copy_run(list, wanted, now, &pairs, place)?;
@@ -223,7 +224,7 @@ fn draw_runs(
             list.push(copy_to(buffer.layer, place, cols))?;
             wanted[place] = false;
         }
-        add_pair(&mut pairs, keys, place);
+        last = add_pair(&mut pairs, last, keys[place], place);
     }
     Ok(())
 }
@@ -257,7 +258,7 @@ fn draw_places(
     Ok(())
 }
 
-// The buffer of the key, painted where it is new. One of the keys with this face is remembered, so that
+// The buffer of the key, painted where it is new. One of the keys with this number is remembered, so that
 // the cache is seldom asked.
 fn hold(
     list: &mut Vec<Instr>,
@@ -272,12 +273,31 @@ fn hold(
     ensures recent { OnOk result (AreBuffers cache.new.keys recent.new) }
     ensures kept { is_held cache.old.keys key ≡ true → cache.new.keys ≡ cache.old.keys }
 {
-    let at = key.face as usize % RECENT;
+    let at = number_of(key) as usize;
     if let Some(held) = recent[at] {
         if held.key == key {
             return Ok(held);
         }
     }
+    take(list, cache, recent, at, key)
+}
+
+// The buffer that the cache has or makes for the key, which is remembered then.
+fn take(
+    list: &mut Vec<Instr>,
+    cache: &mut Cache,
+    recent: &mut [Option<Held>; RECENT],
+    at: usize,
+    key: Key,
+) -> Result<Held, NoMemory>
+    requires coloured { IsColoured key }
+    requires recent { AreBuffers cache.old.keys recent.old }
+    requires at { at < 1024 }
+    ensures key { IfOk result (λ h. h.key ≡ key) }
+    ensures held { IfOk result (λ h. Holds list.old.items cache.old.keys key h.layer list.new.items cache.new.keys) }
+    ensures recent { OnOk result (AreBuffers cache.new.keys recent.new) }
+    ensures kept { is_held cache.old.keys key ≡ true → cache.new.keys ≡ cache.old.keys }
+{
     let slot = cache.buffer(key)?;
     paint(list, slot, key)?;
     let held = Held {
@@ -290,7 +310,7 @@ fn hold(
 
 // A key that took the buffer of another makes all others forgotten.
 fn remember(recent: &mut [Option<Held>; RECENT], at: usize, held: Held, kind: SlotKind)
-    requires { at < 128 }
+    requires { at < 1024 }
     ensures { recent.new ≡ remembered kind recent.old at held }
 {
     match kind {

@@ -20,3 +20,4 @@ mod wanted;
 
 pub use blanks::fill_blanks;
 pub use drawer::{frame, opening, resized};
+pub use runs::number_of;

@@ -10,10 +10,10 @@ use crate::strokes::copy_cells;
 use crate::wanted::differ;
 use gate_model::{Instr, Key, NoMemory, Shown};
 
-/// How many pairs of neighbouring keys are remembered with the place where they stand.
+/// How many pairs of neighbouring keys are remembered with the place where they stand, and how many numbers keys have.
 const PAIRS: usize = 1_024;
 
-/// Where each pair of neighbouring keys stands, by the number of the pair.
+/// Where the second of each pair of neighbouring keys stands, by the number of the pair; 0 where none does.
 pub(crate) type Pairs = [usize; PAIRS];
 
 /// Copies a run of cells to the place, where one is worth it, from where the same keys stand already. They are wanted no
@@ -35,7 +35,8 @@ pub(crate) fn copy_run(
     if !wanted[place] || place + 1 == keys.len() {
         return Ok(());
     }
-    let from = pairs[pair_of(keys[place], keys[place + 1])];
+    let pair = pair_of(number_of(keys[place]), number_of(keys[place + 1]));
+    let from = pairs[pair].saturating_sub(1);
     let length = matching(keys, wanted, from, place, cols);
     if length < FEWEST || count(wanted, place, place + length) < FEWEST {
         return Ok(());
@@ -72,37 +73,40 @@ fn matching(keys: &[Key], wanted: &[bool], from: usize, to: usize, cols: usize) 
 /// Where pairs of neighbouring keys stand that aren't wanted. It's a guess: each is looked at again.
 pub(crate) fn pairs_of(keys: &[Key], wanted: &[bool]) -> Pairs {
     let mut pairs = [0; PAIRS];
-    let shown = keys.len().min(wanted.len());
-    for place in 1..shown {
-        if !wanted[place - 1] && !wanted[place] {
-            add_pair(&mut pairs, keys, place);
+    let (mut last, mut was_wanted) = (0, true);
+    for place in 0..keys.len().min(wanted.len()) {
+        let number = number_of(keys[place]);
+        if !was_wanted && !wanted[place] {
+            pairs[pair_of(last, number)] = place;
         }
+        (last, was_wanted) = (number, wanted[place]);
     }
     pairs
 }
 
-/// One pair more, whose second key stands at the place.
-pub(crate) fn add_pair(pairs: &mut Pairs, keys: &[Key], place: usize)
-    requires { place < length keys.now }
-{
+/// One pair more, of the key at the place and the one before, whose number is told; it answers that of the key.
+pub(crate) fn add_pair(pairs: &mut Pairs, last: u16, key: Key, place: usize) -> u16 {
+    let number = number_of(key);
     if 0 < place {
-        pairs[pair_of(keys[place - 1], keys[place])] = place - 1;
+        pairs[pair_of(last, number)] = place;
     }
+    number
 }
 
-// The number of a pair of keys.
-fn pair_of(first: Key, second: Key) -> usize
+// The number of a pair of keys, by theirs.
+fn pair_of(first: u16, second: u16) -> usize
     ensures { result < 1024 }
 {
-    (number_of(first) * 31 + number_of(second)) % PAIRS
+    (first as usize * 31 + second as usize) % PAIRS
 }
 
-// Some number of a key, most of which differ.
-pub(crate) fn number_of(key: Key) -> usize
-    ensures { result < 2097152 }
+/// Some number of a key, from 0 to 1,023: where a key is remembered. Most keys of a screen have different ones.
+pub fn number_of(key: Key) -> u16
+    ensures { result < 1024 }
 {
-    (key.face as usize % 65_536) * 8
+    let number = (key.face as usize % 65_536) * 8
         + key.ink as usize
         + key.paper as usize * 3
-        + usize::from(key.under)
+        + usize::from(key.under);
+    (number % PAIRS) as u16
 }

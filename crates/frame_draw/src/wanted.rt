@@ -1,6 +1,6 @@
 ghost use Rattle.std.specs.Prelude.{◌≡◌, ◌≤◌, ℕ, length, Bool, not, IfOk};
 ghost use Rattle.gate_model.specs.picture.Buffers.{is_same_key};
-ghost use Rattle.frame_draw.specs.Along.{IsLeft, is_next};
+ghost use Rattle.frame_draw.specs.Along.{IsLeft, is_marked, is_next};
 ghost use Rattle.frame_draw.specs.Leads.{AreFlags};
 ghost use Rattle.frame_draw.specs.Fresh.{is_fresh};
 
@@ -63,6 +63,46 @@ pub(crate) fn differ(a: Key, b: Key) -> bool
 
 // A flag for each of the places, row by row.
 pub(crate) fn flags_of(
+    alloc: Global,
+    wanted: Wanted,
+    total: usize,
+    cols: usize,
+) -> Result<Vec<bool>, NoMemory>
+    requires some { 1 ≤ cols }
+    requires few { cols ≤ 512 }
+    requires small { total ≤ 131072 }
+    ensures all { IfOk result (λ flags. length flags.items ≡ total) }
+    ensures told { IfOk result (λ flags. (copies : ℕ → Bool) → IsLeft cols total copies wanted.entry 0 0 → AreFlags flags.items total copies) }
+{
+    match wanted {
+        Wanted::Listed(list) => flags_of_list(alloc, list, total, cols),
+        Wanted::All | Wanted::Unlike(..) => flags_of_each(alloc, wanted, total, cols),
+    }
+}
+
+// The same of those of a list of columns and rows: no other place is looked at.
+fn flags_of_list(
+    alloc: Global,
+    list: &[(u16, u16)],
+    total: usize,
+    cols: usize,
+) -> Result<Vec<bool>, NoMemory>
+    requires few { cols ≤ 512 }
+    ensures all { IfOk result (λ flags. length flags.items ≡ total) }
+    ensures told { IfOk result (λ flags. AreFlags flags.items total (is_marked cols list.now)) }
+{
+    let mut flags = vec![in alloc; false; total]?;
+    for &entry in list {
+        let place = entry.1 as usize * cols + entry.0 as usize;
+        if place < flags.len() {
+            flags[place] = true;
+        }
+    }
+    Ok(flags)
+}
+
+// The same, place by place.
+fn flags_of_each(
     alloc: Global,
     wanted: Wanted,
     total: usize,

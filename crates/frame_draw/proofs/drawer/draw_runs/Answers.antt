@@ -1,7 +1,7 @@
 use Rattle.std.proofs.Common.{rules, ◌<◌, true, false, length, refl, arith}
 use Rattle.frame_draw.proofs.Drawing.{drawing_cell, drawing_ends, drawing_none, drawing_passed, flag_is}
 use Rattle.frame_draw.proofs.Holding.{none_held}
-use Rattle.frame_draw.proofs.Walking.{IsHeld, copy_added, read_is, still_kept}
+use Rattle.frame_draw.proofs.Walking.{copy_added, read_is, still_kept}
 use Rattle.frame_draw.proofs.drawer.draw_runs.Goals as goal
 use Rattle.frame_draw.proofs.drawer.draw_runs.Goals.{then-wanted-place+in_ok-push, else-wanted-place}
 

@@ -1,5 +1,5 @@
 use Rattle.frame_draw.proofs.Leading.{IsFlagging}
-use Rattle.frame_draw.proofs.wanted.flags_of.Given as goal
+use Rattle.frame_draw.proofs.wanted.flags_of_each.Given as goal
 
 -- the places up to this one have their flag
 abbrev pub invariant-loop-place : goal.invariant-loop-place
