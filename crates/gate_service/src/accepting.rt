@@ -1,6 +1,6 @@
 //! Connections that come, and sessions that go.
 
-ghost use Rattle.std.specs.Prelude.{◌≡◌, ◌≤◌, IfErr};
+ghost use Rattle.std.specs.Prelude.{◌≡◌, ◌≤◌, ◌⊎◌, IfErr};
 ghost use Rattle.gate_outside.specs.Edge.{Rose};
 
 use crate::jobs::{ConnectionJob, Ends, Links, Pair, RecorderAddress, Tally};
@@ -15,7 +15,7 @@ use gate_outside::{Bell, Dialer, Helper, Net, Sink, Spawner, Way, start_by, writ
 use guac_instr::text_of;
 use id_table::LockedShelf;
 use log::Log;
-use service_door::{Session, sweep};
+use service_door::{OwnMarks, Session, sweep};
 use session_list::SessionList;
 use std::alloc::Global;
 use std::sync::atomic::AtomicU64;
@@ -157,10 +157,12 @@ where
         }
     }
 
-    // Gives the job of a connection to a thread that waits, or else starts one. The status where that fails.
+    // Gives the job of a connection to a thread that waits, or else starts one. The status where that fails: 512 for want
+    // of memory, and 513 only where the count of jobs that weren't started rose.
     fn hand_on<R>(&mut self, rt: &R, ends: &Ends<H::Input, H::Output>) -> Result<(), u16>
     where
         R: Threads + Wait + Copy + Send + Sync + 'static,
+        ensures status { IfErr result (λ status. (status ≡ 512) ⊎ ((status ≡ 513) × Rose (H.start_faults self.old.helper) (H.start_faults self.new.helper))) }
     {
         let Ok(job) = self.job(ends) else {
             return Err(NO_MEMORY);
@@ -192,7 +194,9 @@ where
     fn job(
         &mut self,
         ends: &Ends<H::Input, H::Output>,
-    ) -> Result<ConnectionJob<H::Input, H::Output, H, B, L>, NoMemory> {
+    ) -> Result<ConnectionJob<H::Input, H::Output, H, B, L>, NoMemory>
+        ensures starts { H.start_faults self.new.helper ≡ H.start_faults self.old.helper }
+    {
         Ok(ConnectionJob {
             alloc: self.alloc,
             ends: Arc::try_clone(ends)?,
@@ -214,7 +218,8 @@ where
     }
 }
 
-/// Takes all sessions that may leave out of the table.
+/// Takes all sessions that may leave out of the table. Nothing is said of it: a table that threads share tells nothing, and
+/// of each session that leaves `sweep` says what may be said.
 pub(crate) fn sweep_all<R: Wait, L: Log>(
     rt: &R,
     sessions: &LockedShelf<Session>,
@@ -222,7 +227,7 @@ pub(crate) fn sweep_all<R: Wait, L: Log>(
     list: &SessionList,
 ) {
     for _ in rt.forever() {
-        let Some((id, mut session)) = sweep(rt, sessions) else {
+        let Some((id, mut session)) = sweep(rt, sessions, &OwnMarks {}) else {
             return;
         };
         if session.take_recorder_failed() {

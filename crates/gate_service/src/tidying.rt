@@ -17,7 +17,8 @@ use http_tunnel::tunnel_request;
 use id_table::{LockedShelf, Shelf};
 use log::Log;
 use service_door::{
-    ServiceDoor, Session, close_backlogged, find_closed, find_unrecorded, look, sweep_deserted,
+    OwnMarks, ServiceDoor, Session, close_backlogged, find_closed, find_unrecorded, look,
+    sweep_deserted,
 };
 use session_list::SessionList;
 use share_links::Linked;
@@ -158,7 +159,8 @@ where
             return;
         }
         for _ in rt.forever() {
-            let Some((id, mut session)) = sweep_deserted(rt, &self.sessions, self.linger) else {
+            let swept = sweep_deserted(rt, &self.sessions, self.linger, &OwnMarks {});
+            let Some((id, mut session)) = swept else {
                 return;
             };
             note_deserted(&self.log, &id);

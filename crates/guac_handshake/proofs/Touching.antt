@@ -1,6 +1,6 @@
 -- The sessions that a greeting touches.
 use Rattle.std.proofs.Common.{◌≡◌, ◌≢◌, ℕ, List, Option, Some, None, Ok, Err, Bool, true, false, refl, ap, sym, ◌∙◌, subst, inl, inr, arith}
-use Rattle.std.specs.Prelude.{Result, IfErr, IfOk, IfSome, IsSome, OnErr, is_some}
+use Rattle.std.specs.Prelude.{Result, IfErr, IfOk, IfSome, IsSome, is_some}
 use Rattle.gate_model.specs.session.History.{History}
 use Rattle.gate_model.specs.declared.sharing.Asked.{Asked}
 use Rattle.id_table.specs.Maps.{Same, Told}
@@ -11,7 +11,7 @@ use Rattle.guac_handshake.specs.declared.refused.Refused.TheVariants.{Absent, Co
 use Rattle.guac_handshake.specs.declared.request.Request.{Request}
 use Rattle.guac_handshake.specs.declared.request.Request.TheVariants.{Begin, Join}
 use Rattle.guac_handshake.specs.declared.welcome.Welcome.{Welcome}
-use Rattle.guac_handshake.specs.Doors.{AddedOne, Grants, IsAbsent, IsJoinRefusal, JoinRefuses, KeepsIds, MayRefuse, MeetsHistory, MeetsTold, Names, RefusesAt, SameId, Sessions, TouchesOne, at_name}
+use Rattle.guac_handshake.specs.Doors.{AddedBy, AddedOne, Grants, IsAbsent, IsJoinRefusal, JoinRefuses, KeepsIds, MayRefuse, MeetsHistory, MeetsTold, Names, RefusesAt, SameId, Sessions, TouchesOne, at_name}
 use Rattle.guac_handshake.specs.Greetings.{HasAnswered, HasTouched, IsToldError, IsToldReady}
 use Rattle.guac_handshake.specs.Opening.{HasMoved}
 use Rattle.gate_model.specs.text.Statuses.{bad_request}
@@ -106,9 +106,9 @@ touched_none o p same = told_as o p Same (λ m n. (name : Option (List ℕ)) × 
 
 module _ {P : Type 0} (id_of : List ℕ → Option (List ℕ)) (o p : Option Sessions) where
   -- an answer to one that asks for a session that is to begin, and to a joiner
-  pub begin_answered : (result : Result (Welcome P) Refused) → IfOk result (λ welcome. Told o p (AddedOne (id_of welcome.id))) → OnErr result (Told o p Same) → Told o p (HasAnswered id_of result)
-  begin_answered (Ok welcome) added same = told_as o p (AddedOne (id_of welcome.id)) (HasAnswered id_of (Ok welcome)) (λ m n h. inl h) added
-  begin_answered (Err refusal) added same = told_as o p Same (HasAnswered {P = P} id_of (Err refusal)) (λ m n h. (None, kept_same None m n h)) same
+  pub begin_answered : (result : Result (Welcome P) Refused) → Told o p (AddedBy (λ (welcome : Welcome P). id_of welcome.id) result) → Told o p (HasAnswered id_of result)
+  begin_answered (Ok welcome) added = told_as o p (AddedOne (id_of welcome.id)) (HasAnswered id_of (Ok welcome)) (λ m n h. inl h) added
+  begin_answered (Err refusal) same = told_as o p Same (HasAnswered {P = P} id_of (Err refusal)) (λ m n h. (None, kept_same None m n h)) same
 
   pub join_answered : (name : Option (List ℕ)) (result : Result (Welcome P) Refused) → IfOk result (λ welcome. id_of welcome.id ≡ name) → Told o p (KeepsIds name) → Told o p (HasAnswered id_of result)
   join_answered name (Ok welcome) is kept = told_as o p (KeepsIds name) (HasAnswered id_of (Ok welcome)) (λ m n h. inr (subst (λ (x : Option (List ℕ)). KeepsIds x m n) (sym is) h)) kept
@@ -217,10 +217,15 @@ pub begin_granted : {P : Type 0} (id_of : List ℕ → Option (List ℕ)) (begun
 begin_granted id_of begun joined request ask (Ok welcome) is h = subst (λ (q : Request). Grants id_of begun joined q welcome) (sym is) h
 begin_granted id_of begun joined request ask (Err refused) is h = tt
 
-pub join_granted : {P : Type 0} (id_of : List ℕ → Option (List ℕ)) (begun : Ask → Welcome P → Type 0) (joined : Asked → Welcome P → Type 0) (request : Request) (id name : List ℕ) (role : Asked) (result : Result (Welcome P) Refused) → request ≡ Join id role → name ≡ id → IfOk result (λ welcome. id_of welcome.id ≡ id_of name)
-    → IfOk result (λ welcome. joined role welcome) → IfOk result (λ welcome. Grants id_of begun joined request welcome)
-join_granted id_of begun joined request id name role (Ok welcome) is same named h = subst (λ (q : Request). Grants id_of begun joined q welcome) (sym is) (named ∙ ap id_of same, h)
-join_granted id_of begun joined request id name role (Err refused) is same named h = tt
+pub join_granted : {P : Type 0} (id_of : List ℕ → Option (List ℕ)) (begun : Ask → Welcome P → Type 0) (joined : Asked → Welcome P → Type 0) (request : Request) (id name : List ℕ) (role : Asked) (Fresh : Welcome P → Type 0) (result : Result (Welcome P) Refused) → request ≡ Join id role → name ≡ id
+    → IfOk result (λ welcome. Fresh welcome × (id_of welcome.id ≡ id_of name) × joined role welcome) → IfOk result (λ welcome. Grants id_of begun joined request welcome)
+join_granted id_of begun joined request id name role Fresh (Ok welcome) is same h = subst (λ (q : Request). Grants id_of begun joined q welcome) (sym is) (h.1 ∙ ap id_of same, h.2)
+join_granted id_of begun joined request id name role Fresh (Err refused) is same h = tt
+
+-- of what is said of a welcome, the second
+pub named : {P : Type 0} (Fresh Named Joined : Welcome P → Type 0) (result : Result (Welcome P) Refused) → IfOk result (λ welcome. Fresh welcome × Named welcome × Joined welcome) → IfOk result Named
+named Fresh Named Joined (Ok welcome) h = h.1
+named Fresh Named Joined (Err refused) h = tt
 
 pub granted_named : {P : Type 0} (id_of : List ℕ → Option (List ℕ)) (begun : Ask → Welcome P → Type 0) (joined : Asked → Welcome P → Type 0) (request : Request) (welcome : Welcome P) → Grants id_of begun joined request welcome → Names id_of request welcome.id
 granted_named id_of begun joined (Begin ask) welcome h = tt

@@ -1,5 +1,5 @@
 -- The contract of a door: its refusals, its sessions, its places and what it was asked (this project's own).
-use Rattle.std.specs.Prelude.{◌≡◌, ◌≢◌, ℕ, ◌+◌, ◌-◌, ◌<◌, ◌⊎◌, List, [], ◌∷◌, ◌++◌, Bool, true, false, Option, Some, None, IsSome, IfSome, Result, Ok, Err, is_some}
+use Rattle.std.specs.Prelude.{◌≡◌, ◌≢◌, ℕ, ◌+◌, ◌-◌, ◌<◌, ◌≤◌, ◌⊎◌, List, [], ◌∷◌, ◌++◌, Bool, true, false, Option, Some, None, IsSome, IfSome, Result, Ok, Err, is_some}
 use Rattle.std.specs.Option.{option_map}
 use Rattle.gate_model.specs.session.History.{History, share_mode}
 use Rattle.gate_model.specs.session.Refusals.{join_refusal}
@@ -10,8 +10,9 @@ use Rattle.gate_model.specs.declared.join_refusal.JoinRefusal.{JoinRefusal}
 use Rattle.gate_model.specs.declared.join_refusal.JoinRefusal.TheVariants as refusal
 use Rattle.gate_model.specs.declared.sharing.Asked.{Asked}
 use Rattle.gate_model.specs.declared.sharing.Role.{Role}
+use Rattle.gate_outside.specs.Edge.{Rose}
 use Rattle.id_table.specs.Draws.{nth_id}
-use Rattle.id_table.specs.Maps.{Map}
+use Rattle.id_table.specs.Maps.{Map, Same}
 use Rattle.guac_handshake.specs.declared.ask.Ask.{Ask}
 use Rattle.guac_handshake.specs.declared.refused.Refused.{Refused}
 use Rattle.guac_handshake.specs.declared.refused.Refused.TheVariants.{Absent, Conflict, Dial, Busy, Closed, Forbidden, TooMany, Worn, NoMemory}
@@ -37,6 +38,10 @@ module _ {A : Type 0} where
 
   abbrev pub IsConflict : Result A Refused → Type 0
   IsConflict r = r ≡ Err Conflict
+
+-- a count of faults rose in a call that tells of one, and never falls
+abbrev pub CountsFault : Type 0 → ℕ → ℕ → Type 0
+CountsFault told before after = (told → Rose before after) × before ≤ after
 
 -- the refusals of a door that makes a session, before its jobs are started
 abbrev pub IsOpenRefusal : Refused → Type 0
@@ -77,6 +82,11 @@ IsJoinRefusal Busy = ⊥
 -- a session was added under an ID that was absent, and no other
 abbrev pub AddedOne : Option (List ℕ) → Sessions → Sessions → Type 0
 AddedOne name m n = (id : List ℕ) × (name ≡ Some id) × (m id ≡ None) × IsSome (n id) × ((k : List ℕ) → k ≢ id → n k ≡ m k)
+
+-- one was added of the name that the result has; where there is a refusal, they are as they were
+abbrev pub AddedBy : {A : Type 0} → (A → Option (List ℕ)) → Result A Refused → Sessions → Sessions → Type 0
+AddedBy name_of (Ok a) m n = AddedOne (name_of a) m n
+AddedBy name_of (Err refused) m n = Same m n
 
 -- the session of this name is gone, and no other
 abbrev pub RemovedOne : Option (List ℕ) → Sessions → Sessions → Type 0
@@ -123,6 +133,10 @@ abbrev pub TellsConflict : {A : Type 0} → Option Sessions → Option (ℕ → 
 TellsConflict None draws r = Unit {0}
 TellsConflict (Some m) None r = Unit {0}
 TellsConflict (Some m) (Some draws) r = IsExact m draws r
+
+-- a conflict comes only where some ID is there, and exactly as above
+abbrev pub MeetsConflict : {A : Type 0} → Option Sessions → Option (ℕ → List ℕ) → Result A Refused → Type 0
+MeetsConflict sessions draws r = (IsConflict r → HasConflict sessions) × TellsConflict sessions draws r
 
 -- the same of a conflict that came
 abbrev pub AreTaken : Option Sessions → Option (ℕ → List ℕ) → Type 0

@@ -1,6 +1,6 @@
 -- What the form of a connection asks (the URL standard, section 5, on `application/x-www-form-urlencoded`; the fields,
 -- their forms and their defaults are this project's own).
-use Rattle.std.specs.Prelude.{◌≡◌, ◌⊎◌, ℕ, List, [], ◌∷◌, fold, Bool, true, ◌&&◌, if◌then◌else◌, bytes_eq, codes, All, IsUtf8, Option, Some, None, unwrap_or, option_and_then}
+use Rattle.std.specs.Prelude.{◌≡◌, ◌⊎◌, ℕ, List, [], fold, Bool, true, ◌&&◌, if◌then◌else◌, bytes_eq, codes, All, IsUtf8, Option, Some, None, unwrap_or, option_and_then}
 use Rattle.form_urlencoded.specs.Form.{parse}
 use Rattle.gate_model.specs.text.Numerals.{is_number, number_of_bits}
 use Rattle.gate_model.specs.declared.sharing.Asked.{Asked}

@@ -1,8 +1,7 @@
 //! What a door is asked.
 
-ghost use Rattle.std.specs.Prelude.{◌≡◌, ◌≤◌, IfErr, IfOk};
-ghost use Rattle.gate_outside.specs.Edge.{Rose};
-ghost use Rattle.guac_handshake.specs.Doors.{Grants, IsBusy, IsDial, MayRefuse, logged, one_more_out};
+ghost use Rattle.std.specs.Prelude.{◌≡◌, IfErr, IfOk};
+ghost use Rattle.guac_handshake.specs.Doors.{Grants, IsBusy, IsDial, MayRefuse, CountsFault, logged, one_more_out};
 ghost use Rattle.guac_handshake.specs.Greetings.{HasAnswered};
 ghost use Rattle.id_table.specs.Maps.{Told};
 
@@ -22,10 +21,8 @@ pub(crate) fn ask<R: Threads + Wait + Copy + Send + 'static, D: Door>(
     ensures out { D.out door.new ≡ one_more_out result (D.out door.old) }
     ensures kind { IfErr result (MayRefuse D.id_of (D.sessions door.old) (D.draws door.old) (D.sessions door.new) request.now) }
     ensures sessions { Told (D.sessions door.old) (D.sessions door.new) (HasAnswered D.id_of result) }
-    ensures dial { IsDial result → Rose (D.dial_faults door.old) (D.dial_faults door.new) }
-    ensures busy { IsBusy result → Rose (D.start_faults door.old) (D.start_faults door.new) }
-    ensures later_dials { D.dial_faults door.old ≤ D.dial_faults door.new }
-    ensures later_starts { D.start_faults door.old ≤ D.start_faults door.new }
+    ensures dials { CountsFault (IsDial result) (D.dial_faults door.old) (D.dial_faults door.new) }
+    ensures starts { CountsFault (IsBusy result) (D.start_faults door.old) (D.start_faults door.new) }
     ensures fresh { IfOk result (λ welcome. D.Place.fresh welcome.place welcome.first) }
     ensures granted { IfOk result (λ welcome. Grants D.id_of (D.begun door.new) (D.joined door.new) request.now welcome) }
 {

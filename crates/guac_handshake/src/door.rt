@@ -1,9 +1,9 @@
-ghost use Rattle.std.specs.Prelude.{◌≡◌, ◌≤◌, ◌-◌, ◌+◌, ℕ, List, Option, IfOk, IfErr, IfSome, OnErr, OnOk, is_some};
+ghost use Rattle.std.specs.Prelude.{◌≡◌, ◌≤◌, ℕ, List, Option, IfOk, IfErr, IfSome, is_some};
 ghost use Rattle.gate_outside.specs.Edge.{Rose};
 ghost use Rattle.id_table.specs.Maps.{Map, Same, Told};
 ghost use Rattle.gate_model.specs.session.History.{History};
 ghost use Rattle.gate_model.specs.declared.sharing.Asked.{Asked};
-ghost use Rattle.guac_handshake.specs.Doors.{AddedOne, HasConflict, IsAbsent, IsBeginRefusal, IsBusy, IsConflict, IsDial, IsJoinRefusal, IsOpenRefusal, KeepsIds, MeetsHistory, RemovedOne, TellsConflict, at_name, logged, one_more_out, option_less};
+ghost use Rattle.guac_handshake.specs.Doors.{AddedBy, IsAbsent, IsBeginRefusal, IsBusy, IsDial, IsJoinRefusal, IsOpenRefusal, KeepsIds, MeetsConflict, MeetsHistory, RemovedOne, CountsFault, at_name, logged, one_more_out, option_less};
 ghost use Rattle.guac_handshake.specs.declared.ask.Ask.{Ask};
 ghost use Rattle.guac_handshake.specs.declared.request.Request.{Request};
 ghost use Rattle.guac_handshake.specs.declared.request.Request.TheVariants.{Begin as begin_request, Join as join_request};
@@ -66,15 +66,12 @@ pub trait Door: Counted {
         alloc: Global,
         ask: &Ask,
     ) -> Result<Begun<Self::Place, Self::Pump, Self::Sending, Self::Recording>, Refused>
-        ensures dial { IsDial result → Rose (Self.dial_faults self.old) (Self.dial_faults self.new) }
         ensures kind { IfErr result IsOpenRefusal }
-        ensures later { Self.dial_faults self.old ≤ Self.dial_faults self.new }
+        ensures dials { CountsFault (IsDial result) (Self.dial_faults self.old) (Self.dial_faults self.new) }
         ensures starts { Self.start_faults self.new ≡ Self.start_faults self.old }
         ensures fresh { IfOk result (λ begun. Self.Place.fresh begun.welcome.place begun.welcome.first) }
-        ensures added { IfOk result (λ begun. Told (sessions self.old) (sessions self.new) (AddedOne (id_of begun.welcome.id))) }
-        ensures refused { OnErr result (Told (sessions self.old) (sessions self.new) Same) }
-        ensures conflict { IsConflict result → HasConflict (sessions self.old) }
-        ensures exact { TellsConflict (sessions self.old) (Self.draws self.old) result }
+        ensures sessions { Told (sessions self.old) (sessions self.new) (AddedBy (λ begun. id_of begun.welcome.id) result) }
+        ensures conflict { MeetsConflict (sessions self.old) (Self.draws self.old) result }
         ensures out { out self.new ≡ one_more_out result (out self.old) }
         ensures asked { asked self.new ≡ logged (asked self.old) (begin_request ask.now) result }
         ensures begun { IfOk result (λ made. begun self.new ask.now made.welcome) };
@@ -115,16 +112,12 @@ pub trait Door: Counted {
         alloc: Global,
         ask: &Ask,
     ) -> Result<Welcome<Self::Place>, Refused>
-        ensures dial { IsDial result → Rose (Self.dial_faults self.old) (Self.dial_faults self.new) }
-        ensures busy { IsBusy result → Rose (Self.start_faults self.old) (Self.start_faults self.new) }
         ensures kind { IfErr result IsBeginRefusal }
-        ensures later_dials { Self.dial_faults self.old ≤ Self.dial_faults self.new }
-        ensures later_starts { Self.start_faults self.old ≤ Self.start_faults self.new }
+        ensures dials { CountsFault (IsDial result) (Self.dial_faults self.old) (Self.dial_faults self.new) }
+        ensures starts { CountsFault (IsBusy result) (Self.start_faults self.old) (Self.start_faults self.new) }
         ensures fresh { IfOk result (λ welcome. Self.Place.fresh welcome.place welcome.first) }
-        ensures added { IfOk result (λ welcome. Told (sessions self.old) (sessions self.new) (AddedOne (id_of welcome.id))) }
-        ensures refused { OnErr result (Told (sessions self.old) (sessions self.new) Same) }
-        ensures conflict { IsConflict result → HasConflict (sessions self.old) }
-        ensures exact { TellsConflict (sessions self.old) (Self.draws self.old) result }
+        ensures sessions { Told (sessions self.old) (sessions self.new) (AddedBy (λ welcome. id_of welcome.id) result) }
+        ensures conflict { MeetsConflict (sessions self.old) (Self.draws self.old) result }
         ensures out { out self.new ≡ one_more_out result (out self.old) }
         ensures asked { asked self.new ≡ logged (asked self.old) (begin_request ask.now) result }
         ensures begun { IfOk result (λ welcome. begun self.new ask.now welcome) }
@@ -171,14 +164,12 @@ pub trait Door: Counted {
         ensures kind { IfErr result IsJoinRefusal }
         ensures dials { Self.dial_faults self.new ≡ Self.dial_faults self.old }
         ensures starts { Self.start_faults self.new ≡ Self.start_faults self.old }
-        ensures fresh { IfOk result (λ welcome. Self.Place.fresh welcome.place welcome.first) }
+        ensures welcome { IfOk result (λ welcome. (Self.Place.fresh welcome.place welcome.first) × (id_of welcome.id ≡ id_of name.now) × (joined self.new role welcome)) }
         ensures absent { Told (sessions self.old) (sessions self.new) (λ m n. IsAbsent result (is_some (at_name (id_of name.now) m))) }
-        ensures same_id { IfOk result (λ welcome. id_of welcome.id ≡ id_of name.now) }
         ensures ids { Told (sessions self.old) (sessions self.new) (KeepsIds (id_of name.now)) }
         ensures history { IfSome (sessions self.new) (λ n. MeetsHistory (at_name (id_of name.now) n) role result) }
         ensures out { out self.new ≡ one_more_out result (out self.old) }
-        ensures asked { asked self.new ≡ logged (asked self.old) (join_request name.now role) result }
-        ensures granted { IfOk result (λ welcome. joined self.new role welcome) };
+        ensures asked { asked self.new ≡ logged (asked self.old) (join_request name.now role) result };
 
     /// Takes back a place that was handed out with that ID.
     fn give<R: Wait>(&mut self, rt: &R, id: &str, place: Self::Place)

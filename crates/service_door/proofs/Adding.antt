@@ -7,7 +7,7 @@ use Rattle.id_table.specs.Refused.{IfConflict}
 use Rattle.id_table.specs.declared.add_refusal.AddRefusal.{AddRefusal}
 use Rattle.id_table.specs.declared.add_refusal.AddRefusal.TheVariants.{Conflict as conflict}
 use Rattle.gate_model.specs.declared.faces.Faces.{Faces}
-use Rattle.guac_handshake.specs.Doors.{AddedOne, HasConflict, RemovedOne, TellsConflict}
+use Rattle.guac_handshake.specs.Doors.{AddedOne, HasConflict, IsConflict, MeetsConflict, RemovedOne, TellsConflict}
 use Rattle.guac_handshake.specs.declared.refused.Refused.TheVariants.{Conflict, NoMemory}
 use Rattle.service_door.specs.Sessions.{NoneLent, SessionState, histories, history_of, sessions_of}
 use Rattle.guac_handshake.specs.Names.{id_of_name}
@@ -74,10 +74,16 @@ untouched (Some m) = λ k. refl
 -- ---- draws
 
 -- want of memory comes whatever is drawn
-pub free_memory : (A : Type 0) (told : Option Table) (draws : Option (ℕ → List ℕ)) → TellsConflict {A = A} (sessions_of told) draws (Err NoMemory)
+free_memory : (A : Type 0) (told : Option Table) (draws : Option (ℕ → List ℕ)) → TellsConflict {A = A} (sessions_of told) draws (Err NoMemory)
 free_memory A None draws = tt
 free_memory A (Some m) None = tt
 free_memory A (Some m) (Some draws) = tt
+
+no_memory : (A : Type 0) → IsConflict {A = A} (Err NoMemory) → ⊥
+no_memory A e = cc
+
+pub out_of_memory : (A : Type 0) (told : Option Table) (draws : Option (ℕ → List ℕ)) → MeetsConflict {A = A} (sessions_of told) draws (Err NoMemory)
+out_of_memory A told draws = (λ e. absurd (no_memory A e), free_memory A told draws)
 
 history_some : (o : Option (Option SessionState)) → IsSome o → IsSome (history_of o)
 history_some None h = absurd (true≢false (sym h))

@@ -9,7 +9,7 @@ use Rattle.gate_model.specs.contracts.bytes.Bytes as bytes
 use Rattle.shared_desk.proofs.Crosses.{host_send, link_send, place_send, sender_send}
 use Rattle.service_door.specs.contracts.jobs.PumpJob as pump
 use Rattle.service_door.specs.contracts.jobs.SenderJob as sender
-use Rattle.service_door.specs.contracts.marks.Marks as marks
+use Rattle.service_door.specs.contracts.marks.Flags as flags
 use Rattle.service_door.specs.contracts.marks.SharedMarks as shared_marks
 use Rattle.service_door.specs.contracts.recorder.RecorderJob as recorder
 use Rattle.service_door.specs.contracts.session.Session as session
@@ -19,14 +19,14 @@ use Rattle.service_door.specs.contracts.session.Session.TheInside as whole_sessi
 pub field_send : (R : RattleType) → IsSend R → IsSend (as_row (row_field R))
 field_send R r = as_row_send (row_field R) r
 
-marks_send : IsSend marks.the_row
-marks_send = search (sendable, crosses) depth 20
+flags_send : IsSend flags.the_row
+flags_send = search (sendable, crosses) depth 20
 
-marks_sync : IsSync marks.the_row
-marks_sync = declared_sync marks.the_type (search (sendable, crosses), (search (sendable, crosses), (search (sendable, crosses), (search (sendable, crosses), (search (sendable, crosses), (search (sendable, crosses), (search (sendable, crosses) depth 20, tt)))))))
+flags_sync : IsSync flags.the_row
+flags_sync = declared_sync flags.the_type (search (sendable, crosses), (search (sendable, crosses), (search (sendable, crosses), (search (sendable, crosses), (search (sendable, crosses), (search (sendable, crosses), (search (sendable, crosses) depth 20, tt)))))))
 
 shared_marks_send : IsSend shared_marks.the_row
-shared_marks_send = declared_send shared_marks.the_type (Arc-send marks.the_row marks_send marks_sync, tt)
+shared_marks_send = declared_send shared_marks.the_type (Arc-send flags.the_row flags_send flags_sync, tt)
 
 whole_session_send : IsSend whole_session.the_row
 whole_session_send = declared_send whole_session.the_type (host_send, (search sendable, (shared_marks_send, tt)))

@@ -17,7 +17,6 @@ use Rattle.gate_model.specs.declared.sharing.Role.{Role}
 use Rattle.turn_lock.specs.declared.view.View.{View}
 use Rattle.guac_handshake.specs.Doors.{IsAbsent, MeetsTold, refused_of}
 use Rattle.guac_handshake.specs.declared.refused.Refused.{Refused}
-use Rattle.guac_handshake.specs.declared.refused.Refused.TheVariants as refused
 use Rattle.shared_desk.specs.Called.{Gives, Turned}
 use Rattle.shared_desk.specs.Hosts.{HasJoined, HostState, JoinEnds}
 use Rattle.shared_desk.specs.declared.place.Place.{Place}

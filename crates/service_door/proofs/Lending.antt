@@ -131,6 +131,11 @@ pub same_name : {P : Type 0} (name : Option (List ℕ)) (id : List ℕ) (r : Res
 same_name name id (Ok welcome) is named = named ∙ is
 same_name name id (Err refused) is named = tt
 
+-- what is said of a welcome in one
+pub all_of : {P : Type 0} (Fresh Named Asked : Welcome P → Type 0) (r : Result (Welcome P) Refused) → IfOk r Fresh → IfOk r Named → IfOk r Asked → IfOk r (λ welcome. Fresh welcome × Named welcome × Asked welcome)
+all_of Fresh Named Asked (Ok welcome) fresh named asked = (fresh, named, asked)
+all_of Fresh Named Asked (Err refused) fresh named asked = tt
+
 -- ---- what the calls of this door alone tell
 
 pub swap_both : (r t : Option Table) (name : Option (List ℕ)) (id : List ℕ) (v w : SessionState) (P : SessionState → SessionState → Type 0) → name ≡ Some id → Told r t (Swaps id v w) → P v w

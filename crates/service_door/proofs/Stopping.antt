@@ -2,7 +2,6 @@
 use Rattle.std.proofs.Common.{◌≡◌, ℕ, List, Option, Some, None, true, ap, sym, ◌∙◌, subst}
 use Rattle.std.specs.Prelude.{IfSome, Ok, Result}
 use Rattle.gate_model.specs.session.History.{is_closed}
-use Rattle.gate_model.specs.session.Rights.{is_live}
 use Rattle.gate_model.specs.Sequences.{IsLater}
 use Rattle.gate_model.specs.declared.answer.Answer.TheVariants.{Close as closed, Leave as left}
 use Rattle.gate_model.specs.declared.cause.Cause.{Cause}

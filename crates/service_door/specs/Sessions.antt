@@ -1,9 +1,11 @@
 -- A session in the table, as contracts see it (this project's own).
-use Rattle.std.specs.Prelude.{◌≡◌, ℕ, ◌+◌, ◌-◌, ◌^◌, min, List, Option, Some, None}
+use Rattle.std.specs.Prelude.{◌≡◌, ℕ, ◌+◌, ◌-◌, ◌^◌, ◌==◌, min, nat_lt, List, Bool, true, ◌&&◌, if◌then◌else◌, Option, Some, None}
 use Rattle.gate_model.specs.session.History.{History}
 use Rattle.guac_handshake.specs.Doors.{Sessions}
 use Rattle.id_table.specs.Maps.{IsLent, Shelved}
 use Rattle.shared_desk.specs.Hosts.{HostState}
+use Rattle.service_door.specs.declared.marks.Ended.{Ended}
+use Rattle.service_door.specs.declared.marks.Deserted.{Deserted}
 
 -- what its host's pass is, and how many of its places are out
 pub record SessionState : Type 0 where
@@ -16,6 +18,30 @@ one_more places = min (places + 1) (2 ^ 64 - 1)
 
 abbrev pub one_less : ℕ → ℕ
 one_less places = places - 1
+
+-- both jobs of a session had ended at a look
+abbrev pub have_both_ended : Ended → Bool
+have_both_ended ended = ended.pump && ended.sender
+
+-- the session may leave the table: both had ended, and no place of it is out
+abbrev pub may_leave : Ended → ℕ → Bool
+may_leave ended places = places == 0 && have_both_ended ended
+
+-- .. as somebody told of its jobs
+abbrev pub IsOver : (SessionState → Ended → Type 0) → SessionState → Type 0
+IsOver tells session = (ended : Ended) × tells session ended × (may_leave ended session.places ≡ true)
+
+-- nobody was there at more than `most` looks in a row, or at one where nobody may join
+abbrev pub is_passed_over : Deserted → ℕ → Bool
+is_passed_over deserted most = nat_lt (if deserted.joinable then most else 0) deserted.looks
+
+-- .. and no place of it is out
+abbrev pub is_deserted : Deserted → ℕ → ℕ → Bool
+is_deserted deserted most places = places == 0 && is_passed_over deserted most
+
+-- .. as somebody told
+abbrev pub HasNobody : (SessionState → Deserted → Type 0) → ℕ → SessionState → Type 0
+HasNobody tells most session = (deserted : Deserted) × tells session deserted × (is_deserted deserted most session.places ≡ true)
 
 -- the history of what is under an ID: what the host's pass has seen. A session that is lent isn't told
 abbrev pub history_of : Option (Option SessionState) → Option (Option History)

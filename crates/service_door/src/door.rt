@@ -200,16 +200,13 @@ impl<'a, T: Shelf<Session>, H: Helper, B: Bell + Send + 'static> Door for Servic
         role: Asked,
     ) -> Result<Welcome<Place>, Refused>
         ensures kind { IfErr result IsJoinRefusal }
-        ensures dials { H.dial_faults self.new.helper.now ≡ H.dial_faults self.old.helper.now }
-        ensures starts { H.start_faults self.new.helper.now ≡ H.start_faults self.old.helper.now }
-        ensures fresh { IfOk result (λ welcome. IsFresh welcome.place welcome.first) }
+        ensures counts { (H.dial_faults self.new.helper.now ≡ H.dial_faults self.old.helper.now) × (H.start_faults self.new.helper.now ≡ H.start_faults self.old.helper.now) }
+        ensures welcome { IfOk result (λ welcome. (IsFresh welcome.place welcome.first) × (id_of_name welcome.id ≡ id_of_name name.now) × (IsJoined (T.told self.new.sessions.now) role welcome)) }
         ensures absent { Told (sessions_of (T.told self.old.sessions.now)) (sessions_of (T.told self.new.sessions.now)) (λ m n. IsAbsent result (is_some (at_name (id_of_name name.now) m))) }
-        ensures same_id { IfOk result (λ welcome. id_of_name welcome.id ≡ id_of_name name.now) }
         ensures ids { Told (sessions_of (T.told self.old.sessions.now)) (sessions_of (T.told self.new.sessions.now)) (KeepsIds (id_of_name name.now)) }
         ensures history { IfSome (sessions_of (T.told self.new.sessions.now)) (λ n. MeetsHistory (at_name (id_of_name name.now) n) role result) }
         ensures out { None ≡ one_more_out result None }
         ensures asked { None ≡ logged None (join_request name.now role) result }
-        ensures granted { IfOk result (λ welcome. IsJoined (T.told self.new.sessions.now) role welcome) }
 
         // Of this door alone.
         ensures joined { Told (T.told self.old.sessions.now) (T.told self.new.sessions.now) (JoinChanges (id_of_name name.now) role result) }

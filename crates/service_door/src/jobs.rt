@@ -38,7 +38,7 @@ impl<S: Source + Send + 'static, C: Clock + Send + 'static, B: Bell + Send + 'st
             stop(rt, &mut pass, &bell);
         }
         marks.closed_for(cause_at(end));
-        marks.pump_ended();
+        marks.pump_ended(pass);
     }
 }
 
@@ -67,6 +67,6 @@ impl<K: Sink + Send + 'static, B: Bell + Send + 'static> Job for SenderJob<K, B>
             marks,
         } = self;
         let _end = sender(rt, &mut pass, &mut sink, &bell);
-        marks.sender_ended();
+        marks.sender_ended(pass);
     }
 }

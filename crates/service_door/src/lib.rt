@@ -17,9 +17,12 @@ mod recorder;
 mod recording;
 mod refusals;
 mod session;
+mod telling;
 
 pub use causes::find_closed;
 pub use door::ServiceDoor;
 pub use jobs::{PumpJob, SenderJob};
+pub use marks::{Deserted, Ended};
 pub use recorder::RecorderJob;
 pub use session::{Session, close_backlogged, find_unrecorded, look, sweep, sweep_deserted};
+pub use telling::{Marks, OwnMarks};

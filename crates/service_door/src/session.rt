@@ -1,8 +1,10 @@
 //! A session in the table.
 
-ghost use Rattle.std.specs.Prelude.{◌≡◌, ◌≤◌, ℕ, List, Err, IfOk, IfSome, IsTrue, OnErr, length};
+ghost use Rattle.std.specs.Prelude.{◌≡◌, ◌≤◌, ℕ, List, Err, IfOk, IfSome, OnErr, length};
+ghost use Rattle.service_door.specs.Sessions.{HasNobody, IsOver};
 
-use crate::marks::SharedMarks;
+use crate::marks::{Deserted, Ended, SharedMarks};
+use crate::telling::Marks;
 use gate_model::{Asked, Cause};
 use gate_outside::Bell;
 use id_table::{LockedShelf, Shelf};
@@ -40,7 +42,7 @@ impl Session {
     ghost use Rattle.shared_desk.specs.Called.{Called};
     ghost use Rattle.shared_desk.specs.Hosts.{JoinEnds};
     ghost use Rattle.service_door.specs.Doors.{GoesOn, IsStopped};
-    ghost use Rattle.service_door.specs.Sessions.{one_less, one_more};
+    ghost use Rattle.service_door.specs.Sessions.{is_deserted, may_leave, one_less, one_more};
 
     /// Lets a viewer join, by `HostPass::join`. Its place is then out.
     pub(crate) fn join<R: Wait>(
@@ -95,11 +97,11 @@ impl Session {
         self.host.spots()
     }
 
-    /// Whether the session may leave the table: its jobs have ended and no place of it is out.
-    pub fn is_over(&self) -> bool
-        ensures { IsTrue result → self.now.places ≡ 0 }
+    /// Whether the session may leave the table: its jobs have ended, as its marks said, and no place of it is out.
+    pub(crate) fn is_over(&self, ended: Ended) -> bool
+        ensures { result ≡ may_leave ended self.now.places }
     {
-        self.places == 0 && self.marks.have_both_ended()
+        self.places == 0 && ended.both()
     }
 
     /// Closes the session with Stopped, where it is open, and rings for all who wait for news of it.
@@ -133,11 +135,11 @@ impl Session {
         !self.spots().is_closed() && self.waiting() > MOST_OUTPUT
     }
 
-    // Whether nobody has been in the session at more than `most` looks in a row.
-    fn is_deserted(&self, most: u32) -> bool
-        ensures { IsTrue result → self.now.places ≡ 0 }
+    // Whether nobody is in the session, nor was at more than `most` looks in a row, as its marks said.
+    fn is_deserted(&self, deserted: Deserted, most: u32) -> bool
+        ensures { result ≡ is_deserted deserted most self.now.places }
     {
-        self.places == 0 && self.marks.is_deserted(most)
+        self.places == 0 && deserted.is_passed_over(most)
     }
 
     /// The number of entries that the session has.
@@ -149,11 +151,16 @@ impl Session {
     }
 }
 
-/// Takes out the session with the least ID among those that may leave the table.
-pub fn sweep<R: Wait>(rt: &R, sessions: &LockedShelf<Session>) -> Option<(Uuid, Session)>
-    ensures { IfSome result (λ r. r.1.places ≡ 0) }
+/// Takes out the session with the least ID among those that may leave the table: whose jobs have ended, as the marks
+/// told, and of which no place is out.
+pub fn sweep<R: Wait, M: Marks>(
+    rt: &R,
+    sessions: &LockedShelf<Session>,
+    marks: &M,
+) -> Option<(Uuid, Session)>
+    ensures { IfSome result (λ r. IsOver (M.tells_ended marks.now) r.1) }
 {
-    sessions.sweep(rt, |session| session.is_over())
+    sessions.sweep(rt, |session| session.is_over(marks.ended(session)))
 }
 
 /// Counts a look at each session, at which somebody is in it or not, and where `wakes` lets all look again who wait for
@@ -181,15 +188,18 @@ pub fn close_backlogged<R: Wait, B: Bell>(
 }
 
 /// Takes out the session with the least ID among those in which nobody has been at more than `most` looks in a row, or
-/// at one where nobody may join it.
-pub fn sweep_deserted<R: Wait>(
+/// at one where nobody may join it, as the marks told.
+pub fn sweep_deserted<R: Wait, M: Marks>(
     rt: &R,
     sessions: &LockedShelf<Session>,
     most: u32,
+    marks: &M,
 ) -> Option<(Uuid, Session)>
-    ensures { IfSome result (λ r. r.1.places ≡ 0) }
+    ensures { IfSome result (λ r. HasNobody (M.tells_deserted marks.now) most r.1) }
 {
-    sessions.sweep(rt, |session| session.is_deserted(most))
+    sessions.sweep(rt, |session| {
+        session.is_deserted(marks.deserted(session), most)
+    })
 }
 
 /// The least ID of a session whose recorder has ended before it, which is told once of each.

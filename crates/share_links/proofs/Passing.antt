@@ -1,17 +1,16 @@
 -- What passes through a door with links, in the words of the door inside it.
 use Rattle.std.proofs.Common.{◌≡◌, ℕ, List, Option, Some, None, Ok, Bool, true, false, refl, ap, sym, ◌∙◌, subst, inl, inr}
-use Rattle.std.specs.Prelude.{◌⊎◌, ◌&&◌, ◌||◌, if◌then◌else◌, Result, IfOk, IfSome, is_some}
+use Rattle.std.specs.Prelude.{◌⊎◌, ◌&&◌, ◌||◌, if◌then◌else◌, Result, IfSome, is_some}
 use Rattle.gate_model.specs.session.History.{History}
 use Rattle.gate_model.specs.declared.sharing.Asked.{Asked}
 use Rattle.gate_model.specs.declared.sharing.Asked.TheVariants.{Owner, Control, View, Keep}
-use Rattle.guac_handshake.specs.Doors.{KeepsIds, MeetsHistory, SameId, Sessions, at_name, logged}
+use Rattle.guac_handshake.specs.Doors.{KeepsIds, MeetsHistory, SameId, Sessions, at_name}
 use Rattle.guac_handshake.specs.Names.{id_of_name}
 use Rattle.guac_handshake.specs.declared.refused.Refused.{Refused}
 use Rattle.guac_handshake.specs.declared.request.Request.{Request}
-use Rattle.guac_handshake.specs.declared.request.Request.TheVariants.{Join}
 use Rattle.guac_handshake.specs.declared.welcome.Welcome.{Welcome}
 use Rattle.id_table.specs.Maps.{Map, Same, Told}
-use Rattle.share_links.specs.Doors.{HasName, Through, Uses, at_link, given_as, is_known_at, leads_there, role_through, session_of}
+use Rattle.share_links.specs.Doors.{Answers, HasName, Through, Uses, at_link, given_as, is_known_at, leads_there, role_through, session_of}
 use Rattle.share_links.specs.Links.{Leads, Spends, is_usable}
 use Rattle.share_links.specs.declared.link.Link.{Link}
 use Rattle.share_links.specs.declared.table.Spent.{Spent}
@@ -135,13 +134,9 @@ meets_at None role v w h = tt
 meets_at (Some None) role v w h = tt
 meets_at (Some (Some past)) role v w h = h
 
-pub meets_as : {P : Type 0} (name : Option (List ℕ)) (o : Option Sessions) (role : Asked) (v w : Welcome P) → IfSome o (λ now. MeetsHistory {A = Welcome P} (at_name name now) role (Ok v)) → IfSome o (λ now. MeetsHistory {A = Welcome P} (at_name name now) role (Ok w))
-meets_as name None role v w h = tt
-meets_as name (Some m) role v w h = meets_at (at_name name m) role v w h
-
--- a link that is there leads somewhere
-pub leads_some : {A : Type 0} (l : Option Link) (link : Link) → l ≡ Some link → Leads None l → A
-leads_some l link is leads = absurd (subst (λ (o : Option Link). Leads None o) is leads)
+pub met : (P : Type 0) (name : Option (List ℕ)) (o : Option Sessions) (role : Asked) (v w : Welcome P) → IfSome o (λ now. MeetsHistory {A = Welcome P} (at_name name now) role (Ok v)) → IfSome o (λ now. MeetsHistory {A = Welcome P} (at_name name now) role (Ok w))
+met P name None role v w h = tt
+met P name (Some m) role v w h = meets_at (at_name name m) role v w h
 
 module _ (P : Type 0) (id_of : List ℕ → Option (List ℕ)) (name : List ℕ) (role : Asked) (id : List ℕ) (m n : Map Link) (spent : Spent) (given : Asked) (asked before : Option (List Request)) (named : id_of_name name ≡ Some id) (s : Spends id true m n) (leads : Leads (Some spent) (n id)) (is : given ≡ role_through spent.control role) (still : before ≡ asked) where
   abbrev pub link_before : Link
@@ -156,16 +151,13 @@ module _ (P : Type 0) (id_of : List ℕ → Option (List ℕ)) (name : List ℕ)
   same_role : given ≡ role_through link_before.control role
   same_role = is ∙ ap (λ (b : Bool). role_through b role) (led.1 ∙ s.1.3.control)
 
-  asks_for : (now : Option (List Request)) (result : Result (Welcome P) Refused) → now ≡ logged before (Join spent.id.now given) result → now ≡ logged asked (Join link_before.id (role_through link_before.control role)) result
-  asks_for now result e =
-      e ∙ (ap (λ (l : Option (List Request)). logged l (Join spent.id.now given) result) still
-      ∙ (ap (λ (i : List ℕ). logged asked (Join i given) result) same_session ∙ ap (λ (r : Asked). logged asked (Join link_before.id r) result) same_role))
-
-  met_by : (o : Option Sessions) (result : Result (Welcome P) Refused) → IfSome o (λ now. MeetsHistory (at_name (id_of spent.id.now) now) given result) → IfSome o (λ now. MeetsHistory (at_name (id_of link_before.id) now) (role_through link_before.control role) result)
-  met_by o result h =
-      subst (λ (r : Asked). IfSome o (λ now. MeetsHistory (at_name (id_of link_before.id) now) r result)) same_role
-      (subst (λ (i : List ℕ). IfSome o (λ now. MeetsHistory (at_name (id_of i) now) given result)) same_session h)
-
-  pub through : (o : Option Sessions) (after : Map Link) (now : Option (List Request)) (result : Result (Welcome P) Refused) → Uses id result m after → now ≡ logged before (Join spent.id.now given) result → IfSome o (λ l. MeetsHistory (at_name (id_of spent.id.now) l) given result) → IfOk result (λ welcome. welcome.id ≡ name)
+  pub through : (o : Option Sessions) (after : Map Link) (now : Option (List Request)) (result : Result (Welcome P) Refused) → Uses id result m after → Answers id_of o spent.id.now name given before now result
       → Through id_of o name role id link_before m after asked now result
-  through o after now result used asks meets told = record { named = named; found = s.1.2; uses = used; asks = asks_for now result asks; history = met_by o result meets; told = told }
+  through o after now result used answers = record {
+    named = named;
+    found = s.1.2;
+    uses = used;
+    answers = subst (λ (l : Option (List Request)). Answers id_of o link_before.id name (role_through link_before.control role) l now result) still
+        (subst (λ (r : Asked). Answers id_of o link_before.id name r before now result) same_role
+        (subst (λ (i : List ℕ). Answers id_of o i name given before now result) same_session answers));
+  }

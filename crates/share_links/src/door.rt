@@ -99,8 +99,7 @@ impl<'a, D: Door> Door for LinkDoor<'a, D> {
         ensures starts { D.start_faults (inner_of self.new) ≡ D.start_faults (inner_of self.old) }
         ensures draws { D.draws (inner_of self.new) ≡ D.draws (inner_of self.old) }
         ensures out { D.out (inner_of self.new) ≡ D.out (inner_of self.old) }
-        ensures inner { self.new.inner.ghost_name ≡ self.old.inner.ghost_name }
-        ensures lent { self.new.links.ghost_name ≡ self.old.links.ghost_name }
+        ensures lent { (self.new.inner.ghost_name ≡ self.old.inner.ghost_name) × (self.new.links.ghost_name ≡ self.old.links.ghost_name) }
     {
         if self.inner.known(rt, name) {
             return true;
@@ -144,16 +143,13 @@ impl<'a, D: Door> Door for LinkDoor<'a, D> {
         role: Asked,
     ) -> Result<Welcome<D::Place>, Refused>
         ensures joins { (has : Bool) × HasName D.id_of (D.sessions (inner_of self.old)) name.now has × Joins has D.id_of (D.sessions (inner_of self.new)) name.now role (links_of (table_of self.old)) (links_of (table_of self.new)) (D.asked (inner_of self.old)) (D.asked (inner_of self.new)) result }
-        ensures granted { IfOk result (λ welcome. IsJoinedAs (D.joined (inner_of self.new)) role welcome) }
+        ensures welcome { IfOk result (λ welcome. (D.Place.fresh welcome.place welcome.first) × (D.id_of welcome.id ≡ D.id_of name.now) × IsJoinedAs (D.joined (inner_of self.new)) role welcome) }
         ensures kind { IfErr result IsJoinRefusal }
         ensures dials { D.dial_faults (inner_of self.new) ≡ D.dial_faults (inner_of self.old) }
         ensures starts { D.start_faults (inner_of self.new) ≡ D.start_faults (inner_of self.old) }
-        ensures fresh { IfOk result (λ welcome. D.Place.fresh welcome.place welcome.first) }
-        ensures same_id { IfOk result (λ welcome. D.id_of welcome.id ≡ D.id_of name.now) }
         ensures out { D.out (inner_of self.new) ≡ one_more_out result (D.out (inner_of self.old)) }
         ensures asked { logged None (join_request name.now role) result ≡ None }
-        ensures inner { self.new.inner.ghost_name ≡ self.old.inner.ghost_name }
-        ensures lent { self.new.links.ghost_name ≡ self.old.links.ghost_name }
+        ensures lent { (self.new.inner.ghost_name ≡ self.old.inner.ghost_name) × (self.new.links.ghost_name ≡ self.old.links.ghost_name) }
     {
         if self.inner.known(rt, name) {
             return self.inner.join(rt, alloc, name, role);
@@ -164,27 +160,29 @@ impl<'a, D: Door> Door for LinkDoor<'a, D> {
         if !self.links.is_usable(&link) {
             return Err(Refused::Absent);
         }
-        let told = copied(alloc, name)?;
         self.links.take_one(&link);
         let links = &*self.links;
-        let joined = match links.find(&link) {
-            Some(spent) => {
-                let role = role_through(spent.control, role);
-                self.inner.join(rt, alloc, spent.id, role)
-            }
-            None => Err(Refused::Absent),
+        let Some(spent) = links.find(&link) else {
+            return Err(Refused::Absent);
         };
-        match joined {
-            Ok(welcome) => Ok(Welcome {
-                id: told,
-                place: welcome.place,
-                first: welcome.first,
-            }),
-            Err(refused) => {
-                self.links.give_back(&link);
-                Err(refused)
-            }
-        }
+        let role = role_through(spent.control, role);
+        let refused = match self.inner.join(rt, alloc, spent.id, role) {
+            // The name is copied last, so that want of memory for it is told only where nothing else is refused.
+            Ok(welcome) => match copied(alloc, name) {
+                Ok(told) => return Ok(Welcome {
+                    id: told,
+                    place: welcome.place,
+                    first: welcome.first,
+                }),
+                Err(refused) => {
+                    self.inner.give(rt, spent.id, welcome.place);
+                    refused
+                }
+            },
+            Err(refused) => refused,
+        };
+        self.links.give_back(&link);
+        Err(refused)
     }
 
     fn give<R: Wait>(&mut self, rt: &R, id: &str, place: D::Place)
@@ -194,8 +192,7 @@ impl<'a, D: Door> Door for LinkDoor<'a, D> {
         ensures dials { D.dial_faults (inner_of self.new) ≡ D.dial_faults (inner_of self.old) }
         ensures starts { D.start_faults (inner_of self.new) ≡ D.start_faults (inner_of self.old) }
         ensures out { D.out (inner_of self.new) ≡ option_less (D.out (inner_of self.old)) }
-        ensures inner { self.new.inner.ghost_name ≡ self.old.inner.ghost_name }
-        ensures lent { self.new.links.ghost_name ≡ self.old.links.ghost_name }
+        ensures lent { (self.new.inner.ghost_name ≡ self.old.inner.ghost_name) × (self.new.links.ghost_name ≡ self.old.links.ghost_name) }
     {
         if self.inner.known(rt, id) {
             return self.inner.give(rt, id, place);

@@ -22,10 +22,10 @@ pub returns-in-Ok-clause-fresh : goal.returns-in-Ok-clause-fresh
 returns-in-Ok-clause-fresh g c = ready_fresh _ _ _ _ _ c.in-Ok.ensures.fresh c.ready.ensures.told
 
 pub returns-in-Err-clause-dial : goal.returns-in-Err-clause-dial
-returns-in-Err-clause-dial g c = λ e. c.in-Err.ensures.dial (ap (λ (r : Refused). Err r) (told_dial _ _ c.in-Err.refused _ _ c.status_of.ensures c.refuse.ensures.told e))
+returns-in-Err-clause-dial g c = λ e. c.in-Err.ensures.dials.0 (ap (λ (r : Refused). Err r) (told_dial _ _ c.in-Err.refused _ _ c.status_of.ensures c.refuse.ensures.told e))
 
 pub returns-in-Err-clause-busy : goal.returns-in-Err-clause-busy
-returns-in-Err-clause-busy g c = λ e. c.in-Err.ensures.busy (ap (λ (r : Refused). Err r) (told_busy _ _ c.in-Err.refused _ _ c.status_of.ensures c.refuse.ensures.told e))
+returns-in-Err-clause-busy g c = λ e. c.in-Err.ensures.starts.0 (ap (λ (r : Refused). Err r) (told_busy _ _ c.in-Err.refused _ _ c.status_of.ensures c.refuse.ensures.told e))
 
 pub returns-in-Err-clause-fresh : goal.returns-in-Err-clause-fresh
 returns-in-Err-clause-fresh g c = error_fresh _ _ _ _ _ c.refuse.ensures.told

@@ -1,4 +1,4 @@
-use Rattle.std.proofs.Common.{◌∙◌, ap, inl, inr, List, Option}
+use Rattle.std.proofs.Common.{◌∙◌, ap, inr, List, Option}
 use Rattle.guac_handshake.specs.Doors.{logged_for}
 use Rattle.guac_handshake.specs.declared.request.Request.{Request}
 use Rattle.guac_handshake.proofs.Refusing.{may_before}

@@ -4,10 +4,10 @@ use Rattle.guac_handshake.proofs.InMemory.{all_there, has_conflict, not_all_ther
 use Rattle.guac_handshake.proofs.memory.MemDoorDoor.open.Goals as goal
 
 pub returns-in-Err-Conflict-clause-conflict : goal.returns-in-Err-Conflict-clause-conflict
-returns-in-Err-Conflict-clause-conflict g c = λ is. has_conflict (held c.args.self.now.ids) _ _ _ c.in-Err-Conflict.field-0-is c.in-Err-Conflict.ensures.conflict
+returns-in-Err-Conflict-clause-conflict g c = (
+  λ is. has_conflict (held c.args.self.now.ids) _ _ _ c.in-Err-Conflict.field-0-is c.in-Err-Conflict.ensures.conflict,
+  all_there (held c.args.self.now.ids) _ _ _ c.in-Err-Conflict.field-0-is c.in-Err-Conflict.ensures.conflict (λ n. listed_draw c.args.self.now.dice.listed.items c.args.self.now.dice.at n) c.in-Err-Conflict.ensures.drawn,
+)
 
-pub returns-in-Err-Conflict-clause-exact : goal.returns-in-Err-Conflict-clause-exact
-returns-in-Err-Conflict-clause-exact g c = all_there (held c.args.self.now.ids) _ _ _ c.in-Err-Conflict.field-0-is c.in-Err-Conflict.ensures.conflict (λ n. listed_draw c.args.self.now.dice.listed.items c.args.self.now.dice.at n) c.in-Err-Conflict.ensures.drawn
-
-pub returns-in-Ok-name_of-clause-exact : goal.returns-in-Ok-name_of-clause-exact
-returns-in-Ok-name_of-clause-exact g c = not_all_there (held c.args.self.now.ids) (λ n. listed_draw c.args.self.now.dice.listed.items c.args.self.now.dice.at n) _ c.in-Ok-add.ensures.first
+pub returns-in-Ok-name_of-clause-conflict : goal.returns-in-Ok-name_of-clause-conflict
+returns-in-Ok-name_of-clause-conflict g c = (λ e. cc, not_all_there (held c.args.self.now.ids) (λ n. listed_draw c.args.self.now.dice.listed.items c.args.self.now.dice.at n) _ c.in-Ok-add.ensures.first)

@@ -7,7 +7,7 @@ use Rattle.guac_handshake.specs.declared.welcome.Welcome.{Welcome}
 use Rattle.shared_desk.specs.declared.place.Place.{Place}
 use Rattle.service_door.specs.Doors.{JoinLeaves}
 use Rattle.service_door.proofs.Tables.{not_lent}
-use Rattle.service_door.proofs.Lending.{lent, miss_both, miss_history, miss_keeps, miss_there, miss_unlent, misses, swap_both, swap_history, swap_joined, swap_keeps, swap_there, swap_unlent, swaps, same_name, untold_asked, untold_out}
+use Rattle.service_door.proofs.Lending.{all_of, lent, miss_both, miss_history, miss_keeps, miss_there, miss_unlent, misses, swap_both, swap_history, swap_joined, swap_keeps, swap_there, swap_unlent, swaps, same_name, untold_asked, untold_out}
 use Rattle.service_door.proofs.door.ServiceDoorDoor.join.Goals as goal
 
 pub lend-requires : goal.lend-requires
@@ -46,14 +46,11 @@ returns-clause-history g c = swap_history (g.T.Shelf.told c.args.self.now.sessio
 pub returns-clause-joined : goal.returns-clause-joined
 returns-clause-joined g c = swap_both (g.T.Shelf.told c.args.self.now.sessions.now) (g.T.Shelf.told c.back.new.self) (id_of_name c.args.name.now) c.in-Some.key c.in-Some-lend.session c.welcome-joined.new.session (JoinLeaves c.args.role c.welcome-joined.result) (sym c.in-Some.ensures) (swaps (g.T.Shelf.told c.args.self.now.sessions.now) (g.T.Shelf.told c.lend.new.self) (g.T.Shelf.told c.back.new.self) c.in-Some.key c.in-Some-lend.session c.welcome-joined.new.session c.in-Some-lend.ensures c.back.ensures) c.welcome-joined.ensures.leaves
 
-pub returns-clause-same_id : goal.returns-clause-same_id
-returns-clause-same_id g c = same_name _ c.in-Some.key c.welcome-joined.result c.in-Some.ensures c.welcome-joined.ensures.id
-
 pub returns-clause-out : goal.returns-clause-out
 returns-clause-out g c = untold_out c.welcome-joined.result
 
 pub returns-clause-asked : goal.returns-clause-asked
 returns-clause-asked g c = untold_asked (join_request c.args.name.now c.args.role) c.welcome-joined.result
 
-pub returns-clause-granted : goal.returns-clause-granted
-returns-clause-granted g c = swap_joined (g.T.Shelf.told c.args.self.now.sessions.now) (g.T.Shelf.told c.back.new.self) c.in-Some.key c.in-Some-lend.session c.welcome-joined.new.session c.args.role c.welcome-joined.result (swaps (g.T.Shelf.told c.args.self.now.sessions.now) (g.T.Shelf.told c.lend.new.self) (g.T.Shelf.told c.back.new.self) c.in-Some.key c.in-Some-lend.session c.welcome-joined.new.session c.in-Some-lend.ensures c.back.ensures) c.welcome-joined.ensures.id c.welcome-joined.ensures.leaves
+pub returns-clause-welcome : goal.returns-clause-welcome
+returns-clause-welcome g c = all_of _ _ _ c.welcome-joined.result c.welcome-joined.ensures.fresh (same_name _ c.in-Some.key c.welcome-joined.result c.in-Some.ensures c.welcome-joined.ensures.id) (swap_joined (g.T.Shelf.told c.args.self.now.sessions.now) (g.T.Shelf.told c.back.new.self) c.in-Some.key c.in-Some-lend.session c.welcome-joined.new.session c.args.role c.welcome-joined.result (swaps (g.T.Shelf.told c.args.self.now.sessions.now) (g.T.Shelf.told c.lend.new.self) (g.T.Shelf.told c.back.new.self) c.in-Some.key c.in-Some-lend.session c.welcome-joined.new.session c.in-Some-lend.ensures c.back.ensures) c.welcome-joined.ensures.id c.welcome-joined.ensures.leaves)
