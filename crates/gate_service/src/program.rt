@@ -3,7 +3,7 @@
 ghost use Rattle.std.specs.Prelude.{◌≡◌, ◌≤◌, ◌⊎◌, IfSome, None, map, option_map, string_bytes};
 ghost use Rattle.gate_outside.specs.Edge.{Rose};
 ghost use Rattle.gate_script.specs.Outcomes.{Outcome, Ran};
-ghost use Rattle.gate_service.specs.Program.{HasRun, HasServed, IsCaused};
+ghost use Rattle.gate_service.specs.Program.{IsCommandStatus, IsServeStatus, IsStatusCaused};
 ghost use Rattle.gate_service.specs.Words.{behind_serve};
 
 use crate::service::serve;
@@ -45,13 +45,13 @@ where
     F: Sink,
     N: Net,
     L: Log + Copy + Send + Drop + 'static,
-    ensures served { IfSome (behind_serve (map string_bytes words.now)) (λ options. HasServed options (host.new.net ≡ host.old.net) result ×
+    ensures served { IfSome (behind_serve (map string_bytes words.now)) (λ options. IsServeStatus options (host.new.net ≡ host.old.net) result ×
         ((host.new.source ≡ host.old.source) × (host.new.answers ≡ host.old.answers) × (host.new.frames ≡ host.old.frames))) }
-    ensures ran { behind_serve (map string_bytes words.now) ≡ None → HasRun (map string_bytes words.now)
+    ensures ran { behind_serve (map string_bytes words.now) ≡ None → IsCommandStatus (map string_bytes words.now)
         ((S.left host.new.source ≡ S.left host.old.source) × (A.written host.new.answers ≡ A.written host.old.answers) × (F.written host.new.frames ≡ F.written host.old.frames))
         (λ form. Ran (S.left host.old.source) (S.left host.new.source) (A.written host.old.answers) (A.written host.new.answers) (F.written host.old.frames) (F.written host.new.frames) (Outcome result form (S.left host.new.source)))
         result × (host.new.net ≡ host.old.net) }
-    ensures cause { IsCaused (Rose (S.faults host.old.source) (S.faults host.new.source)) (Rose (A.faults host.old.answers) (A.faults host.new.answers) ⊎ Rose (F.faults host.old.frames) (F.faults host.new.frames)) (Rose (N.net_faults host.old.net) (N.net_faults host.new.net)) result }
+    ensures cause { IsStatusCaused (Rose (S.faults host.old.source) (S.faults host.new.source)) (Rose (A.faults host.old.answers) (A.faults host.new.answers) ⊎ Rose (F.faults host.old.frames) (F.faults host.new.frames)) (Rose (N.net_faults host.old.net) (N.net_faults host.new.net)) result }
     ensures later { (S.faults host.old.source ≤ S.faults host.new.source) × (A.faults host.old.answers ≤ A.faults host.new.answers) × (F.faults host.old.frames ≤ F.faults host.new.frames) × (N.net_faults host.old.net ≤ N.net_faults host.new.net) }
 {
     match behind_serve(words) {

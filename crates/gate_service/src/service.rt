@@ -2,7 +2,7 @@
 
 ghost use Rattle.std.specs.Prelude.{◌≡◌, ◌≤◌, ◌⊎◌, map, string_bytes};
 ghost use Rattle.gate_outside.specs.Edge.{Rose};
-ghost use Rattle.gate_service.specs.Program.{HasServed};
+ghost use Rattle.gate_service.specs.Program.{IsServeStatus};
 
 use crate::accepting::Service;
 use crate::jobs::Links;
@@ -44,7 +44,7 @@ where
     R: Threads + Wait + Copy + Send + Sync + Drop + 'static,
     N: Net,
     L: Log + Copy + Send + Drop + 'static,
-    ensures served { HasServed (map string_bytes words.now) (net.new ≡ net.old) result }
+    ensures served { IsServeStatus (map string_bytes words.now) (net.new ≡ net.old) result }
     ensures net_fault { result ≡ 8 → Rose (N.net_faults net.old) (N.net_faults net.new) }
     ensures later { N.net_faults net.old ≤ N.net_faults net.new }
 {
