@@ -10,8 +10,6 @@ mod keys;
 mod pasted;
 mod paster;
 mod source;
-#[cfg(test)]
-mod tests;
 mod waiting;
 mod wish;
 

@@ -11,9 +11,6 @@ ghost use Rattle.http_front.specs.Moved.{Moved};
 ghost use Rattle.fetch_site.specs.Fields.{IsForeign};
 ghost use Rattle.fetch_site.specs.declared.Front.TheVariants.{Fault};
 
-#[cfg(test)]
-mod tests;
-
 use gate_model::NoMemory;
 use gate_outside::{Failed, Source};
 use httparse::Status;

@@ -10,8 +10,6 @@ mod answering;
 mod asking;
 mod file;
 mod judging;
-#[cfg(test)]
-mod tests;
 
 pub use answering::answer;
 pub use asking::{file_at, is_known};

@@ -12,8 +12,6 @@ mod command;
 mod format;
 mod names;
 mod options;
-#[cfg(test)]
-mod tests;
 mod texts;
 mod values;
 
