@@ -7,6 +7,7 @@ use anyhow::{Context, Result, bail};
 use ecma_parser::Parser;
 use gate_model::{Control, Shown};
 use std::alloc::Global;
+use try_words::is_size;
 use vt_screen::Screen;
 
 /// A parser of the host's bytes and the screen that they change.
@@ -19,7 +20,7 @@ pub struct Terminal {
 impl Terminal {
     /// One that has heard nothing.
     pub fn new(alloc: Global, cols: u16, rows: u16) -> Result<Terminal> {
-        if cols < 1 || 512 < cols || rows < 1 || 256 < rows {
+        if !is_size(cols, rows) {
             bail!("no size");
         }
         let screen = Screen::new(alloc, cols, rows).ok().context("no memory")?;
@@ -31,7 +32,7 @@ impl Terminal {
 
     /// Gives the screen another size.
     pub fn resize(&mut self, alloc: Global, cols: u16, rows: u16) -> Result<()> {
-        if cols < 1 || 512 < cols || rows < 1 || 256 < rows {
+        if !is_size(cols, rows) {
             bail!("no size");
         }
         self.screen

@@ -11,6 +11,7 @@ use gate_model::{Key, Shown};
 use glyph_cache::Cache;
 use std::alloc::Global;
 use try_canvases::play_all;
+use try_words::is_size;
 
 /// What the viewer was drawn last, the glyph buffers, and the canvas on which all frames were played.
 #[derive(Drop)]
@@ -117,8 +118,7 @@ fn go_on(
 fn is_sized(shown: &Shown) -> bool
     ensures { IsTrue result → IsScreenSize shown.now.cols shown.now.rows }
 {
-    let (cols, rows) = (shown.cols(), shown.rows());
-    1 <= cols && cols <= 512 && 1 <= rows && rows <= 256
+    is_size(shown.cols(), shown.rows())
 }
 
 fn are_coloured(keys: &[Key]) -> bool

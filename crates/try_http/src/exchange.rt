@@ -4,7 +4,7 @@ use crate::service::Service;
 use anyhow::{Context, Result};
 use gate_model::Bytes;
 use gate_outside::{MemSink, MemSource};
-use http_front::{Incoming, Response, read_request, write_response};
+use http_front::{Incoming, Refusal, Response, code_beside, read_request, write_response};
 use std::alloc::Global;
 use std::sync::Wait;
 use std::thread::Threads;
@@ -50,8 +50,8 @@ fn response_to<R: Threads + Wait + Copy + Send + 'static>(
     let mut room = Vec::new(alloc);
     match read_request(alloc, source, &mut room) {
         Incoming::Whole(request) => Some(service.answer(rt, alloc, &request)),
-        Incoming::Refused(status) => Some(refusal(alloc, status, 768)),
-        Incoming::NoMemory => Some(refusal(alloc, 500, 512)),
+        Incoming::Refused(status) => Some(refusal(alloc, status)),
+        Incoming::NoMemory => Some(Response::of(alloc, Err(Refusal::NoMemory))),
         Incoming::Ended | Incoming::ReadFault => None,
     }
 }
@@ -61,10 +61,10 @@ fn whole(alloc: Global, response: Response) -> Result<Option<Answered>> {
     Ok(Some(Answered { response, text }))
 }
 
-fn refusal(alloc: Global, status: u16, code: u16) -> Response {
+fn refusal(alloc: Global, status: u16) -> Response {
     Response {
         status,
-        code,
+        code: code_beside(status).unwrap_or(0),
         body: Bytes::of(Vec::new(alloc)),
     }
 }

@@ -1,6 +1,5 @@
 //! Tunnels to one session.
 
-use crate::desks::DeskDoor;
 use anyhow::{Context, Result};
 use gate_outside::{MemBell, MemDice};
 use http_front::{Request, Response};
@@ -9,6 +8,7 @@ use id_table::LockedShelf;
 use std::alloc::Global;
 use std::sync::Wait;
 use std::thread::Threads;
+use try_doors::{NAME, OneDoor};
 
 // The bytes 10 to 1f, which every draw of a tunnel's ID gives.
 const DRAW: [u8; 16] = [
@@ -19,7 +19,7 @@ const DRAW: [u8; 16] = [
 #[derive(Drop)]
 pub struct Service {
     pub tunnels: LockedShelf<Tunnel>,
-    pub door: DeskDoor,
+    pub door: OneDoor,
     dice: MemDice,
     bell: MemBell,
 }
@@ -31,7 +31,7 @@ impl Service {
         let tunnels = LockedShelf::new(alloc).ok().context("no memory")?;
         Ok(Service {
             tunnels,
-            door: DeskDoor::new(entries),
+            door: OneDoor::new(NAME, entries),
             dice,
             bell: MemBell::new(),
         })
@@ -42,7 +42,7 @@ impl Service {
         let dice = dice(alloc)?;
         Ok(Service {
             tunnels: tunnels.another(),
-            door: DeskDoor::new(0),
+            door: OneDoor::new(NAME, 0),
             dice,
             bell: MemBell::new(),
         })

@@ -1,7 +1,5 @@
 //! Requests for tunnels, in turn.
 
-use crate::bytes::from_last;
-use crate::desks::Opens;
 use crate::exchange::{Answered, exchange};
 use crate::service::Service;
 use anyhow::{Context, Result};
@@ -9,7 +7,8 @@ use std::alloc::Global;
 use std::str;
 use std::sync::Wait;
 use std::thread::Threads;
-use try_words::{bytes_of, push_escaped};
+use try_doors::Opens;
+use try_words::{bytes_of, from_last, push_escaped};
 
 // How many entries a session has room for, and a short one: its start, its first join and one feed.
 const ENTRIES: u64 = 1 << 40;
@@ -95,9 +94,9 @@ fn begin<R: Threads + Wait + Copy + Send + 'static>(
     Ok(())
 }
 
-// `say` is a byte that the host says, `sent` what it is sent, `given` how many places went back to the door; `close`
-// and `fill` act on the session, `forget` takes it from the door, and from `undialed` or `unstarted` on no host is
-// reached or no job starts. Anything else is a request.
+// `say` is a byte that the host says, which a full or closed session refuses, `sent` what it is sent, `given` how many
+// places went back to the door; `close` and `fill` act on the session, `forget` takes it from the door, and from
+// `undialed` or `unstarted` on no host is reached or no job starts. Anything else is a request.
 fn take<R: Threads + Wait + Copy + Send + 'static>(
     rt: &R,
     alloc: Global,
@@ -107,7 +106,7 @@ fn take<R: Threads + Wait + Copy + Send + 'static>(
     text: &mut String,
 ) -> Result<()> {
     match step {
-        "say" => service.door.session()?.say(rt, alloc, b'A'),
+        "say" => drop(service.door.session()?.say(rt, alloc, b'A')),
         "close" => service.door.session()?.close(rt),
         "fill" => service.door.session()?.fill(rt, alloc),
         "forget" => drop(service.door.forget()),

@@ -1,8 +1,6 @@
 //! Requests of random bytes: some of the tunnel's own, some changed at a few places, and some of any bytes.
 
-use crate::bytes::split_at_first;
 use crate::exchange::exchange;
-use crate::random::Random;
 use crate::service::Service;
 use crate::steps::begun;
 use anyhow::{Context, Result};
@@ -10,7 +8,7 @@ use std::alloc::Global;
 use std::str;
 use std::sync::Wait;
 use std::thread::Threads;
-use try_words::numbers;
+use try_words::{Random, numbers, split_at_first};
 
 static METHODS: [&[u8]; 6] = [b"GET ", b"GET ", b"POST ", b"POST ", b"PUT ", b"G@T "];
 

@@ -1,7 +1,5 @@
 //! Two reads of one tunnel at once.
 
-use crate::bytes::split_at_first;
-use crate::desks::Session;
 use crate::exchange::exchange;
 use crate::service::Service;
 use crate::steps::{begun, request_of};
@@ -12,6 +10,8 @@ use std::alloc::Global;
 use std::str;
 use std::sync::Wait;
 use std::thread::{Threads, for_each_mut};
+use try_doors::Session;
+use try_words::split_at_first;
 
 // How many threads there may be at once.
 const THREADS: usize = 3;
@@ -117,7 +117,7 @@ fn work<R: Threads + Wait + Copy + Send + 'static>(rt: &R, alloc: Global, part: 
     match part {
         Part::Host(session, letters) => {
             for _ in 0..*letters {
-                session.say(rt, alloc, b'A');
+                let _ = session.say(rt, alloc, b'A');
             }
         }
         Part::Reader(tunnels, text) => {

@@ -3,7 +3,6 @@
 #![tactic(auto)]
 
 mod closing_bell;
-mod door;
 mod lagging;
 mod links;
 mod nines;

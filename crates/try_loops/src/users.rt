@@ -1,15 +1,16 @@
 //! An intake, an outlet and a whole connection of a viewer, over ends in memory.
 
-use crate::door::OneDoor;
 use crate::links::{sent, sink};
 use crate::nines::Nines;
 use anyhow::{Context, Result, bail};
-use gate_model::{Asked, Bytes, Cause};
+use gate_model::limits::MOST_ENTRIES;
+use gate_model::{Asked, Bytes, Cause, Share};
 use gate_outside::{MemBell, MemSink, MemSource};
 use shared_desk::{HostPass, Place, ReadRefusal};
 use std::alloc::Global;
 use std::sync::Wait;
 use std::thread::Threads;
+use try_doors::{OneDoor, Session};
 use try_sessions::{Screen, joined, opened};
 use user_serve::{IntakeEnd, OutletEnd, UserEnd, intake, outlet, serve_user};
 
@@ -21,9 +22,12 @@ const REST: &[u8] = b"3.key,2.97,1.1;3.key,2.9";
 
 const MORE: &[u8] = b"8,1.1;10.disconnect;3.key,2.99,1.1;";
 
+/// The name of the session behind the door.
+pub const HERE: &str = "$here";
+
 /// A viewer's greeting (the Guacamole manual, "The Guacamole protocol"), and then a key.
 pub const VISIT: &[u8] =
-    b"6.select,4.here;7.connect,13.VERSION_1_1_0,0.;3.key,2.97,1.1;10.disconnect;";
+    b"6.select,5.$here;7.connect,13.VERSION_1_1_0,0.;3.key,2.97,1.1;10.disconnect;";
 
 // A viewer that asks for another session.
 const AWAY: &[u8] = b"6.select,5.there;";
@@ -174,23 +178,34 @@ fn behind(alloc: Global, written: &[u8], front: &[u8]) -> Result<String> {
     }
 }
 
+/// A door to a session that others may control.
+pub fn door(alloc: Global) -> Result<OneDoor> {
+    let session = Session::new(alloc, Share::Control, MOST_ENTRIES)?;
+    Ok(OneDoor::with(HERE, session))
+}
+
+/// How a connection ends on which these bytes come, nine at once.
+pub fn end_of<R>(
+    rt: &R,
+    alloc: Global,
+    bytes: &[u8],
+    sink: &mut MemSink,
+    door: &mut OneDoor,
+) -> Result<UserEnd>
+where
+    R: Threads + Wait + Copy + Send + Sync + 'static,
+{
+    let mut source = MemSource::new(bytes.to_vec(alloc)?, 9, [0u64].to_vec(alloc)?);
+    Ok(serve_user(rt, alloc, &mut source, sink, door, &MemBell::new()))
+}
+
 /// A whole connection: how its loops ended, and whether the viewer was written the answers of a greeting first.
 pub fn visited<R>(rt: &R, alloc: Global) -> Result<String>
 where
     R: Threads + Wait + Copy + Send + Sync + 'static,
 {
-    let mut source = MemSource::new(VISIT.to_vec(alloc)?, 9, [0u64].to_vec(alloc)?);
     let mut sink = sink(alloc, ROOM, 11, 0)?;
-    let mut door = OneDoor::new(opened(alloc, Screen::Small)?);
-    let end = serve_user(
-        rt,
-        alloc,
-        &mut source,
-        &mut sink,
-        &mut door,
-        &MemBell::new(),
-    );
-    let UserEnd::Served(visit) = end else {
+    let UserEnd::Served(visit) = end_of(rt, alloc, VISIT, &mut sink, &mut door(alloc)?)? else {
         bail!("not served");
     };
     let (intake, outlet) = (visit.intake, visit.outlet);
@@ -204,18 +219,8 @@ pub fn turned_away<R>(rt: &R, alloc: Global) -> Result<String>
 where
     R: Threads + Wait + Copy + Send + Sync + 'static,
 {
-    let mut source = MemSource::new(AWAY.to_vec(alloc)?, 9, [0u64].to_vec(alloc)?);
     let mut sink = sink(alloc, ROOM, 11, 0)?;
-    let mut door = OneDoor::new(opened(alloc, Screen::Small)?);
-    let end = serve_user(
-        rt,
-        alloc,
-        &mut source,
-        &mut sink,
-        &mut door,
-        &MemBell::new(),
-    );
-    let UserEnd::Refused(status) = end else {
+    let UserEnd::Refused(status) = end_of(rt, alloc, AWAY, &mut sink, &mut door(alloc)?)? else {
         bail!("not refused");
     };
     Ok(format!(in alloc; "{status}")?)

@@ -1,18 +1,16 @@
 //! A connection of a viewer, of whose writes one fails.
 
-use crate::door::OneDoor;
 use crate::links::sink;
-use crate::users::VISIT;
-use anyhow::{Context, Result, bail};
+use crate::users::{HERE, VISIT, door, end_of};
+use anyhow::{Result, bail};
 use gate_model::Asked;
-use gate_outside::{MemBell, MemSource};
 use guac_handshake::Door;
-use shared_desk::{LinkPass, ReadAnswer, ReaderPass};
+use shared_desk::{ReadAnswer, ReaderPass};
 use std::alloc::Global;
 use std::sync::Wait;
 use std::thread::Threads;
-use try_sessions::{Screen, joined, opened};
-use user_serve::{IntakeEnd, OutletEnd, UserEnd, Visit, serve_user};
+use try_doors::OneDoor;
+use user_serve::{IntakeEnd, OutletEnd, UserEnd, Visit};
 
 // More runs than a visit has writes.
 const MOST: u64 = 1000;
@@ -123,10 +121,10 @@ fn run<R>(rt: &R, alloc: Global, fail: u64) -> Result<Outcome>
 where
     R: Threads + Wait + Copy + Send + Sync + 'static,
 {
-    let (mut door, mut link, mut reader) = watched(rt, alloc)?;
-    feed(rt, alloc, &mut link, b"\r")?;
+    let (mut door, mut reader) = watched(rt, alloc)?;
+    door.session()?.say(rt, alloc, b'\r')?;
     let (end, answers) = visit(rt, alloc, &mut door, fail)?;
-    feed(rt, alloc, &mut link, b"A")?;
+    door.session()?.say(rt, alloc, b'A')?;
     Ok(Outcome {
         end,
         answers,
@@ -136,20 +134,13 @@ where
 }
 
 // The door of a session that another viewer reads.
-fn watched<R: Wait>(rt: &R, alloc: Global) -> Result<(OneDoor, LinkPass, ReaderPass)> {
-    let mut host = opened(alloc, Screen::Small)?;
-    let (link, _sender) = host.link().context("no link")?;
-    let Ok((other, _first)) = joined(rt, alloc, &mut host, Asked::Owner) else {
+fn watched<R: Wait>(rt: &R, alloc: Global) -> Result<(OneDoor, ReaderPass)> {
+    let mut door = door(alloc)?;
+    let Ok(other) = door.join(rt, alloc, HERE, Asked::Owner) else {
         bail!("not joined");
     };
-    Ok((OneDoor::new(host), link, other.reader))
-}
-
-fn feed<R: Wait>(rt: &R, alloc: Global, link: &mut LinkPass, piece: &[u8; 1]) -> Result<()> {
-    if link.feed(rt, alloc, piece, 0).is_err() {
-        bail!("not fed");
-    }
-    Ok(())
+    let place = other.place;
+    Ok((door, place.reader))
 }
 
 // Whether a read gives all through the sync of the second feed.
@@ -173,9 +164,8 @@ fn visit<R>(rt: &R, alloc: Global, door: &mut OneDoor, fail: u64) -> Result<(End
 where
     R: Threads + Wait + Copy + Send + Sync + 'static,
 {
-    let mut source = MemSource::new(VISIT.to_vec(alloc)?, 9, [0u64].to_vec(alloc)?);
     let mut sink = sink(alloc, ROOM, PIECE, fail)?;
-    let end = serve_user(rt, alloc, &mut source, &mut sink, door, &MemBell::new());
+    let end = end_of(rt, alloc, VISIT, &mut sink, door)?;
     let answers = answers(sink.written());
     Ok((ended(rt, door, end)?, answers))
 }

@@ -8,7 +8,9 @@ use anyhow::{Context, Result, bail};
 use desk_core::{Answer, Desk, Event, JoinRefusal, NoMemory, Setup};
 use gate_model::{Act, Acts, Asked, Bytes, Cause, Faces, Role, Share, Text};
 use std::alloc::Global;
-use try_words::{asked_of, bytes_of, first_word, push_escaped, push_hexadecimal, share_of, size};
+use try_words::{
+    asked_of, bytes_of, first_word, is_size, push_escaped, push_hexadecimal, share_of, size,
+};
 
 /// The answers to calls, which stand apart by `; ` behind the share mode and the entries that the session
 /// may have; then how many entries there are, the newest stamp, how many bytes wait for the host, and the
@@ -142,7 +144,7 @@ fn size_of(words: &str) -> Result<Event>
     let (viewer, words) = first_word(words);
     let viewer = viewer.parse::<u32>()?;
     let (cols, rows, _end) = size(words)?;
-    if cols < 1 || 512 < cols || rows < 1 || 256 < rows {
+    if !is_size(cols, rows) {
         bail!("no size");
     }
     Ok(Event::Resize { viewer, cols, rows })

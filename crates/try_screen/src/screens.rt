@@ -1,14 +1,13 @@
 //! What a screen shows after bytes of the host, and what it reports.
 
-ghost use Rattle.std.specs.Prelude.{IfSome, IsTrue};
-ghost use Rattle.gate_model.specs.terminal.Sizes.{IsScreenSize};
+ghost use Rattle.std.specs.Prelude.{IfSome};
 ghost use Rattle.gate_model.specs.terminal.Controls.{HasFewParameters};
 
 use anyhow::{Context, Result, bail};
 use ecma_parser::Parser;
 use gate_model::{Control, Faces, Shown};
 use std::alloc::Global;
-use try_words::{bytes_of, push_escaped, size};
+use try_words::{bytes_of, is_size, push_escaped, size};
 use vt_screen::Screen;
 
 // A screen of the start.
@@ -24,12 +23,6 @@ fn open_with(alloc: Global, faces: Faces, cols: u16, rows: u16) -> Result<Screen
     Screen::with_faces(alloc, faces, cols, rows)
         .ok()
         .context("no memory")
-}
-
-fn is_size(cols: u16, rows: u16) -> bool
-    ensures { IsTrue result → IsScreenSize cols rows }
-{
-    1 <= cols && cols <= 512 && 1 <= rows && rows <= 256
 }
 
 // Applies the control functions of the bytes, and appends the reports.

@@ -3,7 +3,7 @@
 use crate::row::{Ends, Row};
 use crate::turns::{LineSink, LineSource, Tally};
 use anyhow::{Result, anyhow};
-use gate_outside::{MemSink, MemSource};
+use gate_outside::{MemSink, MemSource, Sink};
 use gate_script::command;
 use std::alloc::Global;
 use std::cell::Cell;
@@ -35,25 +35,31 @@ pub fn difference(alloc: Global, row: &Row) -> Result<Option<String>> {
 
 /// What a run of the row over these ends gives.
 pub fn run_row(alloc: Global, row: &Row, ends: Ends) -> Result<Given> {
+    let mut frames = sink(alloc, FRAMES_ROOM, ends.frames_piece, ends.frames)?;
+    let (status, answers) = run_into(alloc, row, ends, &mut frames)?;
+    Ok(Given {
+        status,
+        answers,
+        frames: frames.written().to_vec(alloc)?,
+    })
+}
+
+// The status and the answers of a run of the row over these ends, whose frames go to this sink.
+fn run_into<F: Sink>(
+    alloc: Global,
+    row: &Row,
+    ends: Ends,
+    frames: &mut F,
+) -> Result<(u8, Vec<u8>)> {
     let mut source = MemSource::new(
         row.input.to_vec(alloc)?,
         ends.piece.max(1),
         [ends.source].to_vec(alloc)?,
     );
     let mut answers = sink(alloc, ANSWERS_ROOM, ends.answers_piece, ends.answers)?;
-    let mut frames = sink(alloc, FRAMES_ROOM, ends.frames_piece, ends.frames)?;
-    let status = command(
-        alloc,
-        row.words.as_slice(),
-        &mut source,
-        &mut answers,
-        &mut frames,
-    );
-    Ok(Given {
-        status,
-        answers: answers.written().to_vec(alloc)?,
-        frames: frames.written().to_vec(alloc)?,
-    })
+    let words = row.words.as_slice();
+    let status = command(alloc, words, &mut source, &mut answers, frames);
+    Ok((status, answers.written().to_vec(alloc)?))
 }
 
 /// What was given, where it isn't what the row has to give.
@@ -100,24 +106,11 @@ fn twice(alloc: Global, row: &Row) -> Result<Option<String>> {
 
 // What a run of the row gives.
 fn run_once(alloc: Global, row: &Row) -> Result<Tallied> {
-    let ends = row.ends;
-    let mut source = MemSource::new(
-        row.input.to_vec(alloc)?,
-        ends.piece.max(1),
-        [ends.source].to_vec(alloc)?,
-    );
-    let mut answers = sink(alloc, ANSWERS_ROOM, ends.answers_piece, ends.answers)?;
     let mut frames = Tally { count: 0, sum: 0 };
-    let status = command(
-        alloc,
-        row.words.as_slice(),
-        &mut source,
-        &mut answers,
-        &mut frames,
-    );
+    let (status, answers) = run_into(alloc, row, row.ends, &mut frames)?;
     Ok(Tallied {
         status,
-        answers: answers.written().to_vec(alloc)?,
+        answers,
         frames,
     })
 }

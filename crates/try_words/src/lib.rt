@@ -6,7 +6,11 @@ mod marks;
 mod random;
 mod rows;
 
+ghost use Rattle.std.specs.Prelude.{IsTrue};
+ghost use Rattle.gate_model.specs.terminal.Sizes.{IsScreenSize};
+
 use anyhow::{Context, Result, bail};
+use gate_model::limits::{MOST_COLUMNS, MOST_ROWS};
 use gate_model::{Asked, Share};
 pub use marks::{from_last, split_at_first};
 pub use random::Random;
@@ -35,7 +39,14 @@ pub fn first_word(text: &str) -> (&str, &str) {
     text.split_once(' ').unwrap_or((text, ""))
 }
 
-/// A size of 1 to 512 columns and 1 to 256 rows, and what stands after it.
+/// Whether a screen may have this size.
+pub fn is_size(cols: u16, rows: u16) -> bool
+    ensures { IsTrue result → IsScreenSize cols rows }
+{
+    1 <= cols && cols <= MOST_COLUMNS && 1 <= rows && rows <= MOST_ROWS
+}
+
+/// Columns and rows, and what stands after them.
 pub fn size(text: &str) -> Result<(u16, u16, &str)> {
     let (cols, rest) = first_word(text);
     let (rows, rest) = first_word(rest);

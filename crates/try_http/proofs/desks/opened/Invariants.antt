@@ -1,4 +1,0 @@
-use Rattle.try_http.proofs.desks.opened.Given as goal
-
-abbrev pub ghosts-share : goal.ghosts-share
-ghosts-share a = record { list = a.desk.past }
