@@ -1,22 +1,15 @@
 // When a session is told the size of a window, with a clock that isn't real.
 import assert from 'node:assert/strict';
 import test from 'node:test';
-import { module } from './page.mjs';
+import { clock, module } from './page.mjs';
 
 const { Follow } = await module('follow');
 const [SMALL, MIDDLE, LARGE] = [[80, 24], [100, 30], [132, 50]].map(([columns, rows]) => ({ columns, rows }));
 
 function follow({ opened = null, isOn = true, room = SMALL } = {}) {
   const told = [];
-  let [now, waiting] = [0, null];
-  const it = new Follow((size) => told.push(size), { set: (act, time) => { waiting = { act, at: now + time }; return 1; }, clear: () => { waiting = null; } });
-  const pass = (time) => {
-    now += time;
-    if (waiting === null || waiting.at > now) return;
-    const { act } = waiting;
-    waiting = null;
-    act();
-  };
+  const { timers, pass } = clock();
+  const it = new Follow((size) => told.push(size), timers);
   it.fits(room);
   it.begin(opened);
   it.isOn = isOn;

@@ -10,6 +10,20 @@ const [GUACGATE, LOOK] = ['guacgate', 'look'].map((name) => join(TOP, 'crates', 
 /** A module of the page. */
 export const module = (name) => import(pathToFileURL(join(process.env.PAGE, `${name}.js`)));
 
+/** Timers that aren't real, of which one waits at most, and what lets their time pass, in milliseconds. */
+export function clock() {
+  let [now, waiting] = [0, null];
+  const timers = { now: () => now, set: (act, time) => { waiting = { act, at: now + time }; return 1; }, clear: () => { waiting = null; } };
+  const pass = (time) => {
+    now += time;
+    if (waiting === null || waiting.at > now) return;
+    const { act } = waiting;
+    waiting = null;
+    act();
+  };
+  return { timers, pass };
+}
+
 /** Whether the programs are built that recordings are played with. */
 export const isBuilt = existsSync(GUACGATE) && existsSync(LOOK);
 

@@ -1,23 +1,15 @@
 // What a screen reader is told, with a clock and a region that aren't real.
 import assert from 'node:assert/strict';
 import test from 'node:test';
-import { module } from './page.mjs';
+import { clock, module } from './page.mjs';
 
 const { Speech, newPart } = await module('speech');
 
 function speech() {
   const said = [];
-  let [now, waiting] = [0, null];
+  const { timers, pass } = clock();
   globalThis.document = { createElement: () => ({}) };
   const region = { replaceChildren: (...parts) => said.push(parts.map((it) => it.textContent)) };
-  const timers = { now: () => now, set: (act, time) => { waiting = { act, at: now + time }; return 1; }, clear: () => { waiting = null; } };
-  const pass = (time) => {
-    now += time;
-    if (waiting === null || waiting.at > now) return;
-    const { act } = waiting;
-    waiting = null;
-    act();
-  };
   return { said, pass, it: new Speech(region, timers) };
 }
 
