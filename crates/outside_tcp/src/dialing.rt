@@ -134,7 +134,8 @@ impl<
 }
 
 // Whether the two ends of a connection are on one machine: they are one address, or both are of the loopback, of which
-// Linux has more than one (RFC 1122, section 3.2.1.3).
+// Linux has more than one (RFC 1122, section 3.2.1.3). It has no clause: whom a dialer reaches no clause tells, so none would
+// cite it. A test has the pairs.
 pub(crate) fn is_one_machine(own: IpAddr, peer: IpAddr) -> bool {
     let (own, peer) = (own.to_canonical(), peer.to_canonical());
     own == peer || (own.is_loopback() && peer.is_loopback())
