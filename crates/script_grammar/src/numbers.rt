@@ -3,8 +3,8 @@
 ghost use Rattle.std.specs.Prelude.{◌≡◌, ◌^◌, ◌-◌};
 ghost use Rattle.script_grammar.specs.Numbers.{number_up_to};
 
-pub(crate) use guac_instr::number;
-use guac_instr::number_within;
+pub(crate) use numerals::number;
+use numerals::number_within;
 
 /// The number, where it is below 2^64.
 pub(crate) fn number_of_64_bits(word: &[u8]) -> Option<u64>

@@ -1,10 +1,7 @@
 //! The values of the options.
 
-ghost use Rattle.std.specs.Prelude.{◌≡◌, ◌↔◌, IsSome, length, option_map, true};
-ghost use Rattle.std.specs.Char.{is_ascii_digit};
-ghost use Rattle.std.specs.List.{AllPass, list_all};
-ghost use Rattle.gate_model.specs.text.Numerals.{is_number};
-ghost use Rattle.gate_model.specs.text.Spelling.{number_of};
+ghost use Rattle.std.specs.Prelude.{◌≡◌, ◌↔◌, IsSome, length, option_map};
+ghost use Rattle.std.specs.List.{AllPass};
 ghost use Rattle.hex.specs.Hex.{is_hex_digit};
 ghost use Rattle.serve_options.specs.Values.{address_in, address_of, at_loopback, faces_of, flag_of, format_of, level_of, place_of, port_of, seconds_of, seed_of};
 
@@ -12,6 +9,7 @@ use crate::LogFormat;
 use gate_model::Faces;
 use hex::FromHex;
 use log::LevelFilter;
+use numerals::number_within;
 
 /// The seed that 64 hexadecimal digits of either case give, the first byte first.
 pub(crate) fn seed_of(text: &str) -> Option<[u8; 32]>
@@ -25,15 +23,9 @@ pub(crate) fn seed_of(text: &str) -> Option<[u8; 32]>
 pub(crate) fn port_of(text: &str) -> Option<u16>
     ensures { result ≡ port_of text.now }
 {
-    let digits = text.as_bytes();
-    if !is_number(digits) {
-        return None;
-    }
-    let number = number_of(digits);
-    if 1 <= number && number <= 65_535 {
-        Some(number as u16)
-    } else {
-        None
+    match number_within(text.as_bytes(), 1, 65_535) {
+        Some(number) => Some(number as u16),
+        None => None,
     }
 }
 
@@ -41,42 +33,10 @@ pub(crate) fn port_of(text: &str) -> Option<u16>
 pub(crate) fn seconds_of(text: &str) -> Option<u32>
     ensures { result ≡ seconds_of text.now }
 {
-    let digits = text.as_bytes();
-    if !is_number(digits) {
-        return None;
+    match number_within(text.as_bytes(), 0, 1_000_000) {
+        Some(number) => Some(number as u32),
+        None => None,
     }
-    let number = number_of(digits);
-    if number <= 1_000_000 {
-        Some(number as u32)
-    } else {
-        None
-    }
-}
-
-// Whether these are 1 to 20 digits.
-fn is_number(digits: &[u8]) -> bool
-    ensures { result ≡ is_number digits.now }
-{
-    (1..=20).contains(&digits.len()) && all_digits(digits)
-}
-
-// Whether each byte is a digit.
-fn all_digits(bytes: &[u8]) -> bool
-    ensures { result ≡ list_all is_ascii_digit bytes.now }
-{
-    bytes.iter().all(|byte| byte.is_ascii_digit())
-}
-
-// The number of the digits.
-fn number_of(digits: &[u8]) -> u128
-    requires { is_number digits.now ≡ true }
-    ensures { result ≡ number_of digits.now }
-{
-    let mut number: u128 = 0;
-    for digit in digits {
-        number = 10 * number + u128::from(*digit - b'0');
-    }
-    number
 }
 
 /// The level of one of the three words.

@@ -1,6 +1,6 @@
 use Rattle.std.proofs.Common.{ℕ, get_or, ◌∙◌, ◌+◌, ◌-◌, ◌*◌, ap, sym, arith}
-use Rattle.guac_instr.proofs.NumberLaws.{number_of-take, digits_of, power_more}
-use Rattle.serve_options.proofs.values.number_of.Goals as goal
+use Rattle.numerals.proofs.NumberLaws.{number_of-take, digits_of, power_more}
+use Rattle.numerals.proofs.number_of.Goals as goal
 
 pub loop-digit-preserved : goal.loop-digit-preserved
 loop-digit-preserved c =
