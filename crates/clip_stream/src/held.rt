@@ -28,8 +28,8 @@ impl Model for Held {
 }
 
 impl Held {
-    ghost use Rattle.std.specs.Prelude.{◌≡◌, ◌<◌, ◌≤◌, ◌++◌, ◌-◌, [], List, ℕ, true, false, length, drop, take, min, IfOk, OnErr};
-    ghost use Rattle.gate_outside.specs.Edge.{AtEnd, Rose, came, most_faults};
+    ghost use Rattle.std.specs.Prelude.{◌≡◌, ◌<◌, ◌≤◌, ◌++◌, ◌-◌, [], List, ℕ, true, false, length, drop, take, min, IfOk, IsErr, OnErr};
+    ghost use Rattle.gate_outside.specs.Edge.{AtEnd, CountsFault, came, most_faults};
 
     /// None, with room for an instruction.
     pub(crate) fn new(alloc: Global) -> Result<Held, NoMemory>
@@ -99,8 +99,7 @@ impl Held {
         ensures more { IfOk result (λ more. more ≡ true → length self.old < length self.new) }
         ensures end { IfOk result (λ more. more ≡ false → (self.new ≡ self.old) × AtEnd (S.left source.new)) }
         ensures stopped { OnErr result (self.new ≡ self.old) }
-        ensures fault { OnErr result (Rose (S.faults source.old) (S.faults source.new)) }
-        ensures later { S.faults source.old ≤ S.faults source.new }
+        ensures faults { CountsFault (IsErr result) (S.faults source.old) (S.faults source.new) }
         ensures few { S.faults source.old ≤ most_faults → S.faults source.new ≤ most_faults }
     {
         self.bytes.rotate_left(self.start);

@@ -25,8 +25,8 @@ pub struct Paster {
 }
 
 impl Paster {
-    ghost use Rattle.std.specs.Prelude.{◌≡◌, ◌<◌, ◌≤◌, ℕ, List, [], None, Some, true, false, length, take, drop, ◌++◌, IfOk, OnErr, IfSome, Ok};
-    ghost use Rattle.gate_outside.specs.Edge.{Rose, most_faults};
+    ghost use Rattle.std.specs.Prelude.{◌≡◌, ◌<◌, ◌≤◌, ℕ, List, [], None, Some, true, false, length, take, drop, ◌++◌, IfOk, IsErr, OnErr, IfSome, Ok};
+    ghost use Rattle.gate_outside.specs.Edge.{CountsFault, most_faults};
     ghost use Rattle.clip_stream.specs.Pasted.{pasted};
     ghost use Rattle.clip_stream.specs.Sources.{Gave, HasRoom, IsDone, IsOver, Keeps, Went, WentFar, has_ended, rest_of, unread_of, waits};
 
@@ -150,8 +150,7 @@ impl Paster {
         ensures came { result ≡ Ok true → WentFar 1 (S.left source.old) (S.left source.new) self.old self.new [] }
         ensures end { result ≡ Ok false → self.new.is_ended ≡ true }
         ensures raw { result ≡ Ok false → self.new.is_raw ≡ true }
-        ensures fault { OnErr result (Rose (S.faults source.old) (S.faults source.new)) }
-        ensures later { S.faults source.old ≤ S.faults source.new }
+        ensures faults { CountsFault (IsErr result) (S.faults source.old) (S.faults source.new) }
         ensures few { S.faults source.old ≤ most_faults → S.faults source.new ≤ most_faults }
     {
         let more = self.held.read(source)?;
@@ -210,8 +209,7 @@ impl Paster {
         ensures gave_up { result ≡ Ok None → WentFar most_faults (S.left source.old) (S.left source.new) self.old self.new [] × (into.new ≡ into.old) }
         ensures failed { OnErr result (Went (S.left source.old) (S.left source.new) self.old self.new []) }
         ensures untouched { OnErr result (into.new ≡ into.old) }
-        ensures fault { OnErr result (Rose (S.faults source.old) (S.faults source.new)) }
-        ensures later { S.faults source.old ≤ S.faults source.new }
+        ensures faults { CountsFault (IsErr result) (S.faults source.old) (S.faults source.new) }
         ensures few { S.faults source.old ≤ most_faults → S.faults source.new ≤ most_faults }
     {
         for _turn in 0..u64::MAX {

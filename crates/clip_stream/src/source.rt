@@ -39,8 +39,8 @@ impl<S: Source> ClipSource<S> {
 }
 
 impl<S: Source> Source for ClipSource<S> {
-    ghost use Rattle.std.specs.Prelude.{◌≡◌, ◌<◌, ◌≤◌, [], Some, length, take, IfOk, OnErr};
-    ghost use Rattle.gate_outside.specs.Edge.{AtEnd, Rose, came, most_faults};
+    ghost use Rattle.std.specs.Prelude.{◌≡◌, ◌<◌, ◌≤◌, [], Some, length, take, IfOk, IsErr, OnErr};
+    ghost use Rattle.gate_outside.specs.Edge.{AtEnd, CountsFault, came, most_faults};
     ghost use Rattle.clip_stream.specs.Sources.{Fails, Gives, IsOver, faults_of, given_up, left_of, pastes_of};
 
     ghost left = { λ s. left_of S.left s };
@@ -63,9 +63,8 @@ impl<S: Source> Source for ClipSource<S> {
         ensures empty { IfOk result (λ n. left_of S.left self.old ≡ Some [] → n ≡ 0) }
         ensures unchanged { OnErr result (left_of S.left self.new ≡ left_of S.left self.old) }
         ensures untouched { OnErr result (into.new ≡ into.old) }
-        ensures later { faults_of S.faults self.old ≤ faults_of S.faults self.new }
         ensures few { faults_of S.faults self.old ≤ most_faults → faults_of S.faults self.new ≤ most_faults }
-        ensures cause { OnErr result (Rose (faults_of S.faults self.old) (faults_of S.faults self.new)) }
+        ensures faults { CountsFault (IsErr result) (faults_of S.faults self.old) (faults_of S.faults self.new) }
     {
         match self.pastes.read(&mut self.source, into)? {
             Some(count) => Ok(count),

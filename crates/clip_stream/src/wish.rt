@@ -6,7 +6,7 @@ ghost use Rattle.clip_stream.specs.Asked.{asked};
 ghost use Rattle.clip_stream.specs.Clips.{brings, ends, opens, stream_of, wish_of};
 
 use guac_framing::Frame;
-use guac_instr::number;
+use numerals::number;
 
 /// The most digits of a stream's number (this project's own).
 const MOST_DIGITS: usize = 10;

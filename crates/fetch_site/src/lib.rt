@@ -5,8 +5,8 @@
 //! keeps the bytes for who serves it. Which fields are of another site is `IsForeign` of `specs/Fields.antt`.
 #![tactic(auto)]
 
-ghost use Rattle.std.specs.Prelude.{◌≡◌, ◌≢◌, ◌↔◌, ◌<◌, ◌≤◌, IfOk, IsTrue, length};
-ghost use Rattle.gate_outside.specs.Edge.{Rose};
+ghost use Rattle.std.specs.Prelude.{◌≡◌, ◌≢◌, ◌↔◌, ◌<◌, ◌≤◌, Ok, IfOk, IsTrue, length};
+ghost use Rattle.gate_outside.specs.Edge.{CountsFault};
 ghost use Rattle.http_front.specs.Moved.{Moved};
 ghost use Rattle.fetch_site.specs.Fields.{IsForeign};
 ghost use Rattle.fetch_site.specs.declared.Front.TheVariants.{Fault};
@@ -39,8 +39,7 @@ pub enum Front {
 /// begin none. What was read stands in the room behind what it had. A first byte that is a digit begins no request.
 pub fn look<S: Source>(source: &mut S, room: &mut Vec<u8>) -> Result<Front, NoMemory>
     ensures moved { Moved (S.left source.old) (S.left source.new) room.old.items room.new.items }
-    ensures fault { IfOk result (λ front. front ≡ Fault → Rose (S.faults source.old) (S.faults source.new)) }
-    ensures later { S.faults source.old ≤ S.faults source.new }
+    ensures faults { CountsFault (result ≡ Ok Fault) (S.faults source.old) (S.faults source.new) }
 {
     let mut piece = [0; PIECE];
     for _ in 0..MOST_HEAD {
@@ -73,8 +72,7 @@ fn read_some<S: Source>(
     requires { 0 < length piece.old }
     ensures moved { Moved (S.left source.old) (S.left source.new) room.old.items room.new.items }
     ensures kept { length piece.new ≡ length piece.old }
-    ensures fault { IfOk result (λ read. read ≡ Read.Fault → Rose (S.faults source.old) (S.faults source.new)) }
-    ensures later { S.faults source.old ≤ S.faults source.new }
+    ensures faults { CountsFault (result ≡ Ok Read.Fault) (S.faults source.old) (S.faults source.new) }
 {
     room.reserve(piece.len())?;
     match source.read(piece) {

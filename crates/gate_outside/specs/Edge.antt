@@ -14,6 +14,10 @@ one_more count = min (count + 1) most_faults
 abbrev pub Rose : ℕ → ℕ → Type 0
 Rose before now = one_more before ≤ now
 
+-- a count of faults rose in a call that tells of one, and never falls
+abbrev pub CountsFault : Type 0 → ℕ → ℕ → Type 0
+CountsFault told before after = (told → Rose before after) × before ≤ after
+
 -- what was left before these bytes came, of what is left now
 abbrev pub came : List ℕ → Option (List ℕ) → Option (List ℕ)
 came bytes None = None

@@ -6,7 +6,5 @@ use crate::Counted;
 pub trait Clock: Counted {
     /// A moment. Nothing is claimed of how two of them are related.
     fn now(&mut self) -> u64
-        ensures dials { Self.dial_faults self.new ≡ Self.dial_faults self.old }
-        ensures starts { Self.start_faults self.new ≡ Self.start_faults self.old }
-        ensures draws { Self.draws self.new ≡ Self.draws self.old };
+        ensures helper { Self.helper self.new ≡ Self.helper self.old };
 }

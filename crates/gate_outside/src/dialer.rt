@@ -1,5 +1,5 @@
-ghost use Rattle.std.specs.Prelude.{◌≡◌, ◌≤◌, OnOk};
-ghost use Rattle.gate_outside.specs.Edge.{Rose};
+ghost use Rattle.std.specs.Prelude.{◌≡◌, OnOk};
+ghost use Rattle.gate_outside.specs.Helpers.{Dials};
 ghost use Rattle.gate_outside.specs.Starts.{IsDialFailed};
 ghost use Rattle.gate_outside.specs.declared.dialer.DialFault.TheVariants.{NoMemory as no_memory};
 
@@ -40,9 +40,6 @@ pub trait Dialer: Counted {
         host: &str,
         port: u16,
     ) -> Result<(Self::Input, Self::Output), DialFault>
-        ensures cause { IsDialFailed result → Rose (Self.dial_faults self.old) (Self.dial_faults self.new) }
-        ensures none { OnOk result (Self.dial_faults self.new ≡ Self.dial_faults self.old) }
-        ensures later { Self.dial_faults self.old ≤ Self.dial_faults self.new }
-        ensures starts { Self.start_faults self.new ≡ Self.start_faults self.old }
-        ensures draws { Self.draws self.new ≡ Self.draws self.old };
+        ensures dials { Dials (IsDialFailed result) (Self.helper self.old) (Self.helper self.new) }
+        ensures none { OnOk result (Self.helper self.new ≡ Self.helper self.old) };
 }

@@ -8,7 +8,5 @@ use std::alloc::Global;
 pub trait Helper: Dialer + Spawner + Clock + Dice + Sized + Send + 'static {
     /// A helper with counts, a clock and dice of its own.
     fn another(&mut self, alloc: Global) -> Result<Self, NoMemory>
-        ensures dials { Self.dial_faults self.new ≡ Self.dial_faults self.old }
-        ensures starts { Self.start_faults self.new ≡ Self.start_faults self.old }
-        ensures draws { Self.draws self.new ≡ Self.draws self.old };
+        ensures helper { Self.helper self.new ≡ Self.helper self.old };
 }

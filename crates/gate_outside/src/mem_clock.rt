@@ -34,11 +34,7 @@ impl MemClock {
 impl Counted for MemClock {
     ghost use Rattle.std.specs.Prelude.{None};
 
-    ghost dial_faults = { λ _. 0 };
-
-    ghost start_faults = { λ _. 0 };
-
-    ghost draws = { λ _. None };
+    ghost helper = { λ _. record { dial_faults = 0; start_faults = 0; draws = None } };
 }
 
 impl Clock for MemClock {

@@ -41,16 +41,12 @@ impl MemDialer {
 impl Counted for MemDialer {
     ghost use Rattle.std.specs.Prelude.{None};
 
-    ghost dial_faults = { λ s. s.faults };
-
-    ghost start_faults = { λ _. 0 };
-
-    ghost draws = { λ _. None };
+    ghost helper = { λ s. record { dial_faults = s.faults; start_faults = 0; draws = None } };
 }
 
 impl Dialer for MemDialer {
     ghost use Rattle.std.specs.Prelude.{◌≡◌, ◌↔◌, ◌≤◌, ◌∷◌, IfOk, IsErr, IsTrue};
-    ghost use Rattle.gate_outside.specs.Edge.{Rose};
+    ghost use Rattle.gate_outside.specs.Edge.{CountsFault};
     ghost use Rattle.gate_outside.specs.Memory.{links_after, links_fail};
     ghost use Rattle.gate_outside.specs.Starts.{IsDialFailed};
 
@@ -71,7 +67,7 @@ impl Dialer for MemDialer {
         ensures after { self.new ≡ links_after self.old }
 
         // Of the trait's clauses, that which doesn't follow from the ones above.
-        ensures later { self.old.faults ≤ self.new.faults }
+        ensures dials { CountsFault (IsDialFailed result) self.old.faults self.new.faults }
     {
         self.calls = self.calls.saturating_add(1);
         if !self.fail.contains(&self.calls) {

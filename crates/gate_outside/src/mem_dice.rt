@@ -15,7 +15,7 @@ impl MemDice {
     /// Dice that give these draws, at least one.
     pub fn new(draws: Vec<[u8; 16]>) -> MemDice
         requires { 0 < length draws.items }
-        ensures { IfSome (⟦<MemDice as Counted>⟧.draws result) (λ d. (n : ℕ) → d n ≡ listed_draw draws.items 0 n) }
+        ensures { IfSome (⟦<MemDice as Counted>⟧.helper result).draws (λ d. (n : ℕ) → d n ≡ listed_draw draws.items 0 n) }
     {
         MemDice {
             listed: draws,
@@ -25,11 +25,7 @@ impl MemDice {
 }
 
 impl Counted for MemDice {
-    ghost dial_faults = { λ _. 0 };
-
-    ghost start_faults = { λ _. 0 };
-
-    ghost draws = { λ s. Some (λ n. listed_draw s.listed.items s.at n) };
+    ghost helper = { λ s. record { dial_faults = 0; start_faults = 0; draws = Some (λ n. listed_draw s.listed.items s.at n) } };
 }
 
 impl Dice for MemDice {

@@ -39,11 +39,7 @@ impl MemHelper {
 }
 
 impl Counted for MemHelper {
-    ghost dial_faults = { λ s. ⟦<MemDialer as Counted>⟧.dial_faults (out-MemHelper s).dialer };
-
-    ghost start_faults = { λ s. ⟦<MemSpawner as Counted>⟧.start_faults (out-MemHelper s).spawner };
-
-    ghost draws = { λ s. ⟦<MemDice as Counted>⟧.draws (out-MemHelper s).dice };
+    ghost helper = { λ s. record { dial_faults = (⟦<MemDialer as Counted>⟧.helper (out-MemHelper s).dialer).dial_faults; start_faults = (⟦<MemSpawner as Counted>⟧.helper (out-MemHelper s).spawner).start_faults; draws = (⟦<MemDice as Counted>⟧.helper (out-MemHelper s).dice).draws } };
 }
 
 impl Dialer for MemHelper {

@@ -42,6 +42,7 @@ impl MemNet {
 
 impl Net for MemNet {
     ghost use Rattle.std.specs.Prelude.{◌≡◌, ◌↔◌, ◌≤◌, ◌∷◌, IfOk, IsErr, IsTrue};
+    ghost use Rattle.gate_outside.specs.Edge.{CountsFault};
     ghost use Rattle.gate_outside.specs.Memory.{links_after, links_fail};
     ghost use Rattle.gate_outside.specs.Nets.{links_of, listens_after, listen_fails};
     ghost use Rattle.gate_outside.specs.Starts.{IsDialFailed};
@@ -59,7 +60,7 @@ impl Net for MemNet {
         ensures after { links_of self.new ≡ listens_after (links_of self.old) }
 
         // Of the trait's clauses, that which doesn't follow from the ones above.
-        ensures later { (links_of self.old).faults ≤ (links_of self.new).faults }
+        ensures faults { CountsFault (IsDialFailed result) (links_of self.old).faults (links_of self.new).faults }
     {
         self.calls = self.calls.saturating_add(1);
         if self.fail.contains(&self.calls) {
@@ -76,7 +77,7 @@ impl Net for MemNet {
         ensures after { links_of self.new ≡ links_after (links_of self.old) }
 
         // Of the trait's clauses, that which doesn't follow from the ones above.
-        ensures later { (links_of self.old).faults ≤ (links_of self.new).faults }
+        ensures faults { CountsFault (IsErr result) (links_of self.old).faults (links_of self.new).faults }
     {
         self.calls = self.calls.saturating_add(1);
         if !self.fail.contains(&self.calls) {

@@ -55,6 +55,7 @@ impl MemSink {
 
 impl Sink for MemSink {
     ghost use Rattle.std.specs.Prelude.{◌≡◌, ◌<◌, ◌↔◌, IfOk, IsErr, IsTrue, Some, ◌≤◌, length};
+    ghost use Rattle.gate_outside.specs.Edge.{CountsFault};
     ghost use Rattle.gate_outside.specs.Memory.{store_after, store_count, store_fails};
 
     ghost written = { λ s. Some s.held };
@@ -71,7 +72,7 @@ impl Sink for MemSink {
 
         // Of the trait's clauses, those that don't follow from the ones above.
         ensures some { IfOk result (λ n. 0 < n) }
-        ensures later { self.old.faults ≤ self.new.faults }
+        ensures faults { CountsFault (IsErr result) self.old.faults self.new.faults }
     {
         self.calls = self.calls.saturating_add(1);
         let taken = self.held.len();

@@ -46,6 +46,7 @@ impl MemSource {
 
 impl Source for MemSource {
     ghost use Rattle.std.specs.Prelude.{◌≡◌, ◌<◌, ◌↔◌, IfOk, IsErr, IsTrue, OnErr, Some, [], ◌≤◌, length, take};
+    ghost use Rattle.gate_outside.specs.Edge.{CountsFault};
     ghost use Rattle.gate_outside.specs.Memory.{supply_after, supply_count, supply_fails};
 
     ghost left = { λ s. Some s.left };
@@ -63,7 +64,7 @@ impl Source for MemSource {
 
         // Of the trait's clauses, those that don't follow from the ones above.
         ensures end { IfOk result (λ n. n ≡ 0 → self.old.left ≡ []) }
-        ensures later { self.old.faults ≤ self.new.faults }
+        ensures faults { CountsFault (IsErr result) self.old.faults self.new.faults }
     {
         self.calls = self.calls.saturating_add(1);
         if self.fail.contains(&self.calls) {

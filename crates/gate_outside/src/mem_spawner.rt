@@ -25,11 +25,7 @@ impl MemSpawner {
 }
 
 impl Counted for MemSpawner {
-    ghost dial_faults = { λ _. 0 };
-
-    ghost start_faults = { λ s. s.faults };
-
-    ghost draws = { λ _. None };
+    ghost helper = { λ s. record { dial_faults = 0; start_faults = s.faults; draws = None } };
 }
 
 impl Spawner for MemSpawner {

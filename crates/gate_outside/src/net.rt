@@ -1,5 +1,5 @@
-ghost use Rattle.std.specs.Prelude.{◌≤◌, ℕ, OnErr};
-ghost use Rattle.gate_outside.specs.Edge.{Rose};
+ghost use Rattle.std.specs.Prelude.{◌≤◌, ℕ, IsErr};
+ghost use Rattle.gate_outside.specs.Edge.{CountsFault};
 ghost use Rattle.gate_outside.specs.Starts.{IsDialFailed};
 
 use crate::{Bell, DialFault, Dialer, Failed, Helper};
@@ -21,8 +21,7 @@ pub trait Net: Drop {
     /// Listens on the port, 1 to 65535. The dice of the helpers draw under the seed. It comes once, before
     /// the other calls. Failed comes only where the count of faults rose in this call.
     fn listen(&mut self, alloc: Global, port: u16, seed: [u8; 32]) -> Result<(), DialFault>
-        ensures cause { IsDialFailed result → Rose (net_faults self.old) (net_faults self.new) }
-        ensures later { net_faults self.old ≤ net_faults self.new };
+        ensures faults { CountsFault (IsDialFailed result) (net_faults self.old) (net_faults self.new) };
 
     /// The two ends of the next connection. A fault comes only where the count of faults rose in this call.
     fn accept<R: Wait>(
@@ -35,8 +34,7 @@ pub trait Net: Drop {
         ),
         Failed,
     >
-        ensures cause { OnErr result (Rose (net_faults self.old) (net_faults self.new)) }
-        ensures later { net_faults self.old ≤ net_faults self.new };
+        ensures faults { CountsFault (IsErr result) (net_faults self.old) (net_faults self.new) };
 
     /// A helper.
     fn helper(&mut self, alloc: Global) -> Result<Self::Help, NoMemory>

@@ -1,5 +1,5 @@
-ghost use Rattle.std.specs.Prelude.{◌≡◌, ℕ, ◌<◌, ◌≤◌, List, length, take, Option, IfOk, OnErr};
-ghost use Rattle.gate_outside.specs.Edge.{Rose, gained, most_faults};
+ghost use Rattle.std.specs.Prelude.{◌≡◌, ℕ, ◌<◌, ◌≤◌, List, length, take, Option, IfOk, IsErr, OnErr};
+ghost use Rattle.gate_outside.specs.Edge.{CountsFault, gained, most_faults};
 
 use crate::Failed;
 
@@ -19,9 +19,8 @@ pub trait Sink: Drop {
         ensures bound { IfOk result (λ n. n ≤ length piece.now) }
         ensures ok { IfOk result (λ n. written self.new ≡ gained (written self.old) (take n piece.now)) }
         ensures unchanged { OnErr result (written self.new ≡ written self.old) }
-        ensures later { faults self.old ≤ faults self.new }
         ensures few { faults self.old ≤ most_faults → faults self.new ≤ most_faults }
-        ensures cause { OnErr result (Rose (faults self.old) (faults self.new)) };
+        ensures faults { CountsFault (IsErr result) (faults self.old) (faults self.new) };
 
     /// Says that nothing more will be written. Over a connection both of its directions end, so that a
     /// read that waits on the other end of it returns. It tells nothing and is no write.

@@ -1,5 +1,5 @@
-ghost use Rattle.std.specs.Prelude.{◌≡◌, ℕ, ◌<◌, ◌≤◌, List, [], length, take, Option, Some, IfOk, IfSome, OnErr};
-ghost use Rattle.gate_outside.specs.Edge.{AtEnd, Rose, came, most_faults};
+ghost use Rattle.std.specs.Prelude.{◌≡◌, ℕ, ◌<◌, ◌≤◌, List, [], length, take, Option, Some, IfOk, IfSome, IsErr, OnErr};
+ghost use Rattle.gate_outside.specs.Edge.{AtEnd, CountsFault, came, most_faults};
 
 use crate::Failed;
 
@@ -24,7 +24,6 @@ pub trait Source: Drop {
         ensures empty { IfOk result (λ n. left self.old ≡ Some [] → n ≡ 0) }
         ensures unchanged { OnErr result (left self.new ≡ left self.old) }
         ensures untouched { OnErr result (IfSome (left self.old) (λ _. into.new ≡ into.old)) }
-        ensures later { faults self.old ≤ faults self.new }
         ensures few { faults self.old ≤ most_faults → faults self.new ≤ most_faults }
-        ensures cause { OnErr result (Rose (faults self.old) (faults self.new)) };
+        ensures faults { CountsFault (IsErr result) (faults self.old) (faults self.new) };
 }

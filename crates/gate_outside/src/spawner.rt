@@ -1,5 +1,5 @@
-ghost use Rattle.std.specs.Prelude.{◌≡◌, ◌↔◌, ◌≤◌, Bool, Option, IfErr, OnErr, OnOk, IsErr, IfSome, true};
-ghost use Rattle.gate_outside.specs.Edge.{Rose};
+ghost use Rattle.std.specs.Prelude.{◌≡◌, Bool, Option, IfErr, OnOk, IsErr, IfSome, true};
+ghost use Rattle.gate_outside.specs.Helpers.{Starts};
 ghost use Rattle.gate_outside.specs.Starts.{is_refused};
 
 use crate::Counted;
@@ -26,16 +26,11 @@ pub trait Spawner: Counted {
     /// Says how the next job starts.
     fn way(&mut self) -> Way
         ensures told { IfSome (refuses self.old) (λ b. is_refused result ≡ b) }
-        ensures starts { Self.start_faults self.new ≡ Self.start_faults self.old }
-        ensures dials { Self.dial_faults self.new ≡ Self.dial_faults self.old }
-        ensures draws { Self.draws self.new ≡ Self.draws self.old };
+        ensures helper { Self.helper self.new ≡ Self.helper self.old };
 
     /// Counts a job that wasn't started.
     fn note(&mut self)
-        ensures starts { Rose (Self.start_faults self.old) (Self.start_faults self.new) }
-        ensures later { Self.start_faults self.old ≤ Self.start_faults self.new }
-        ensures dials { Self.dial_faults self.new ≡ Self.dial_faults self.old }
-        ensures draws { Self.draws self.new ≡ Self.draws self.old };
+        ensures starts { Starts (Unit {0}) (Self.helper self.old) (Self.helper self.new) };
 
     /// Starts the job. One that isn't started comes back, only where the count of failed starts rose in this
     /// call; where the spawner tells that it refuses, the job comes back.
@@ -46,12 +41,9 @@ pub trait Spawner: Counted {
     ) -> Result<(), J>
         requires { J.pre job }
         ensures given_back { IfErr result (λ j. j ≡ job) }
-        ensures cause { OnErr result (Rose (Self.start_faults self.old) (Self.start_faults self.new)) }
-        ensures none { OnOk result (Self.start_faults self.new ≡ Self.start_faults self.old) }
-        ensures later { Self.start_faults self.old ≤ Self.start_faults self.new }
+        ensures starts { Starts (IsErr result) (Self.helper self.old) (Self.helper self.new) }
+        ensures none { OnOk result (Self.helper self.new ≡ Self.helper self.old) }
         ensures told { IfSome (refuses self.old) (λ b. b ≡ true → IsErr result) }
-        ensures dials { Self.dial_faults self.new ≡ Self.dial_faults self.old }
-        ensures draws { Self.draws self.new ≡ Self.draws self.old }
     {
         let way = self.way();
         match start_by(rt, way, job) {

@@ -1,5 +1,5 @@
-ghost use Rattle.std.specs.Prelude.{◌≡◌, ◌≤◌, OnOk, OnErr};
-ghost use Rattle.gate_outside.specs.Edge.{GainedFront, Rose, gained};
+ghost use Rattle.std.specs.Prelude.{◌≡◌, IsErr, OnOk, OnErr};
+ghost use Rattle.gate_outside.specs.Edge.{CountsFault, GainedFront, gained};
 
 use crate::{Failed, Sink};
 
@@ -7,8 +7,7 @@ use crate::{Failed, Sink};
 pub fn write_all<K: Sink>(sink: &mut K, text: &[u8]) -> Result<(), Failed>
     ensures ok { OnOk result (K.written sink.new ≡ gained (K.written sink.old) text.now) }
     ensures part { OnErr result (GainedFront (K.written sink.old) (K.written sink.new) text.now) }
-    ensures later { K.faults sink.old ≤ K.faults sink.new }
-    ensures cause { OnErr result (Rose (K.faults sink.old) (K.faults sink.new)) }
+    ensures faults { CountsFault (IsErr result) (K.faults sink.old) (K.faults sink.new) }
 {
     let mut at = 0;
     while at < text.len() {

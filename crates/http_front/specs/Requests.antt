@@ -68,20 +68,13 @@ Receives bytes Ended = IsUnfinished bytes
 Receives bytes ReadFault = IsUnfinished bytes
 Receives bytes NoMemory = Unit {0}
 
--- P holds where the source was at its end, and where a read failed
+-- P holds where the source was at its end
 abbrev pub OnEnded : Incoming → Type 0 → Type 0
 OnEnded (Whole request) P = Unit {0}
 OnEnded (Refused status) P = Unit {0}
 OnEnded Ended P = P
 OnEnded ReadFault P = Unit {0}
 OnEnded NoMemory P = Unit {0}
-
-abbrev pub OnReadFault : Incoming → Type 0 → Type 0
-OnReadFault (Whole request) P = Unit {0}
-OnReadFault (Refused status) P = Unit {0}
-OnReadFault Ended P = Unit {0}
-OnReadFault ReadFault P = P
-OnReadFault NoMemory P = Unit {0}
 
 -- ---- while they come
 

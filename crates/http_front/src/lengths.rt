@@ -5,8 +5,8 @@ ghost use Rattle.std.specs.Char.{to_ascii_lowercase};
 ghost use Rattle.httparse.specs.Spans.{IsHeaderWithin, header_bytes};
 ghost use Rattle.http_front.specs.Fields.{Decides, encoded_by, is_encoded, is_named, length_said, with_field};
 
-use guac_instr::number;
 use httparse::spans::HeaderSpan;
+use numerals::number;
 
 /// The most bytes of a body (this project's own).
 const MOST_BODY: u128 = 1_048_576;

@@ -1,9 +1,9 @@
 //! One request out of a source.
 
-ghost use Rattle.std.specs.Prelude.{◌≡◌, ℕ, ◌+◌, ◌<◌, ◌≤◌, List, [], IfOk, IfErr, OnErr, OnOk, length, true, false};
-ghost use Rattle.gate_outside.specs.Edge.{AtEnd, Rose, came};
+ghost use Rattle.std.specs.Prelude.{◌≡◌, ℕ, ◌+◌, ◌<◌, ◌≤◌, List, [], IfOk, IfErr, OnErr, OnOk, length, true, false, Err};
+ghost use Rattle.gate_outside.specs.Edge.{AtEnd, CountsFault, came};
 ghost use Rattle.http_front.specs.Moved.{IsBodyStop, IsReadStop, Moved};
-ghost use Rattle.http_front.specs.Requests.{HasStopped, IsReceived, IsRequest, IsTaken, OnEnded, OnReadFault, Receives};
+ghost use Rattle.http_front.specs.Requests.{HasStopped, IsReceived, IsRequest, IsTaken, OnEnded, Receives};
 
 use crate::head::{Head, Judged, MOST_HEAD, judge};
 use crate::stop::Stop;
@@ -34,8 +34,7 @@ fn read_some<S: Source>(
     ensures kept { length piece.new ≡ length piece.old }
     ensures stopped { OnErr result (room.new.items ≡ room.old.items) }
     ensures kind { IfErr result IsReadStop }
-    ensures fault { IfErr result (λ stop. stop ≡ Stop.ReadFault → Rose (S.faults source.old) (S.faults source.new)) }
-    ensures later { S.faults source.old ≤ S.faults source.new }
+    ensures faults { CountsFault (result ≡ Err Stop.ReadFault) (S.faults source.old) (S.faults source.new) }
 {
     let most = most.min(piece.len());
     room.reserve(most)?;
@@ -57,8 +56,7 @@ fn read_head<S: Source>(source: &mut S, piece: &mut [u8], room: &mut Vec<u8>) ->
     ensures stopped { IfErr result (HasStopped room.new.items) }
     ensures kept { length piece.new ≡ length piece.old }
     ensures ended { IfErr result (λ stop. stop ≡ Stop.Ended → AtEnd (S.left source.new)) }
-    ensures fault { IfErr result (λ stop. stop ≡ Stop.ReadFault → Rose (S.faults source.old) (S.faults source.new)) }
-    ensures later { S.faults source.old ≤ S.faults source.new }
+    ensures faults { CountsFault (result ≡ Err Stop.ReadFault) (S.faults source.old) (S.faults source.new) }
 {
     loop {
         match judge(room) {
@@ -89,8 +87,7 @@ fn read_body<S: Source>(
     ensures short { OnErr result (length room.new.items < whole) }
     ensures kind { IfErr result IsBodyStop }
     ensures ended { IfErr result (λ stop. stop ≡ Stop.Ended → AtEnd (S.left source.new)) }
-    ensures fault { IfErr result (λ stop. stop ≡ Stop.ReadFault → Rose (S.faults source.old) (S.faults source.new)) }
-    ensures later { S.faults source.old ≤ S.faults source.new }
+    ensures faults { CountsFault (result ≡ Err Stop.ReadFault) (S.faults source.old) (S.faults source.new) }
 {
     while room.len() < whole {
         let most = whole - room.len();
@@ -107,8 +104,7 @@ fn receive<S: Source>(source: &mut S, room: &mut Vec<u8>) -> Result<Head, Stop>
     ensures received { IfOk result (IsReceived room.new.items) }
     ensures stopped { IfErr result (HasStopped room.new.items) }
     ensures ended { IfErr result (λ stop. stop ≡ Stop.Ended → AtEnd (S.left source.new)) }
-    ensures fault { IfErr result (λ stop. stop ≡ Stop.ReadFault → Rose (S.faults source.old) (S.faults source.new)) }
-    ensures later { S.faults source.old ≤ S.faults source.new }
+    ensures faults { CountsFault (result ≡ Err Stop.ReadFault) (S.faults source.old) (S.faults source.new) }
 {
     room.clear();
     let mut piece = [0; PIECE];
@@ -150,8 +146,7 @@ pub fn read_request<'a, S: Source>(
 ) -> Incoming<'a>
     ensures received { (bytes : List ℕ) × (S.left source.old ≡ came bytes (S.left source.new)) × Receives bytes result }
     ensures ended { OnEnded result (AtEnd (S.left source.new)) }
-    ensures fault { OnReadFault result (Rose (S.faults source.old) (S.faults source.new)) }
-    ensures later { S.faults source.old ≤ S.faults source.new }
+    ensures faults { CountsFault (result ≡ Incoming.ReadFault) (S.faults source.old) (S.faults source.new) }
 {
     let received = receive(source, room);
     let answer = match received {

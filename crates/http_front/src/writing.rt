@@ -1,7 +1,7 @@
 //! One response into a sink.
 
-ghost use Rattle.std.specs.Prelude.{◌≡◌, ◌≤◌, ◌++◌, [], IfOk, IfErr, OnOk, length, unwrap_or};
-ghost use Rattle.gate_outside.specs.Edge.{GainedFront, Rose, gained};
+ghost use Rattle.std.specs.Prelude.{◌≡◌, ◌≤◌, ◌++◌, [], IfOk, IfErr, Err, OnOk, length, unwrap_or};
+ghost use Rattle.gate_outside.specs.Edge.{CountsFault, GainedFront, gained};
 ghost use Rattle.http.specs.StatusCode.{reason_phrase};
 ghost use Rattle.http_front.specs.Responses.{code_line, code_lines, fixed_lines, length_lines, reason_of, response_head, response_text, status_line};
 
@@ -119,8 +119,7 @@ pub fn write_response<K: Sink>(
     ensures ok { OnOk result (K.written sink.new ≡ gained (K.written sink.old) (response_text response.now)) }
     ensures part { IfErr result (λ fault. fault ≡ ReplyFault.WriteFault → GainedFront (K.written sink.old) (K.written sink.new) (response_text response.now)) }
     ensures nothing { IfErr result (λ fault. fault ≡ ReplyFault.NoMemory → K.written sink.new ≡ K.written sink.old) }
-    ensures later { K.faults sink.old ≤ K.faults sink.new }
-    ensures cause { IfErr result (λ fault. fault ≡ ReplyFault.WriteFault → Rose (K.faults sink.old) (K.faults sink.new)) }
+    ensures faults { CountsFault (result ≡ Err ReplyFault.WriteFault) (K.faults sink.old) (K.faults sink.new) }
 {
     let body = response.body.as_slice();
     let mut text = head_of(alloc, response.status, response.code, body.len())?;

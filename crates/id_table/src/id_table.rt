@@ -57,6 +57,7 @@ impl<V: Drop> IdTable<V> {
 
 impl<V: Drop> IdTable<V> {
     ghost use Rattle.std.specs.Prelude.{◌≡◌, ◌<◌, IfOk, IfErr, IfSome, IfNone, OnErr, None, Some, IsSome};
+    ghost use Rattle.gate_outside.specs.Helpers.{KeepsCounts};
     ghost use Rattle.id_table.specs.Draws.{AreNext, AreThere, Gone, IsFirstAbsent, nth_id};
     ghost use Rattle.id_table.specs.Maps.{Changed, Same};
     ghost use Rattle.id_table.specs.Refused.{IfConflict, value_of};
@@ -67,13 +68,12 @@ impl<V: Drop> IdTable<V> {
     pub fn add<D: Dice>(&mut self, dice: &mut D, value: V) -> Result<Uuid, AddRefusal<V>>
         ensures absent { IfOk result (λ id. held self.old id ≡ None) }
         ensures added { IfOk result (λ id. Changed id (Some value) (held self.old) (held self.new)) }
-        ensures first { IfOk result (λ id. IfSome (D.draws dice.old) (λ draws. IsFirstAbsent (held self.old) draws id)) }
+        ensures first { IfOk result (λ id. IfSome (D.helper dice.old).draws (λ draws. IsFirstAbsent (held self.old) draws id)) }
         ensures same { OnErr result (Same (held self.old) (held self.new)) }
         ensures given_back { IfErr result (λ refusal. value_of refusal ≡ value) }
         ensures conflict { IfErr result (λ refusal. IfConflict refusal (AreThere (held self.old) 4)) }
-        ensures drawn { IfErr result (λ refusal. IfConflict refusal (λ ids. IfSome (D.draws dice.old) (λ draws. AreNext draws 4 ids))) }
-        ensures dials { D.dial_faults dice.new ≡ D.dial_faults dice.old }
-        ensures starts { D.start_faults dice.new ≡ D.start_faults dice.old }
+        ensures drawn { IfErr result (λ refusal. IfConflict refusal (λ ids. IfSome (D.helper dice.old).draws (λ draws. AreNext draws 4 ids))) }
+        ensures counts { KeepsCounts (D.helper dice.old) (D.helper dice.new) }
     {
         let mut drawn = [Uuid::nil(); MOST_DRAWS];
         match self.draw(dice, &mut drawn) {
@@ -85,11 +85,10 @@ impl<V: Drop> IdTable<V> {
     // Draws until an ID is absent, and keeps those that were there.
     fn draw<D: Dice>(&self, dice: &mut D, drawn: &mut [Uuid; MOST_DRAWS]) -> Option<Uuid>
         ensures absent { IfSome result (λ id. held self.now id ≡ None) }
-        ensures first { IfSome result (λ id. IfSome (D.draws dice.old) (λ draws. IsFirstAbsent (held self.now) draws id)) }
+        ensures first { IfSome result (λ id. IfSome (D.helper dice.old).draws (λ draws. IsFirstAbsent (held self.now) draws id)) }
         ensures conflict { IfNone result (AreThere (held self.now) 4 drawn.new) }
-        ensures drawn { IfNone result (IfSome (D.draws dice.old) (λ draws. AreNext draws 4 drawn.new)) }
-        ensures dials { D.dial_faults dice.new ≡ D.dial_faults dice.old }
-        ensures starts { D.start_faults dice.new ≡ D.start_faults dice.old }
+        ensures drawn { IfNone result (IfSome (D.helper dice.old).draws (λ draws. AreNext draws 4 drawn.new)) }
+        ensures counts { KeepsCounts (D.helper dice.old) (D.helper dice.new) }
     {
         for n in 0..MOST_DRAWS {
             let id = Builder::from_random_bytes(dice.bytes()).into_uuid();

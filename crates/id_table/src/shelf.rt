@@ -1,4 +1,5 @@
 ghost use Rattle.std.specs.Prelude.{◌≡◌, ℕ, List, Option, Some, None, IfOk, IfErr, OnErr, IfSome, is_some};
+ghost use Rattle.gate_outside.specs.Helpers.{KeepsCounts};
 ghost use Rattle.id_table.specs.Draws.{AreNext, AreThere, IsFirstAbsent};
 ghost use Rattle.id_table.specs.Maps.{Changed, IsLent, Same, Shelved, Told, had, lent_as};
 ghost use Rattle.id_table.specs.Refused.{IfConflict, value_of};
@@ -22,13 +23,12 @@ pub trait Shelf<V>: Drop {
         value: V,
     ) -> Result<Uuid, AddRefusal<V>>
         ensures added { IfOk result (λ id. Told (told self.old) (told self.new) (λ m n. (m id ≡ None) × Changed id (Some (Some value)) m n)) }
-        ensures first { IfOk result (λ id. IfSome (told self.old) (λ m. IfSome (X.draws dice.old) (λ draws. IsFirstAbsent m draws id))) }
+        ensures first { IfOk result (λ id. IfSome (told self.old) (λ m. IfSome (X.helper dice.old).draws (λ draws. IsFirstAbsent m draws id))) }
         ensures same { OnErr result (Told (told self.old) (told self.new) Same) }
         ensures given_back { IfErr result (λ refusal. value_of refusal ≡ value) }
         ensures conflict { IfErr result (λ refusal. IfConflict refusal (λ ids. IfSome (told self.old) (λ m. AreThere m 4 ids))) }
-        ensures drawn { IfErr result (λ refusal. IfConflict refusal (λ ids. IfSome (X.draws dice.old) (λ draws. AreNext draws 4 ids))) }
-        ensures dials { X.dial_faults dice.new ≡ X.dial_faults dice.old }
-        ensures starts { X.start_faults dice.new ≡ X.start_faults dice.old };
+        ensures drawn { IfErr result (λ refusal. IfConflict refusal (λ ids. IfSome (X.helper dice.old).draws (λ draws. AreNext draws 4 ids))) }
+        ensures counts { KeepsCounts (X.helper dice.old) (X.helper dice.new) };
 
     /// Whether the ID is there.
     fn has<R: Wait>(&mut self, rt: &R, id: &Uuid) -> bool

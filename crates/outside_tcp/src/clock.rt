@@ -22,11 +22,7 @@ impl CountClock {
 }
 
 impl Counted for CountClock {
-    ghost dial_faults = { λ _. 0 };
-
-    ghost start_faults = { λ _. 0 };
-
-    ghost draws = { λ _. None };
+    ghost helper = { λ _. record { dial_faults = 0; start_faults = 0; draws = None } };
 }
 
 impl Clock for CountClock {

@@ -142,11 +142,7 @@ pub(crate) fn is_one_machine(own: IpAddr, peer: IpAddr) -> bool {
 }
 
 impl<R: Drop> Counted for TcpDialer<R> {
-    ghost dial_faults = { λ s. s.faults };
-
-    ghost start_faults = { λ _. 0 };
-
-    ghost draws = { λ _. None };
+    ghost helper = { λ s. record { dial_faults = s.faults; start_faults = 0; draws = None } };
 }
 
 impl<

@@ -25,11 +25,7 @@ impl ChaChaDice {
 }
 
 impl Counted for ChaChaDice {
-    ghost dial_faults = { λ _. 0 };
-
-    ghost start_faults = { λ _. 0 };
-
-    ghost draws = { λ _. None };
+    ghost helper = { λ _. record { dial_faults = 0; start_faults = 0; draws = None } };
 }
 
 impl Dice for ChaChaDice {

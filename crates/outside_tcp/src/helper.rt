@@ -42,11 +42,7 @@ impl<R: Copy> TcpHelper<R> {
 }
 
 impl<R: Drop> Counted for TcpHelper<R> {
-    ghost dial_faults = { λ s. ⟦<TcpDialer<R> as Counted>⟧.dial_faults s.dialer };
-
-    ghost start_faults = { λ s. ⟦<ThreadSpawner as Counted>⟧.start_faults s.spawner };
-
-    ghost draws = { λ _. None };
+    ghost helper = { λ s. record { dial_faults = (⟦<TcpDialer<R> as Counted>⟧.helper s.dialer).dial_faults; start_faults = (⟦<ThreadSpawner as Counted>⟧.helper s.spawner).start_faults; draws = None } };
 }
 
 impl<

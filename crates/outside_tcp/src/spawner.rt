@@ -18,11 +18,7 @@ impl ThreadSpawner {
 }
 
 impl Counted for ThreadSpawner {
-    ghost dial_faults = { λ _. 0 };
-
-    ghost start_faults = { λ s. s.faults };
-
-    ghost draws = { λ _. None };
+    ghost helper = { λ s. record { dial_faults = 0; start_faults = s.faults; draws = None } };
 }
 
 impl Spawner for ThreadSpawner {

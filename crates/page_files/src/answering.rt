@@ -1,7 +1,7 @@
 //! The answer that has a file.
 
-ghost use Rattle.std.specs.Prelude.{◌≡◌, ◌≤◌, ◌++◌, IfErr, OnOk};
-ghost use Rattle.gate_outside.specs.Edge.{GainedFront, Rose, gained};
+ghost use Rattle.std.specs.Prelude.{◌≡◌, ◌++◌, Err, IfErr, OnOk};
+ghost use Rattle.gate_outside.specs.Edge.{CountsFault, GainedFront, gained};
 ghost use Rattle.http_front.specs.declared.response.ReplyFault.TheVariants as faults;
 ghost use Rattle.page_files.specs.Answers.{answer_text, fixed_lines, kind_line, length_lines, status_line};
 
@@ -17,8 +17,7 @@ pub fn answer<K: Sink>(alloc: Global, sink: &mut K, file: &PageFile) -> Result<(
     ensures ok { OnOk result (K.written sink.new ≡ gained (K.written sink.old) (answer_text file.now)) }
     ensures part { IfErr result (λ fault. fault ≡ faults.WriteFault → GainedFront (K.written sink.old) (K.written sink.new) (answer_text file.now)) }
     ensures nothing { IfErr result (λ fault. fault ≡ faults.NoMemory → K.written sink.new ≡ K.written sink.old) }
-    ensures later { K.faults sink.old ≤ K.faults sink.new }
-    ensures cause { IfErr result (λ fault. fault ≡ faults.WriteFault → Rose (K.faults sink.old) (K.faults sink.new)) }
+    ensures faults { CountsFault (result ≡ Err faults.WriteFault) (K.faults sink.old) (K.faults sink.new) }
 {
     let mut text = Vec::with_capacity(alloc, 512)?;
     put_fixed(&mut text)?;

@@ -34,11 +34,7 @@ fn counts_of(traffic: &Traffic, dialed: bool) -> Result<Option<Traffic>, NoMemor
 }
 
 impl<H: Helper> Counted for TrafficHelper<H> {
-    ghost dial_faults = { λ h. H.dial_faults h.helper };
-
-    ghost start_faults = { λ h. H.start_faults h.helper };
-
-    ghost draws = { λ h. H.draws h.helper };
+    ghost helper = { λ h. H.helper h.helper };
 }
 
 impl<H: Helper> Dialer for TrafficHelper<H> {

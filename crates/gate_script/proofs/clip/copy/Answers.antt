@@ -44,7 +44,7 @@ loop-read-preserved g c =
           c.paste.new.paster _ c.in-Ok-paste.ensures.written;
       begun = c.in-Ok-paste.ensures.begun;
       room = c.in-Ok-paste.ensures.room;
-      later_source = omega (arith, i.later_source, c.read.ensures.later);
+      later_source = omega (arith, i.later_source, c.read.ensures.faults.1);
       later_answers = omega (arith, i.later_answers, c.paste.ensures.later);
     }
 

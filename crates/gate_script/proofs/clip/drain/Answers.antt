@@ -17,5 +17,5 @@ loop-count-preserved g c =
       ended = pull.ensures.ended ∙ i.ended;
       room = pull.ensures.room;
       over = λ none was. pull.ensures.over none (i.ended ∙ was);
-      later = omega (arith, i.later, c.write_all.ensures.later);
+      later = omega (arith, i.later, c.write_all.ensures.faults.1);
     }

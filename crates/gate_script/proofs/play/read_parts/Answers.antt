@@ -1,4 +1,4 @@
-use Rattle.std.proofs.Common.{List, ℕ, ◌++◌, take, ap, inl, inr, sym, ◌∙◌, arith}
+use Rattle.std.proofs.Common.{List, ℕ, ◌++◌, take, ap, inl, inr, refl, sym, ◌∙◌, arith}
 use Rattle.gate_outside.specs.Edge.{came}
 use Rattle.gate_outside.proofs.Moved.{came-none}
 use Rattle.gate_script.proofs.PlayReading.{read_end, read_ended, read_more}
@@ -27,7 +27,7 @@ pub returns-in-Err-clause-unread : goal.returns-in-Err-clause-unread
 returns-in-Err-clause-unread g c = (
   c.loop-source.bytes.items,
   c.loop-source.invariant.read ∙ ap (came c.loop-source.bytes.items) (sym c.in-Err.ensures.unchanged),
-  omega (arith, c.loop-source.invariant.later, c.in-Err.ensures.cause),
+  omega (arith, c.loop-source.invariant.later, c.in-Err.ensures.faults.0 refl),
 )
 
 -- more than a recording may have

@@ -17,6 +17,6 @@ returns-then-count-eq0-clause-read g c = read_end _ _ _ c.loop-read.input.items 
 pub loop-read-preserved : goal.loop-read-preserved
 loop-read-preserved g c = record {
   room = c.loop-read.invariant.room;
-  later = omega (arith, c.loop-read.invariant.later, c.in-Ok.ensures.later);
+  later = omega (arith, c.loop-read.invariant.later, c.in-Ok.ensures.faults.1);
   read = read_more _ _ _ c.loop-read.input.items _ c.extend_from_slice.new.self.items c.loop-read.invariant.read c.in-Ok.ensures.ok (c.in_ok-extend_from_slice-in-Ok.ensures.items ∙ ap (λ (b : List ℕ). c.loop-read.input.items ++ take c.in-Ok.count b) (c.deref.ensures.value ∙ written_back c.loop-read.buffer.len c.read.new.into c.loop-read.buffer.items (omega (arith, c.read.auto.into, c.deref_mut.ensures.len))));
 }

@@ -30,7 +30,7 @@ loop-turn-preserved g c =
     record {
       went = far_then c.loop-turn._turn 1 first before (left c.read_more.new.source) c.args.self.now c.settle.new.self c.read_more.new.self w (c.in_ok-read_more.ensures.came (ap (λ (more : Bool). Ok more) c.if-not-branch.false));
       into = i.into;
-      later = omega (arith, i.later, c.read_more.ensures.later);
+      later = omega (arith, i.later, c.read_more.ensures.faults.1);
       few = λ f. c.read_more.ensures.few (i.few f);
     }
 
