@@ -82,11 +82,6 @@ abbrev pub HasSent : View Entry → View Entry → List ℕ → Result Bool Send
 HasSent v w written (Ok more) = HasSentAll v w written
 HasSent v w written (Err end) = HasHalted v w written end
 
-abbrev pub IfFault : Result Bool SenderEnd → Type 0 → Type 0
-IfFault (Ok more) P = Unit {0}
-IfFault (Err Ended) P = Unit {0}
-IfFault (Err WriteFault) P = P
-
 -- the session is closed after a fault, which changes nothing of what was taken
 pub record HasClosedSending (v w : View Entry) : Type 0 where
   pub closed : HasClosed cause.LinkFault v w

@@ -1,7 +1,7 @@
 //! What the Telnet host sends goes into the session.
 
-ghost use Rattle.std.specs.Prelude.{◌≡◌, ◌<◌, ◌≤◌, ℕ, List, IfErr, length};
-ghost use Rattle.gate_outside.specs.Edge.{AtEnd, Rose, came};
+ghost use Rattle.std.specs.Prelude.{◌≡◌, ◌<◌, ◌≤◌, ℕ, List, Err, IfErr, length};
+ghost use Rattle.gate_outside.specs.Edge.{AtEnd, CountsFault, came};
 ghost use Rattle.gate_model.specs.session.Calls.{IsPiece};
 ghost use Rattle.session_link.specs.Pumps.{HasFed, HasStopped, IsRefusal, PumpRun};
 ghost use Rattle.gate_model.specs.Limits.{most_piece};
@@ -32,11 +32,8 @@ pub fn pump<R: Wait, S: Source, C: Clock, B: Bell>(
     ensures session { pass.new.session ≡ pass.old.session }
     ensures ran { (read : List ℕ) × (S.left source.old ≡ came read (S.left source.new)) × PumpRun pass.old.view pass.new.view read result }
     ensures ended { result ≡ ends.LinkEnded → AtEnd (S.left source.new) }
-    ensures read_fault { result ≡ ends.ReadFault → Rose (S.faults source.old) (S.faults source.new) }
-    ensures later { S.faults source.old ≤ S.faults source.new }
-    ensures dials { C.dial_faults clock.new ≡ C.dial_faults clock.old }
-    ensures starts { C.start_faults clock.new ≡ C.start_faults clock.old }
-    ensures draws { C.draws clock.new ≡ C.draws clock.old }
+    ensures faults { CountsFault (result ≡ ends.ReadFault) (S.faults source.old) (S.faults source.new) }
+    ensures helper { C.helper clock.new ≡ C.helper clock.old }
 {
     let end = feed_all(rt, alloc, pass, source, clock, bell);
     close_after(rt, pass, bell, end);
@@ -55,11 +52,8 @@ fn feed_all<R: Wait, S: Source, C: Clock, B: Bell>(
     ensures session { pass.new.session ≡ pass.old.session }
     ensures stopped { (read : List ℕ) × (S.left source.old ≡ came read (S.left source.new)) × HasStopped pass.old.view pass.new.view read result }
     ensures ended { result ≡ ends.LinkEnded → AtEnd (S.left source.new) }
-    ensures read_fault { result ≡ ends.ReadFault → Rose (S.faults source.old) (S.faults source.new) }
-    ensures later { S.faults source.old ≤ S.faults source.new }
-    ensures dials { C.dial_faults clock.new ≡ C.dial_faults clock.old }
-    ensures starts { C.start_faults clock.new ≡ C.start_faults clock.old }
-    ensures draws { C.draws clock.new ≡ C.draws clock.old }
+    ensures faults { CountsFault (result ≡ ends.ReadFault) (S.faults source.old) (S.faults source.new) }
+    ensures helper { C.helper clock.new ≡ C.helper clock.old }
 {
     let mut piece = [0u8; PIECE];
     for _ in rt.forever() {
@@ -89,11 +83,8 @@ fn feed_next<R: Wait, S: Source, C: Clock>(
     ensures session { pass.new.session ≡ pass.old.session }
     ensures step { (read : List ℕ) × (S.left source.old ≡ came read (S.left source.new)) × HasFed pass.old.view pass.new.view read result }
     ensures ended { IfErr result (λ end. end ≡ ends.LinkEnded → AtEnd (S.left source.new)) }
-    ensures read_fault { IfErr result (λ end. end ≡ ends.ReadFault → Rose (S.faults source.old) (S.faults source.new)) }
-    ensures later { S.faults source.old ≤ S.faults source.new }
-    ensures dials { C.dial_faults clock.new ≡ C.dial_faults clock.old }
-    ensures starts { C.start_faults clock.new ≡ C.start_faults clock.old }
-    ensures draws { C.draws clock.new ≡ C.draws clock.old }
+    ensures faults { CountsFault (result ≡ Err ends.ReadFault) (S.faults source.old) (S.faults source.new) }
+    ensures helper { C.helper clock.new ≡ C.helper clock.old }
 {
     let count = match source.read(piece) {
         Ok(count) => count,

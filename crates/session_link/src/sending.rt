@@ -1,8 +1,8 @@
 //! What the session has for the Telnet host goes out.
 
-ghost use Rattle.std.specs.Prelude.{◌≡◌, ◌<◌, ◌≤◌, ℕ, List, length};
-ghost use Rattle.gate_outside.specs.Edge.{Rose, gained};
-ghost use Rattle.session_link.specs.Senders.{HasHalted, HasSent, IfFault, SenderRun};
+ghost use Rattle.std.specs.Prelude.{◌≡◌, ◌<◌, ℕ, List, Err, length};
+ghost use Rattle.gate_outside.specs.Edge.{CountsFault, gained};
+ghost use Rattle.session_link.specs.Senders.{HasHalted, HasSent, SenderRun};
 ghost use Rattle.session_link.specs.declared.ends.SenderEnd.TheVariants as ends;
 
 use crate::SenderEnd;
@@ -25,8 +25,7 @@ pub fn sender<R: Wait, K: Sink, B: Bell>(
 ) -> SenderEnd
     ensures session { pass.new.session ≡ pass.old.session }
     ensures ran { (written : List ℕ) × (K.written sink.new ≡ gained (K.written sink.old) written) × SenderRun pass.old.view pass.new.view written result }
-    ensures write_fault { result ≡ ends.WriteFault → Rose (K.faults sink.old) (K.faults sink.new) }
-    ensures later { K.faults sink.old ≤ K.faults sink.new }
+    ensures faults { CountsFault (result ≡ ends.WriteFault) (K.faults sink.old) (K.faults sink.new) }
 {
     let end = send_all(rt, pass, sink, bell);
     shut_after(rt, pass, bell, end);
@@ -43,8 +42,7 @@ fn send_all<R: Wait, K: Sink, B: Bell>(
 ) -> SenderEnd
     ensures session { pass.new.session ≡ pass.old.session }
     ensures halted { (written : List ℕ) × (K.written sink.new ≡ gained (K.written sink.old) written) × HasHalted pass.old.view pass.new.view written result }
-    ensures write_fault { result ≡ ends.WriteFault → Rose (K.faults sink.old) (K.faults sink.new) }
-    ensures later { K.faults sink.old ≤ K.faults sink.new }
+    ensures faults { CountsFault (result ≡ ends.WriteFault) (K.faults sink.old) (K.faults sink.new) }
 {
     let mut piece = [0u8; PIECE];
     for _ in rt.forever() {
@@ -70,8 +68,7 @@ fn send_next<R: Wait, K: Sink, B: Bell>(
     ensures room { length piece.new ≡ length piece.old }
     ensures session { pass.new.session ≡ pass.old.session }
     ensures sent { (written : List ℕ) × (K.written sink.new ≡ gained (K.written sink.old) written) × HasSent pass.old.view pass.new.view written result }
-    ensures write_fault { IfFault result (Rose (K.faults sink.old) (K.faults sink.new)) }
-    ensures later { K.faults sink.old ≤ K.faults sink.new }
+    ensures faults { CountsFault (result ≡ Err ends.WriteFault) (K.faults sink.old) (K.faults sink.new) }
 {
     let taken = pass.take(rt, piece);
     let (count, closed) = (taken.count, taken.closed);

@@ -1,9 +1,10 @@
 //! A recording of one session.
 
-ghost use Rattle.std.specs.Prelude.{◌≡◌, ◌≤◌, ℕ, List};
+ghost use Rattle.std.specs.Prelude.{◌≡◌, ℕ, List};
 ghost use Rattle.gate_model.specs.session.Delivered.{delivered};
 ghost use Rattle.gate_model.specs.text.Text.{texts};
-ghost use Rattle.gate_outside.specs.Edge.{Rose, gained};
+ghost use Rattle.gate_outside.specs.Edge.{CountsFault, gained};
+ghost use Rattle.shared_desk.specs.Members.{Stays};
 ghost use Rattle.user_serve.specs.Outlets.{OutletRun};
 ghost use Rattle.user_serve.specs.declared.ends.OutletEnd.TheVariants as ends;
 
@@ -27,11 +28,9 @@ pub fn keep<R: Wait, K: Sink, B: Bell>(
     bell: &B,
 ) -> OutletEnd
     requires fresh { first.now ≡ texts (delivered pass.old.view.seen pass.old.viewer) }
-    ensures session { pass.new.session ≡ pass.old.session }
-    ensures viewer { pass.new.viewer ≡ pass.old.viewer }
+    ensures stays { Stays pass.old pass.new }
     ensures ran { (written : List ℕ) × (K.written sink.new ≡ gained (K.written sink.old) written) × OutletRun pass.old.viewer pass.old.view pass.new.view written result }
-    ensures write_fault { result ≡ ends.WriteFault → Rose (K.faults sink.old) (K.faults sink.new) }
-    ensures later { K.faults sink.old ≤ K.faults sink.new }
+    ensures faults { CountsFault (result ≡ ends.WriteFault) (K.faults sink.old) (K.faults sink.new) }
 {
     outlet(rt, alloc, pass, first, sink, bell)
 }

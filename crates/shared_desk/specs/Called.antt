@@ -14,7 +14,7 @@ use Rattle.gate_model.specs.Sequences.{IsLater}
 use Rattle.gate_model.specs.session.Steps.{Legal}
 use Rattle.gate_model.specs.text.Text.{texts}
 use Rattle.turn_lock.specs.Places.{ArePlaces}
-use Rattle.turn_lock.specs.Views.{Owns, HasPlaces}
+use Rattle.turn_lock.specs.Views.{Owns, HasPlaces, knowing}
 use Rattle.turn_lock.specs.declared.view.View.{View}
 use Rattle.shared_desk.specs.Marks.{mark_of}
 use Rattle.shared_desk.specs.Members.{IsSound}
@@ -63,3 +63,9 @@ Called v event answer w = Turned v w (Answers event answer [] [])
 -- a call that appends to a buffer
 abbrev pub Gives : View Entry → Event → Result Answer NoMemory → View Entry → List ℕ → List ℕ → Type 0
 Gives v event answer w before after = Turned v w (Answers event answer before after)
+
+-- a load of the number of entries, which takes no turn: the pass then knows that there are so many
+pub record Loads (v : View Entry) (number : ℕ) (w : View Entry) : Type 0 where
+  pub seen : length v.seen ≤ number
+  pub known : v.known ≤ number
+  pub view : w ≡ knowing number v

@@ -29,6 +29,11 @@ pub record HostState : Type 0 where
   pub linked : Bool
   pub out : ℕ
 
+-- it is still of this session, and has given the passes of the link or not as before
+pub record StaysHost (before after : HostState) : Type 0 where
+  pub session : after.session ≡ before.session
+  pub linked : after.linked ≡ before.linked
+
 -- how many passes `link` is still to give
 abbrev pub unlinked : Bool → ℕ
 unlinked linked = if linked then 0 else 2

@@ -21,6 +21,11 @@ pub record ViewerState : Type 0 where
   pub view : View Entry
   pub viewer : ℕ
 
+-- it is still the pass of this viewer of this session
+pub record Stays (before after : ViewerState) : Type 0 where
+  pub session : after.session ≡ before.session
+  pub viewer : after.viewer ≡ before.viewer
+
 -- what a history is that a pass has seen: each entry was added by its rule; what any viewer was given up to a sync
 -- leaves what all frames up to it leave, and these show the screen; and each frame, and each picture that a Join or a
 -- Read gave, is within its bound

@@ -1,14 +1,14 @@
 //! The desk's calls, each in a turn.
 
-ghost use Rattle.std.specs.Prelude.{◌≡◌, ◌≤◌, ◌⊎◌, ℕ, List, [], true, false, Ok, Err, Some, drop, length};
+ghost use Rattle.std.specs.Prelude.{◌≡◌, ◌⊎◌, ℕ, List, [], true, false, Ok, Err, Some, length};
 ghost use Rattle.gate_model.specs.declared.entry.Entry.{Entry};
 ghost use Rattle.turn_lock.specs.Passes.{view_of, IsOutside, IsInside, IsNext};
 ghost use Rattle.turn_lock.specs.Turns.{lock_in, pass_in, view_in, value_in};
-ghost use Rattle.turn_lock.specs.Views.{passed, gained, HasPlaces};
+ghost use Rattle.turn_lock.specs.Views.{passed, gained};
 ghost use Rattle.shared_desk.specs.declared.held.Held.{Held};
 ghost use Rattle.desk_core.specs.Desk.{Stands};
 ghost use Rattle.shared_desk.specs.Marks.{mark_of};
-ghost use Rattle.shared_desk.specs.Members.{IsSound};
+ghost use Rattle.shared_desk.specs.Members.{IsPass};
 
 use crate::held::Held;
 use crate::member::Member;
@@ -32,6 +32,7 @@ impl Member {
     ghost use Rattle.desk_core.specs.Calls.{feed_answer, join_answer, read_answer, resize_answer, write_answer};
     ghost use Rattle.shared_desk.specs.Marks.{reader_mark, writer_mark};
     ghost use Rattle.shared_desk.specs.Called.{Called, Gives, take_answer};
+    ghost use Rattle.shared_desk.specs.Takes.{Fills};
 
     /// `Desk::feed`, in a turn.
     pub(crate) fn feed<R: Wait>(
@@ -162,8 +163,7 @@ impl Member {
         requires mark { self.old.view.mark ≡ Some 2 }
         ensures session { self.new.session ≡ self.old.session }
         ensures called { Called self.old.view (Take (length into.old)) (take_answer result into.new) self.new.view }
-        ensures within { result.count ≤ length into.old }
-        ensures rest { drop result.count into.new ≡ drop result.count into.old }
+        ensures fills { Fills result.count into.old into.new }
     {
         let most = into.len();
         let mut turn = self.lock.turn(rt, &mut self.pass);
@@ -215,8 +215,7 @@ pub(crate) fn end_turn<N: Adds<Entry>, A>(turn: Turn<'_, Held>, appended: bool, 
     ensures outside { IsOutside (lock_in turn.entry) turn.exit.1.0.now }
     ensures added { appended ≡ true → (e : Entry) × IsNext (λ (w : Held) h. Stands w.desk h) mark_of N.adds (value_in turn.entry) (view_in turn.entry) e × (view_of turn.exit.1.0.now ≡ passed (gained e (view_in turn.entry))) }
     ensures same { appended ≡ false → view_of turn.exit.1.0.now ≡ passed (view_in turn.entry) }
-    ensures places { HasPlaces mark_of (view_of turn.exit.1.0.now) }
-    ensures sound { IsSound (view_of turn.exit.1.0.now).seen }
+    ensures pass { IsPass (view_of turn.exit.1.0.now) }
 {
     let _ = told;
     // So the number of entries doesn't overflow.

@@ -6,9 +6,26 @@ use turn_lock::Kept;
 
 /// A desk under its lock. It stands for the histories for which the desk stands, which are few enough to be
 /// counted; an entry's mark is that of the pass which may add it.
-#[derive(Drop)]
 pub struct Held {
     pub(crate) desk: Desk,
+}
+
+// Not derived, so that the crates above prove a call where a pass is dropped, and not the desk's parts anew.
+impl Drop for Held {
+    fn drop(self) {
+        let Held { desk: _ } = self;
+    }
+}
+
+impl Held {
+    ghost use Rattle.std.specs.Prelude.{◌≡◌};
+
+    pub(crate) fn into_desk(self) -> Desk
+        ensures { result ≡ self.desk }
+    {
+        let Held { desk } = self;
+        desk
+    }
 }
 
 impl Kept for Held {

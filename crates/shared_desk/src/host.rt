@@ -1,6 +1,6 @@
 //! The host's pass, which lets viewers join and gives out the other passes.
 
-ghost use Rattle.std.specs.Prelude.{◌≡◌, ◌≤◌, ◌+◌, ◌-◌, ◌*◌, ℕ, List, Bool, true, not, Contains, Ok, Err, None, Some, length, is_some, is_ok, if◌then◌else◌, IfOk, IfSome, OnErr};
+ghost use Rattle.std.specs.Prelude.{◌≡◌, ◌≤◌, ◌+◌, ◌-◌, ◌*◌, ℕ, List, Bool, true, not, Contains, Ok, Err, None, Some, is_some, is_ok, if◌then◌else◌, IfOk, IfSome, OnErr};
 ghost use Rattle.gate_model.specs.declared.instr.Instr.{Instr};
 
 use crate::any_pass::AnyPass;
@@ -44,10 +44,10 @@ impl HostPass {
     ghost use Rattle.gate_model.specs.Sequences.{IsLater};
     ghost use Rattle.gate_model.specs.declared.answer.Answer.TheVariants.{Close as closed};
     ghost use Rattle.gate_model.specs.declared.event.Event.TheVariants.{Close};
-    ghost use Rattle.turn_lock.specs.Views.{joined, knowing};
-    ghost use Rattle.shared_desk.specs.Called.{Called};
+    ghost use Rattle.turn_lock.specs.Views.{joined};
+    ghost use Rattle.shared_desk.specs.Called.{Called, Loads};
     ghost use Rattle.shared_desk.specs.Given.{state_of};
-    ghost use Rattle.shared_desk.specs.Hosts.{AreLinked, IsPlaceOf, JoinEnds, unlinked, with_link, with_place};
+    ghost use Rattle.shared_desk.specs.Hosts.{AreLinked, IsPlaceOf, JoinEnds, StaysHost, unlinked, with_link, with_place};
 
     /// The passes that feed and take. There are none from the second call on.
     pub fn link(&mut self) -> Option<(LinkPass, SenderPass)>
@@ -77,8 +77,7 @@ impl HostPass {
         ensures step { JoinEnds self.old.view asked result self.new.view into.old.items into.new.items }
         ensures place { IfOk result (λ place. (place.reader.session ≡ self.old.session) × (place.writer.session ≡ self.old.session)) }
         ensures buffer { OnErr result (into.new.items ≡ into.old.items) }
-        ensures session { self.new.session ≡ self.old.session }
-        ensures linked { self.new.linked ≡ self.old.linked }
+        ensures stays { StaysHost self.old self.new }
         ensures out { self.new.out ≡ (if is_ok result then self.old.out + 2 else self.old.out) }
     {
         let Ok(owners) = Owners::of(&self.member.lock) else {
@@ -92,8 +91,7 @@ impl HostPass {
     /// that alone where nothing else refuses it. Nobody joins, and it takes no memory (this project's own rule).
     pub fn refuse<R: Wait>(&mut self, rt: &R, asked: Asked) -> JoinRefusal
         ensures step { (text : List ℕ) → JoinEnds self.old.view asked (Err result) self.new.view text text }
-        ensures session { self.new.session ≡ self.old.session }
-        ensures linked { self.new.linked ≡ self.old.linked }
+        ensures stays { StaysHost self.old self.new }
         ensures out { self.new.out ≡ self.old.out }
     {
         self.member.refuse(rt, asked)
@@ -107,8 +105,7 @@ impl HostPass {
         requires given { (ms : List ℕ) × (self.old.view.given ≡ Some ms) × ((n : ℕ) → Contains ms n → n ≤ 2 * viewer) }
         requires few { self.old.out + unlinked self.old.linked ≤ 2 * viewer }
         ensures place { IsPlaceOf self.old viewer role result }
-        ensures session { self.new.session ≡ self.old.session }
-        ensures linked { self.new.linked ≡ self.old.linked }
+        ensures stays { StaysHost self.old self.new }
         ensures out { self.new.out ≡ self.old.out + 2 }
         ensures view { self.new.view ≡ with_place viewer self.old.view }
     {
@@ -134,8 +131,7 @@ impl HostPass {
     /// `Desk::close`, in a turn.
     pub fn close<R: Wait>(&mut self, rt: &R, cause: Cause) -> Result<(), Closed>
         ensures called { Called self.old.view (Close cause) (Ok (closed result)) self.new.view }
-        ensures session { self.new.session ≡ self.old.session }
-        ensures linked { self.new.linked ≡ self.old.linked }
+        ensures stays { StaysHost self.old self.new }
         ensures out { self.new.out ≡ self.old.out }
     {
         self.member.close(rt, cause)
@@ -148,11 +144,8 @@ impl HostPass {
 
     /// The number of entries that the session has, by one load.
     pub fn newest(&mut self) -> u64
-        ensures seen { length self.old.view.seen ≤ result }
-        ensures known { self.old.view.known ≤ result }
-        ensures view { self.new.view ≡ knowing result self.old.view }
-        ensures session { self.new.session ≡ self.old.session }
-        ensures linked { self.new.linked ≡ self.old.linked }
+        ensures loads { Loads self.old.view result self.new.view }
+        ensures stays { StaysHost self.old self.new }
         ensures out { self.new.out ≡ self.old.out }
     {
         self.member.newest()
@@ -165,8 +158,7 @@ impl HostPass {
         ensures view { self.new.view ≡ joined self.old.view (state_of pass).view }
         ensures begins { IsLater self.old.view.seen self.new.view.seen × IsLater (state_of pass).view.seen self.new.view.seen }
         ensures apart { (p : ℕ) → Contains self.old.view.mine p → ¬ (Contains (state_of pass).view.mine p) }
-        ensures session { self.new.session ≡ self.old.session }
-        ensures linked { self.new.linked ≡ self.old.linked }
+        ensures stays { StaysHost self.old self.new }
         ensures out { self.new.out ≡ self.old.out - 1 }
     {
         self.member.merge(pass.into_member());

@@ -1,6 +1,6 @@
 //! The pass that feeds what the Telnet host sends.
 
-ghost use Rattle.std.specs.Prelude.{◌≡◌, ◌≤◌, ◌++◌, Ok, length, is_ok, if◌then◌else◌};
+ghost use Rattle.std.specs.Prelude.{◌≡◌, ◌++◌, Ok, is_ok, if◌then◌else◌};
 
 use crate::member::Member;
 use desk_core::{Closed, FeedRefusal};
@@ -33,8 +33,7 @@ impl LinkPass {
     ghost use Rattle.gate_model.specs.declared.answer.Answer.TheVariants.{Close as closed};
     ghost use Rattle.gate_model.specs.declared.event.Event.TheVariants.{Feed, Close};
     ghost use Rattle.desk_core.specs.Calls.{feed_answer};
-    ghost use Rattle.shared_desk.specs.Called.{Called};
-    ghost use Rattle.turn_lock.specs.Views.{knowing};
+    ghost use Rattle.shared_desk.specs.Called.{Called, Loads};
 
     /// `Desk::feed`, in a turn. The bytes that the session has heard are those of this pass.
     pub fn feed<R: Wait>(
@@ -69,9 +68,7 @@ impl LinkPass {
     /// The number of entries that the session has, by one load.
     pub fn newest(&mut self) -> u64
         ensures session { self.new.session ≡ self.old.session }
-        ensures seen { length self.old.view.seen ≤ result }
-        ensures known { self.old.view.known ≤ result }
-        ensures view { self.new.view ≡ knowing result self.old.view }
+        ensures loads { Loads self.old.view result self.new.view }
     {
         self.member.newest()
     }

@@ -4,6 +4,7 @@ ghost use Rattle.std.specs.Prelude.{◌≡◌, Some};
 ghost use Rattle.gate_model.specs.session.Delivered.{delivered};
 ghost use Rattle.shared_desk.specs.Marks.{reader_mark, writer_mark};
 ghost use Rattle.shared_desk.specs.Meetings.{HaveMet, written_by};
+ghost use Rattle.shared_desk.specs.Members.{Stays};
 ghost use Rattle.shared_desk.specs.Own.{own_entries};
 
 use crate::member::Member;
@@ -15,8 +16,7 @@ use crate::writer::WriterPass;
 /// writer's viewer but the writer's own. It takes no turn and no memory (this project's own rule).
 pub fn meet(reader: &mut ReaderPass, writer: &mut WriterPass)
     requires session { writer.old.session ≡ reader.old.session }
-    ensures session { (reader.new.session ≡ reader.old.session) × (writer.new.session ≡ writer.old.session) }
-    ensures viewer { (reader.new.viewer ≡ reader.old.viewer) × (writer.new.viewer ≡ writer.old.viewer) }
+    ensures stays { Stays reader.old reader.new × Stays writer.old writer.new }
     ensures marks { (reader.new.view.mark ≡ Some (reader_mark reader.old.viewer)) × (writer.new.view.mark ≡ Some (writer_mark writer.old.viewer)) }
     ensures met { HaveMet reader.old.view writer.old.view reader.new.view writer.new.view }
     ensures delivered { delivered reader.new.view.seen reader.old.viewer ≡ delivered reader.old.view.seen reader.old.viewer }

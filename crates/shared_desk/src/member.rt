@@ -11,10 +11,16 @@ use turn_lock::{Pass, TurnLock};
 use wake_spot::Spots;
 
 /// What each kind of pass holds: a pass outside any turn, and the lock that it belongs to.
-#[derive(Drop)]
 pub struct Member {
     pub(crate) lock: Arc<TurnLock<Held>, Global>,
     pub(crate) pass: Pass<Held>,
+}
+
+// Not derived, so that the crates above prove a call where a pass is dropped, and not its parts anew.
+impl Drop for Member {
+    fn drop(self) {
+        let Member { lock: _, pass: _ } = self;
+    }
 }
 
 impl Model for Member {
@@ -32,20 +38,19 @@ impl Model for Member {
 impl Member {
     ghost use Rattle.std.specs.Arc.{arc_value};
     ghost use Rattle.turn_lock.specs.Passes.{name_of};
-    ghost use Rattle.turn_lock.specs.Views.{knowing, giving, part_of, joined, MayGive};
+    ghost use Rattle.turn_lock.specs.Views.{giving, part_of, joined, MayGive};
     ghost use Rattle.gate_model.specs.session.History.{joined as viewers};
     ghost use Rattle.gate_model.specs.Limits.{most_joined};
     ghost use Rattle.gate_model.specs.Sequences.{IsLater};
     ghost use Rattle.gate_model.specs.declared.entry.Entry.{Entry};
     ghost use Rattle.desk_core.specs.Desk.{Stands};
+    ghost use Rattle.shared_desk.specs.Called.{Loads};
     ghost use Rattle.shared_desk.specs.Members.{IsSound};
 
     /// The number of entries that the history has, by one load.
     pub(crate) fn newest(&mut self) -> u64
         ensures session { self.new.session ≡ self.old.session }
-        ensures seen { length self.old.view.seen ≤ result }
-        ensures known { self.old.view.known ≤ result }
-        ensures view { self.new.view ≡ knowing result self.old.view }
+        ensures loads { Loads self.old.view result self.new.view }
     {
         self.lock.newest(&mut self.pass)
     }
@@ -99,6 +104,6 @@ impl Member {
         ensures { (h : List Entry) × Stands result h × IsLater self.view.seen h × (self.view.known ≤ length h) }
     {
         let Member { lock, pass } = self;
-        lock.finish(rt, pass).desk
+        lock.finish(rt, pass).into_desk()
     }
 }

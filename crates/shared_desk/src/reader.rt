@@ -1,6 +1,6 @@
 //! The pass that reads for a viewer.
 
-ghost use Rattle.std.specs.Prelude.{◌≡◌, ◌≤◌, ◌++◌, List, Ok, length};
+ghost use Rattle.std.specs.Prelude.{◌≡◌, ◌++◌, List, Ok};
 ghost use Rattle.gate_model.specs.declared.instr.Instr.{Instr};
 
 use crate::member::Member;
@@ -33,9 +33,8 @@ impl ReaderPass {
     ghost use Rattle.gate_model.specs.declared.answer.Answer.TheVariants.{Leave as left};
     ghost use Rattle.gate_model.specs.declared.event.Event.TheVariants.{Read, Leave};
     ghost use Rattle.desk_core.specs.Calls.{read_answer};
-    ghost use Rattle.shared_desk.specs.Called.{Called, Gives};
-    ghost use Rattle.shared_desk.specs.Members.{IsSound, KnowsViewer};
-    ghost use Rattle.turn_lock.specs.Views.{knowing};
+    ghost use Rattle.shared_desk.specs.Called.{Called, Gives, Loads};
+    ghost use Rattle.shared_desk.specs.Members.{IsSound, KnowsViewer, Stays};
 
     /// The viewer's number.
     pub fn viewer(&self) -> u32
@@ -54,8 +53,7 @@ impl ReaderPass {
 
     /// `Desk::read`, in a turn. It appends the text of what the viewer was given by it.
     pub fn read<R: Wait>(&mut self, rt: &R, into: &mut Vec<u8>) -> Result<ReadAnswer, ReadRefusal>
-        ensures session { self.new.session ≡ self.old.session }
-        ensures viewer { self.new.viewer ≡ self.old.viewer }
+        ensures stays { Stays self.old self.new }
         ensures gives { Gives self.old.view (Read self.old.viewer) (read_answer result) self.new.view into.old.items into.new.items }
         ensures delivered { (more : List Instr) × (delivered self.new.view.seen self.old.viewer ≡ delivered self.old.view.seen self.old.viewer ++ more) × (into.new.items ≡ into.old.items ++ texts more) }
     {
@@ -64,8 +62,7 @@ impl ReaderPass {
 
     /// `Desk::leave` for the viewer, in a turn.
     pub fn leave<R: Wait>(&mut self, rt: &R) -> Result<(), NoViewer>
-        ensures session { self.new.session ≡ self.old.session }
-        ensures viewer { self.new.viewer ≡ self.old.viewer }
+        ensures stays { Stays self.old self.new }
         ensures called { Called self.old.view (Leave self.old.viewer) (Ok (left result)) self.new.view }
         ensures delivered { delivered self.new.view.seen self.old.viewer ≡ delivered self.old.view.seen self.old.viewer }
     {
@@ -79,11 +76,8 @@ impl ReaderPass {
 
     /// The number of entries that the session has, by one load.
     pub fn newest(&mut self) -> u64
-        ensures session { self.new.session ≡ self.old.session }
-        ensures viewer { self.new.viewer ≡ self.old.viewer }
-        ensures seen { length self.old.view.seen ≤ result }
-        ensures known { self.old.view.known ≤ result }
-        ensures view { self.new.view ≡ knowing result self.old.view }
+        ensures stays { Stays self.old self.new }
+        ensures loads { Loads self.old.view result self.new.view }
     {
         self.member.newest()
     }

@@ -1,6 +1,6 @@
 //! The pass that takes what goes to the Telnet host.
 
-ghost use Rattle.std.specs.Prelude.{◌≡◌, ◌+◌, ◌≤◌, Ok, drop, length, take};
+ghost use Rattle.std.specs.Prelude.{◌≡◌, Ok, length, take};
 
 use crate::member::Member;
 use desk_core::{Closed, Taken};
@@ -31,19 +31,16 @@ impl SenderPass {
     ghost use Rattle.gate_model.specs.Sequences.{BeginsWith};
     ghost use Rattle.gate_model.specs.declared.answer.Answer.TheVariants.{Close as closed};
     ghost use Rattle.gate_model.specs.declared.event.Event.TheVariants.{Take, Close};
-    ghost use Rattle.shared_desk.specs.Called.{Called, take_answer};
-    ghost use Rattle.turn_lock.specs.Views.{knowing};
+    ghost use Rattle.shared_desk.specs.Called.{Called, Loads, take_answer};
+    ghost use Rattle.shared_desk.specs.Takes.{Fills, TakesNext};
 
     /// `Desk::take`, in a turn. It moves the next bytes of what the session sends, past those that this pass
     /// has taken.
     pub fn take<R: Wait>(&mut self, rt: &R, into: &mut [u8]) -> Taken
         ensures session { self.new.session ≡ self.old.session }
         ensures called { Called self.old.view (Take (length into.old)) (take_answer result into.new) self.new.view }
-        ensures next { take result.count into.new ≡ take (length into.old) (drop (taken self.old.view.seen) (out self.new.view.seen)) }
-        ensures taken { taken self.new.view.seen ≡ taken self.old.view.seen + result.count }
-        ensures sent { BeginsWith (out self.new.view.seen) (out self.old.view.seen) }
-        ensures within { result.count ≤ length into.old }
-        ensures rest { drop result.count into.new ≡ drop result.count into.old }
+        ensures takes { TakesNext (length into.old) self.old.view.seen self.new.view.seen (take result.count into.new) result.count }
+        ensures fills { Fills result.count into.old into.new }
     {
         self.member.take(rt, into)
     }
@@ -66,9 +63,7 @@ impl SenderPass {
     /// The number of entries that the session has, by one load.
     pub fn newest(&mut self) -> u64
         ensures session { self.new.session ≡ self.old.session }
-        ensures seen { length self.old.view.seen ≤ result }
-        ensures known { self.old.view.known ≤ result }
-        ensures view { self.new.view ≡ knowing result self.old.view }
+        ensures loads { Loads self.old.view result self.new.view }
     {
         self.member.newest()
     }

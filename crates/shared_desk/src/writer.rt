@@ -1,6 +1,6 @@
 //! The pass that writes for a viewer.
 
-ghost use Rattle.std.specs.Prelude.{◌≡◌, ◌≤◌, ◌++◌, List, [], ◌∷◌, Ok, length, is_ok, if◌then◌else◌};
+ghost use Rattle.std.specs.Prelude.{◌≡◌, ◌++◌, List, [], ◌∷◌, Ok, is_ok, if◌then◌else◌};
 
 use crate::member::Member;
 use desk_core::{NoViewer, ResizeRefusal, WriteRefusal, Written};
@@ -36,10 +36,9 @@ impl WriterPass {
     ghost use Rattle.gate_model.specs.declared.entry.Entry.TheVariants.{Write as Wrote, Leave as Left};
     ghost use Rattle.gate_model.specs.declared.event.Event.TheVariants.{Write, Resize, Leave};
     ghost use Rattle.desk_core.specs.Calls.{resize_answer, write_answer};
-    ghost use Rattle.shared_desk.specs.Called.{Called};
-    ghost use Rattle.shared_desk.specs.Members.{IsSound, KnowsViewer};
+    ghost use Rattle.shared_desk.specs.Called.{Called, Loads};
+    ghost use Rattle.shared_desk.specs.Members.{IsSound, KnowsViewer, Stays};
     ghost use Rattle.shared_desk.specs.Own.{AreSized, own_entries};
-    ghost use Rattle.turn_lock.specs.Views.{knowing};
 
     /// The viewer's number.
     pub fn viewer(&self) -> u32
@@ -64,8 +63,7 @@ impl WriterPass {
         acts: &[Act],
     ) -> Result<Written, WriteRefusal>
         requires { IsWrite acts.now }
-        ensures session { self.new.session ≡ self.old.session }
-        ensures viewer { self.new.viewer ≡ self.old.viewer }
+        ensures stays { Stays self.old self.new }
         ensures called { Called self.old.view (Write self.old.viewer acts.now) (write_answer result) self.new.view }
         ensures own { own_entries self.new.view ≡ (if is_ok result then Wrote self.old.viewer acts.now ∷ [] else []) ++ own_entries self.old.view }
     {
@@ -82,8 +80,7 @@ impl WriterPass {
         rows: u16,
     ) -> Result<u64, ResizeRefusal>
         requires { IsScreenSize cols rows }
-        ensures session { self.new.session ≡ self.old.session }
-        ensures viewer { self.new.viewer ≡ self.old.viewer }
+        ensures stays { Stays self.old self.new }
         ensures called { Called self.old.view (Resize self.old.viewer cols rows) (resize_answer result) self.new.view }
         ensures own { (sized : List Entry) × AreSized self.old.viewer cols rows result sized × (own_entries self.new.view ≡ sized ++ own_entries self.old.view) }
     {
@@ -92,8 +89,7 @@ impl WriterPass {
 
     /// `Desk::leave` for the viewer, in a turn.
     pub fn leave<R: Wait>(&mut self, rt: &R) -> Result<(), NoViewer>
-        ensures session { self.new.session ≡ self.old.session }
-        ensures viewer { self.new.viewer ≡ self.old.viewer }
+        ensures stays { Stays self.old self.new }
         ensures called { Called self.old.view (Leave self.old.viewer) (Ok (left result)) self.new.view }
         ensures own { own_entries self.new.view ≡ (if is_ok result then Left self.old.viewer ∷ [] else []) ++ own_entries self.old.view }
     {
@@ -107,11 +103,8 @@ impl WriterPass {
 
     /// The number of entries that the session has, by one load.
     pub fn newest(&mut self) -> u64
-        ensures session { self.new.session ≡ self.old.session }
-        ensures viewer { self.new.viewer ≡ self.old.viewer }
-        ensures seen { length self.old.view.seen ≤ result }
-        ensures known { self.old.view.known ≤ result }
-        ensures view { self.new.view ≡ knowing result self.old.view }
+        ensures stays { Stays self.old self.new }
+        ensures loads { Loads self.old.view result self.new.view }
     {
         self.member.newest()
     }

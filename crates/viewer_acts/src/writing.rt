@@ -2,6 +2,7 @@
 
 ghost use Rattle.std.specs.Prelude.{◌≡◌, ◌≤◌, IfOk, length};
 ghost use Rattle.gate_model.specs.Limits.{most_acts};
+ghost use Rattle.shared_desk.specs.Members.{Stays};
 ghost use Rattle.viewer_acts.specs.Parts.{IsRun, Others, Sized};
 ghost use Rattle.viewer_acts.specs.Doing.{HasWritten, WritesOne, WritesPart, passed_over};
 
@@ -25,8 +26,7 @@ pub fn write_acts<R: Wait, B: Bell>(
     bell: &B,
 ) -> Result<(), WriteRefusal>
     requires { length acts.now ≤ most_acts }
-    ensures session { pass.new.session ≡ pass.old.session }
-    ensures viewer { pass.new.viewer ≡ pass.old.viewer }
+    ensures stays { Stays pass.old pass.new }
     ensures wrote { HasWritten pass.old.viewer pass.old.view pass.new.view acts.now result }
 {
     let mut at = 0;
@@ -46,8 +46,7 @@ fn write_part<R: Wait, B: Bell>(
 ) -> Result<usize, WriteRefusal>
     requires some { 1 ≤ length acts.now }
     requires few { length acts.now ≤ most_acts }
-    ensures session { pass.new.session ≡ pass.old.session }
-    ensures viewer { pass.new.viewer ≡ pass.old.viewer }
+    ensures stays { Stays pass.old pass.new }
     ensures count { IfOk result (λ count. (1 ≤ count) × (count ≤ length acts.now)) }
     ensures part { WritesPart pass.old.viewer pass.old.view pass.new.view acts.now result }
 {
@@ -73,8 +72,7 @@ fn write<R: Wait, B: Bell>(
     bell: &B,
 ) -> Result<(), WriteRefusal>
     requires { length acts.now ≤ most_acts }
-    ensures session { pass.new.session ≡ pass.old.session }
-    ensures viewer { pass.new.viewer ≡ pass.old.viewer }
+    ensures stays { Stays pass.old pass.new }
     ensures wrote { WritesOne pass.old.viewer pass.old.view pass.new.view (Others acts.now) result }
 {
     match pass.write(rt, alloc, acts) {
@@ -94,8 +92,7 @@ fn resize<R: Wait, B: Bell>(
     size: (u32, u32),
     bell: &B,
 ) -> Result<(), WriteRefusal>
-    ensures session { pass.new.session ≡ pass.old.session }
-    ensures viewer { pass.new.viewer ≡ pass.old.viewer }
+    ensures stays { Stays pass.old pass.new }
     ensures sized { WritesOne pass.old.viewer pass.old.view pass.new.view (Sized size) result }
 {
     match pass.resize(rt, alloc, columns_of(Some(size)), rows_of(Some(size))) {

@@ -5,7 +5,7 @@ use Rattle.session_link.proofs.Pumped.{pumped_more, pumped_none, pumped_stop}
 use Rattle.session_link.proofs.pumping.feed_all.Goals as goal
 
 pub loop-init : goal.loop-init
-loop-init g c = record { session = refl; so_far = ([], sym (came-none _), pumped_none _); later = omega arith; dials = refl; starts = refl; draws = refl }
+loop-init g c = record { session = refl; so_far = ([], sym (came-none _), pumped_none _); later = omega arith; helper = refl }
 
 pub loop-preserved : goal.loop-preserved
 loop-preserved g c =
@@ -14,10 +14,8 @@ loop-preserved g c =
     record {
       session = c.feed_next.ensures.session ∙ c.loop.invariant.session;
       so_far = (p.0 ++ s.0, p.1 ∙ (ap (came p.0) s.1 ∙ came-came p.0 s.0 _), pumped_more _ _ _ p.0 s.0 p.2 s.2);
-      later = omega (arith, c.loop.invariant.later, c.feed_next.ensures.later);
-      dials = c.feed_next.ensures.dials ∙ c.loop.invariant.dials;
-      starts = c.feed_next.ensures.starts ∙ c.loop.invariant.starts;
-      draws = c.feed_next.ensures.draws ∙ c.loop.invariant.draws;
+      later = omega (arith, c.loop.invariant.later, c.feed_next.ensures.faults.1);
+      helper = c.feed_next.ensures.helper ∙ c.loop.invariant.helper;
     }
 
 pub returns-in-Err-clause-stopped : goal.returns-in-Err-clause-stopped

@@ -10,7 +10,5 @@ invariant-loop g l =
       session : l.pass.session ≡ l.fn.pass.session;
       so_far : (read : List ℕ) × (left l.fn.source ≡ came read (left l.source)) × HasPumped l.fn.pass.view l.pass.view read;
       later : g.S.Source.faults l.fn.source ≤ g.S.Source.faults l.source;
-      dials : g.C.Counted.dial_faults l.clock ≡ g.C.Counted.dial_faults l.fn.clock;
-      starts : g.C.Counted.start_faults l.clock ≡ g.C.Counted.start_faults l.fn.clock;
-      draws : g.C.Counted.draws l.clock ≡ g.C.Counted.draws l.fn.clock;
+      helper : g.C.Counted.helper l.clock ≡ g.C.Counted.helper l.fn.clock;
     }

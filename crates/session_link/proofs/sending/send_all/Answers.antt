@@ -14,7 +14,7 @@ loop-preserved-in-Ok-true g c =
     record {
       session = c.send_next.ensures.session ∙ c.loop.invariant.session;
       so_far = (p.0 ++ s.0, s.1 ∙ (ap (λ (o : Option (List ℕ)). gained o s.0) p.1 ∙ gained-gained _ p.0 s.0), sent_more _ _ _ p.0 s.0 p.2 s.2);
-      later = omega (arith, c.loop.invariant.later, c.send_next.ensures.later);
+      later = omega (arith, c.loop.invariant.later, c.send_next.ensures.faults.1);
     }
 
 pub loop-preserved : goal.loop-preserved
@@ -24,7 +24,7 @@ loop-preserved g c =
     record {
       session = c.send_next.ensures.session ∙ c.loop.invariant.session;
       so_far = (p.0 ++ s.0, s.1 ∙ (ap (λ (o : Option (List ℕ)). gained o s.0) p.1 ∙ gained-gained _ p.0 s.0), sent_more _ _ _ p.0 s.0 p.2 s.2);
-      later = omega (arith, c.loop.invariant.later, c.send_next.ensures.later);
+      later = omega (arith, c.loop.invariant.later, c.send_next.ensures.faults.1);
     }
 
 pub returns-in-Err-clause-halted : goal.returns-in-Err-clause-halted

@@ -8,8 +8,8 @@ pub returns-then-closed-clause-sent : goal.returns-then-closed-clause-sent
 returns-then-closed-clause-sent g c =
     let t = c.take-taken in
     let kept : length t.new.into ≡ length c.args.piece.now = search rules in
-    let many : length (take t.result.count t.new.into) ≡ t.result.count = omega (arith, length-take t.result.count t.new.into, kept, t.ensures.within) in
-    let k = one_taken _ _ (length c.args.piece.now) t.result t.new.into t.ensures.called t.ensures.next t.ensures.taken t.ensures.sent many in
+    let many : length (take t.result.count t.new.into) ≡ t.result.count = omega (arith, length-take t.result.count t.new.into, kept, t.ensures.fills.within) in
+    let k = one_taken _ _ (length c.args.piece.now) t.result t.new.into t.ensures.called t.ensures.takes.next t.ensures.takes.taken t.ensures.takes.sent many in
     let shut : t.result.closed ≡ true = c.if-closed.true in (
       [],
       sym (gained-none _),
@@ -20,24 +20,24 @@ pub returns-else-closed-clause-sent : goal.returns-else-closed-clause-sent
 returns-else-closed-clause-sent g c =
     let t = c.take-taken in
     let kept : length t.new.into ≡ length c.args.piece.now = search rules in
-    let many : length (take t.result.count t.new.into) ≡ t.result.count = omega (arith, length-take t.result.count t.new.into, kept, t.ensures.within) in
-    let k = one_taken _ _ (length c.args.piece.now) t.result t.new.into t.ensures.called t.ensures.next t.ensures.taken t.ensures.sent many in
+    let many : length (take t.result.count t.new.into) ≡ t.result.count = omega (arith, length-take t.result.count t.new.into, kept, t.ensures.fills.within) in
+    let k = one_taken _ _ (length c.args.piece.now) t.result t.new.into t.ensures.called t.ensures.takes.next t.ensures.takes.taken t.ensures.takes.sent many in
     ([], sym (gained-none _), sent_nothing _ _ _ _ _ (omega (arith, many, c.if-count-eq0.true)) k)
 
 pub returns-in-Ok-clause-sent : goal.returns-in-Ok-clause-sent
 returns-in-Ok-clause-sent g c =
     let t = c.take-taken in
     let kept : length t.new.into ≡ length c.args.piece.now = search rules in
-    let many : length (take t.result.count t.new.into) ≡ t.result.count = omega (arith, length-take t.result.count t.new.into, kept, t.ensures.within) in
-    let k = one_taken _ _ (length c.args.piece.now) t.result t.new.into t.ensures.called t.ensures.next t.ensures.taken t.ensures.sent many in
+    let many : length (take t.result.count t.new.into) ≡ t.result.count = omega (arith, length-take t.result.count t.new.into, kept, t.ensures.fills.within) in
+    let k = one_taken _ _ (length c.args.piece.now) t.result t.new.into t.ensures.called t.ensures.takes.next t.ensures.takes.taken t.ensures.takes.sent many in
     (take t.result.count t.new.into, c.in-Ok.ensures.ok, sent_one _ _ _ _ _ k)
 
 pub returns-in-Err-clause-sent : goal.returns-in-Err-clause-sent
 returns-in-Err-clause-sent g c =
     let t = c.take-taken in
     let kept : length t.new.into ≡ length c.args.piece.now = search rules in
-    let many : length (take t.result.count t.new.into) ≡ t.result.count = omega (arith, length-take t.result.count t.new.into, kept, t.ensures.within) in
-    let k = one_taken _ _ (length c.args.piece.now) t.result t.new.into t.ensures.called t.ensures.next t.ensures.taken t.ensures.sent many in
+    let many : length (take t.result.count t.new.into) ≡ t.result.count = omega (arith, length-take t.result.count t.new.into, kept, t.ensures.fills.within) in
+    let k = one_taken _ _ (length c.args.piece.now) t.result t.new.into t.ensures.called t.ensures.takes.next t.ensures.takes.taken t.ensures.takes.sent many in
     let bs = take t.result.count t.new.into in
     let part = c.in-Err.ensures.part in
     (take part.0 bs, part.2, sent_part _ _ _ bs (take part.0 bs) _ k (drop part.0 bs, sym (take-append-drop part.0 bs)))

@@ -9,5 +9,5 @@ pass_on-requires-clause-added g c = λ added. counted_entry g.N.Adds.adds _ _ c.
 pub pass_on-requires-clause-same : goal.pass_on-requires-clause-same
 pass_on-requires-clause-same g c = λ same. counted_value _ _ c.entries_are_few.ensures (c.requires.same same)
 
-pub returns-clause-sound : goal.returns-clause-sound
-returns-clause-sound g c = ends_sound c.desks_are_whole.ensures g.N.Adds.adds c.args.appended _ _ _ c.pass_on.ensures.added c.pass_on.ensures.same c.requires.same
+pub returns-clause-pass : goal.returns-clause-pass
+returns-clause-pass g c = record { places = c.pass_on.ensures.places; sound = ends_sound c.desks_are_whole.ensures g.N.Adds.adds c.args.appended _ _ _ c.pass_on.ensures.added c.pass_on.ensures.same c.requires.same }

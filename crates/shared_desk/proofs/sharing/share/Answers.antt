@@ -17,6 +17,6 @@ place-requires-clause-last g c = sym (ap (λ (v : View Entry). joined v.seen) c.
 pub returns : goal.returns
 returns g c = elim c.match-owner.branch [
   | in-Some+in_ok-owners-in-Some w ↦ rw (w.host-is, w.place-is)
-      (begun_with g.L.Lists.list _ _ w.in-Some.role _ (sound_of c.desks_are_whole.ensures _ _ c.requires.stands) (w.in-Some.ensures g.L.Lists.list c.requires.stands c.requires.opening) c.in_ok-lock.ensures.view refl refl w.place.ensures.place w.place.ensures.session w.place.ensures.linked w.place.ensures.out w.place.ensures.view)
+      (begun_with g.L.Lists.list _ _ w.in-Some.role _ (sound_of c.desks_are_whole.ensures _ _ c.requires.stands) (w.in-Some.ensures g.L.Lists.list c.requires.stands c.requires.opening) c.in_ok-lock.ensures.view refl refl w.place.ensures.place w.place.ensures.stays.session w.place.ensures.stays.linked w.place.ensures.out w.place.ensures.view)
   | in-None w ↦ rw (w.host-is, w.place-is) (w.in-None.ensures g.L.Lists.list c.requires.stands c.requires.opening, c.in_ok-lock.ensures.view, refl, refl)
 ]

@@ -16,7 +16,7 @@ pub returns-clause-called : goal.returns-clause-called
 returns-clause-called g c = λ text.
     asked_turn (view_in c.turn-turn.result) _ c.value.result.now (Join c.args.asked) _ text c.value.ensures.value c.turn-turn.ensures.stands.0 (λ h stood. c.refuse-refusal.ensures h text stood)
     c.args.self.now.view (view_of c.self.inside.pass) _ c.turn-turn.ensures.view.0 (ap (λ (s : PassState). s.view) c.self.view_is) c.turn-turn.ensures.seen c.turn-turn.ensures.known c.self.invariant.0.ticket c.self.invariant.0.inside c.self.invariant.1.places.places c.turn-turn.ensures.places.owns c.turn-turn.ensures.view.1
-    (c.end_turn.ensures.same refl) c.end_turn.ensures.places c.end_turn.ensures.sound
+    (c.end_turn.ensures.same refl) c.end_turn.ensures.pass.places c.end_turn.ensures.pass.sound
 
 pub invariant_of-self : goal.invariant_of-self
-invariant_of-self g c = (search rules, record { places = c.end_turn.ensures.places; sound = c.end_turn.ensures.sound })
+invariant_of-self g c = (search rules, c.end_turn.ensures.pass)
