@@ -15,7 +15,6 @@ use Rattle.guac_handshake.specs.Causes.{IsEarly}
 use Rattle.guac_handshake.specs.Greetings.{IfReady, IsServed, IsToldError, IsToldReady, stopped_as}
 use Rattle.guac_handshake.specs.Heard.{HasHeard, StopsAt}
 use Rattle.guac_handshake.specs.Statuses.{status_of}
-use Rattle.guac_handshake.specs.Texts.{IsWriteStop}
 
 -- a count rose later, or rose from the same
 pub rose_after : (a b c : ℕ) → a ≤ b → Rose b c → Rose a c
@@ -57,9 +56,6 @@ early_short {A = A} C result e = subst (λ (r : Result A Stop). IfErr r (IsEarly
 pub early_unwritten : {A : Type 0} (C : Type 0) (result : Result A Stop) → C → result ≡ Err stop.WriteFault → IfErr result (IsEarly C)
 early_unwritten {A = A} C result cause e = subst (λ (r : Result A Stop). IfErr r (IsEarly C)) (sym e) cause
 
-pub early_cause : (C : Type 0) (s : Stop) → IsEarly C s → s ≡ stop.WriteFault → C
-early_cause C s h is = subst (λ (x : Stop). IsEarly C x) is h
-
 -- a status of the door's isn't early
 pub not_early : (C : Type 0) (s : Stop) (status : ℕ) → IsEarly C s → s ≡ stop.Refused status → (status ≡ 519 → ⊥) × (status ≡ 513 → ⊥)
 not_early C s status h is =
@@ -92,12 +88,12 @@ busy_status refused.TooMany e = absurd (omega arith)
 
 module _ {P : Type 0} where
   -- a write failed
-  pub stopped_write : (C : Type 0) (s : Stop) → IsWriteStop C s → stopped_as {P = P} s ≡ greeted.WriteFault → C
-  stopped_write C (stop.Refused status) h e = absurd h
-  stopped_write C stop.Ended h e = absurd h
-  stopped_write C stop.ReadFault h e = absurd h
-  stopped_write C stop.WriteFault h e = h
-  stopped_write C stop.NoMemory h e = absurd (cc)
+  pub stopped_write : (s : Stop) → stopped_as {P = P} s ≡ greeted.WriteFault → s ≡ stop.WriteFault
+  stopped_write (stop.Refused status) e = absurd (cc)
+  stopped_write stop.Ended e = absurd (cc)
+  stopped_write stop.ReadFault e = absurd (cc)
+  stopped_write stop.WriteFault e = refl
+  stopped_write stop.NoMemory e = absurd (cc)
 
   module _ (w v : Option (List ℕ)) where
     pub ready_not_refused : (told : Welcome P) (status : ℕ) (result : Greeted P) → IsToldReady told w v result → result ≡ greeted.Refused status → ⊥

@@ -1,9 +1,9 @@
 -- The first instruction.
 use Rattle.std.proofs.Common.{◌≡◌, ℕ, List, [], ◌∷◌, ◌++◌, length, Option, Some, None, Ok, Err, Bool, false, refl, ap, sym, ◌∙◌, subst, append_assoc, append-nil, arith}
-use Rattle.std.specs.Prelude.{Result, IfErr, IfSome, is_some, ◌≤◌}
+use Rattle.std.specs.Prelude.{Result, IfSome, is_some}
 use Rattle.std.proofs.Math.Seq.{take-length}
 use Rattle.gate_model.specs.text.HelloMeaning.{Greeting, Selects, HasSize, Connects, SaysOther, greeting_of}
-use Rattle.gate_outside.specs.Edge.{GainedFront, Rose, came, gained}
+use Rattle.gate_outside.specs.Edge.{GainedFront, came, gained}
 use Rattle.gate_outside.proofs.Moved.{came-came, came-none, gained-none}
 use Rattle.guac_handshake.specs.declared.request.Selected.{Selected}
 use Rattle.guac_handshake.specs.declared.request.Request.{Request}
@@ -191,11 +191,3 @@ asked_on id_of sessions a b c w v unread mid rest chosen result s written h =
       answers = subst (λ (x : Wish). Answers x rest c result) (sym (asks_chosen s.known (greeting_of f.0) chosen h.instructions only)) h.answers;
       wrote = wrote_all (args_for (selection_of s.known (greeting_of f.0))) w v result (written ∙ sym (ap (λ (o : Option Selected). gained w (args_for o)) only));
     }
-
-rose_later : (a b c : ℕ) → a ≤ b → Rose b c → Rose a c
-rose_later a b c later rose = omega arith
-
--- a count that rose later rose
-pub later_fault : (a b c : ℕ) (result : Result Request Stop) → a ≤ b → IfErr result (λ stop. stop ≡ ReadFault → Rose b c) → IfErr result (λ stop. stop ≡ ReadFault → Rose a c)
-later_fault a b c (Ok request) later h = h
-later_fault a b c (Err stop) later h = λ e. rose_later a b c later (h e)

@@ -17,9 +17,11 @@ use Rattle.guac_handshake.specs.declared.request.Selected.{Selected}
 use Rattle.guac_handshake.specs.declared.request.Selected.TheVariants.{Telnet, Known}
 use Rattle.guac_handshake.specs.declared.welcome.Welcome.{Welcome}
 use Rattle.guac_handshake.specs.Asks.{Wish, Refuses, asks, asks_behind, asks_first, asks_selected, before_connect, begin_wish, beginning, connect_wish, connects_as, is_connect, join_wish, joining, last_size, most_between, selected_by, selected}
-use Rattle.guac_handshake.specs.Causes.{HasCause, IsCaused}
+use Rattle.gate_outside.specs.Edge.{Rose}
+use Rattle.guac_handshake.specs.Views.{DoorView}
+use Rattle.guac_handshake.specs.Causes.{HasCause, IfRefused}
 use Rattle.guac_handshake.specs.Doors.{AreTaken, HasConflict, HasRefused, IsBeginRefusal, IsJoinRefusal, MayRefuse, Names, RefusesAt, Sessions, at_name, refused_of}
-use Rattle.guac_handshake.specs.Greetings.{Broken, ByDoor, ByForm, Ends, IsGreeting, OutOfForm, RefusedEarly, RefusedFor}
+use Rattle.guac_handshake.specs.Greetings.{Broken, ByDoor, ByForm, Ends, Greets, IsGreeting, OutOfForm, RefusedEarly, RefusedFor}
 use Rattle.gate_model.specs.text.Statuses.{bad_request}
 use Rattle.guac_handshake.specs.Statuses.{status_of}
 use Rattle.guac_handshake.specs.Texts.{args_for}
@@ -181,19 +183,23 @@ module _ (id_of : List ℕ → Option (List ℕ)) (before after : Option Session
     told_many : result ≡ greeted.Refused 797 → HasRefused after TooMany
     told_many is = let d = door_told 797 (not_form 797 (λ e. absurd (omega arith)) (λ e. absurd (omega arith))) is in many_of d.0 d.1 (many_status d.1 (sym d.3)) d.2
 
-  -- the cause of each end, by the greeting and the counts
-  pub caused : {P : Type 0} (gives : Request → Welcome P → Type 0) (a b w v : Option (List ℕ)) (p q : Option (List Request)) (rest : List ℕ) (R W D S : Type 0) (result : Greeted P) → IsGreeting id_of before after draws gives a b w v p q rest result
-      → (result ≡ greeted.ReadFault → R) → (result ≡ greeted.WriteFault → W) → (result ≡ greeted.Refused 519 → D) → (result ≡ greeted.Refused 513 → S) → IsCaused R W (HasCause before after draws D S) result
-  caused gives a b w v p q rest R W D S (greeted.Ready welcome) g r f d s = tt
-  caused gives a b w v p q rest R W D S (greeted.Refused code) g r f d s = record {
-    dial = λ e. d (ap (λ (n : ℕ). greeted.Refused n) e);
-    busy = λ e. s (ap (λ (n : ℕ). greeted.Refused n) e);
-    conflict = λ e. told_conflict gives a b w v p q rest (greeted.Refused code) g (ap (λ (n : ℕ). greeted.Refused n) e);
-    closed = λ e. told_closed gives a b w v p q rest (greeted.Refused code) g (ap (λ (n : ℕ). greeted.Refused n) e);
-    forbidden = λ e. told_forbidden gives a b w v p q rest (greeted.Refused code) g (ap (λ (n : ℕ). greeted.Refused n) e);
-    too_many = λ e. told_many gives a b w v p q rest (greeted.Refused code) g (ap (λ (n : ℕ). greeted.Refused n) e);
-  }
-  caused gives a b w v p q rest R W D S greeted.Ended g r f d s = tt
-  caused gives a b w v p q rest R W D S greeted.ReadFault g r f d s = r refl
-  caused gives a b w v p q rest R W D S greeted.WriteFault g r f d s = f refl
-  caused gives a b w v p q rest R W D S greeted.NoMemory g r f d s = tt
+-- what stands behind the code of a refusal, by the greeting and the counts
+pub caused : {P : Type 0} (id_of : List ℕ → Option (List ℕ)) (gives : Request → Welcome P → Type 0) (before after : DoorView) (a b w v : Option (List ℕ)) (rest : List ℕ) (result : Greeted P) → Greets id_of gives before after a b w v rest result
+    → (result ≡ greeted.Refused 519 → Rose before.helper.dial_faults after.helper.dial_faults) → (result ≡ greeted.Refused 513 → Rose before.helper.start_faults after.helper.start_faults) → IfRefused result (HasCause before after)
+caused id_of gives before after a b w v rest (greeted.Ready welcome) g d s = tt
+caused id_of gives before after a b w v rest (greeted.Refused code) g d s =
+    let o = before.sessions in
+    let p = after.sessions in
+    let draws = before.helper.draws in
+    record {
+      dial = λ e. d (ap (λ (n : ℕ). greeted.Refused n) e);
+      busy = λ e. s (ap (λ (n : ℕ). greeted.Refused n) e);
+      conflict = λ e. told_conflict id_of o p draws gives a b w v before.asked after.asked rest (greeted.Refused code) g (ap (λ (n : ℕ). greeted.Refused n) e);
+      closed = λ e. told_closed id_of o p draws gives a b w v before.asked after.asked rest (greeted.Refused code) g (ap (λ (n : ℕ). greeted.Refused n) e);
+      forbidden = λ e. told_forbidden id_of o p draws gives a b w v before.asked after.asked rest (greeted.Refused code) g (ap (λ (n : ℕ). greeted.Refused n) e);
+      too_many = λ e. told_many id_of o p draws gives a b w v before.asked after.asked rest (greeted.Refused code) g (ap (λ (n : ℕ). greeted.Refused n) e);
+    }
+caused id_of gives before after a b w v rest greeted.Ended g d s = tt
+caused id_of gives before after a b w v rest greeted.ReadFault g d s = tt
+caused id_of gives before after a b w v rest greeted.WriteFault g d s = tt
+caused id_of gives before after a b w v rest greeted.NoMemory g d s = tt

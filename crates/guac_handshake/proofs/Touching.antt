@@ -11,7 +11,8 @@ use Rattle.guac_handshake.specs.declared.refused.Refused.TheVariants.{Absent, Co
 use Rattle.guac_handshake.specs.declared.request.Request.{Request}
 use Rattle.guac_handshake.specs.declared.request.Request.TheVariants.{Begin, Join}
 use Rattle.guac_handshake.specs.declared.welcome.Welcome.{Welcome}
-use Rattle.guac_handshake.specs.Doors.{AddedBy, AddedOne, Grants, IsAbsent, IsJoinRefusal, JoinRefuses, KeepsIds, MayRefuse, MeetsHistory, MeetsTold, Names, RefusesAt, SameId, Sessions, TouchesOne, at_name}
+use Rattle.guac_handshake.specs.Doors.{AddedBy, AddedOne, AreTaken, Grants, IsAbsent, IsBeginRefusal, IsJoinRefusal, JoinRefuses, KeepsIds, MayRefuse, MeetsConflict, MeetsHistory, MeetsTold, Names, RefusesAt, SameId, Sessions, TellsConflict, TouchesOne, at_name}
+use Rattle.guac_handshake.specs.Views.{IsLetIn}
 use Rattle.guac_handshake.specs.Greetings.{HasAnswered, HasTouched, IsToldError, IsToldReady}
 use Rattle.guac_handshake.specs.Opening.{HasMoved}
 use Rattle.gate_model.specs.text.Statuses.{bad_request}
@@ -210,6 +211,18 @@ pub join_may : {A : Type 0} (id_of : List ℕ → Option (List ℕ)) (o p : Opti
 join_may id_of o p draws request id name role result is same h =
     subst (λ (q : Request). IfErr result (MayRefuse id_of o draws p q)) (sym is) (subst (λ (n : List ℕ). IfErr result (JoinRefuses (id_of n) o p role)) same h)
 
+-- the same of a session that is to begin
+taken_of : (A : Type 0) (o : Option Sessions) (draws : Option (ℕ → List ℕ)) → TellsConflict {A = A} o draws (Err Conflict) → AreTaken o draws
+taken_of A None draws h = tt
+taken_of A (Some m) None h = tt
+taken_of A (Some m) (Some d) h = h
+
+pub begin_may : {A : Type 0} (id_of : List ℕ → Option (List ℕ)) (o p : Option Sessions) (draws : Option (ℕ → List ℕ)) (request : Request) (ask : Ask) (result : Result A Refused) → request ≡ Begin ask → IfErr result IsBeginRefusal → MeetsConflict o draws result → IfErr result (MayRefuse id_of o draws p request)
+begin_may id_of o p draws request ask (Ok a) is kind meets = tt
+begin_may {A = A} id_of o p draws request ask (Err r) is kind meets =
+    subst (λ (q : Request). MayRefuse id_of o draws p q r) (sym is)
+    (kind, λ e. let h = subst (λ (x : Refused). MeetsConflict {A = A} o draws (Err x)) e meets in (h.0 refl, taken_of A o draws h.1))
+
 -- ---- what a door says of itself once it gave a welcome
 
 pub begin_granted : {P : Type 0} (id_of : List ℕ → Option (List ℕ)) (begun : Ask → Welcome P → Type 0) (joined : Asked → Welcome P → Type 0) (request : Request) (ask : Ask) (result : Result (Welcome P) Refused) → request ≡ Begin ask → IfOk result (λ welcome. begun ask welcome)
@@ -217,15 +230,15 @@ pub begin_granted : {P : Type 0} (id_of : List ℕ → Option (List ℕ)) (begun
 begin_granted id_of begun joined request ask (Ok welcome) is h = subst (λ (q : Request). Grants id_of begun joined q welcome) (sym is) h
 begin_granted id_of begun joined request ask (Err refused) is h = tt
 
-pub join_granted : {P : Type 0} (id_of : List ℕ → Option (List ℕ)) (begun : Ask → Welcome P → Type 0) (joined : Asked → Welcome P → Type 0) (request : Request) (id name : List ℕ) (role : Asked) (Fresh : Welcome P → Type 0) (result : Result (Welcome P) Refused) → request ≡ Join id role → name ≡ id
-    → IfOk result (λ welcome. Fresh welcome × (id_of welcome.id ≡ id_of name) × joined role welcome) → IfOk result (λ welcome. Grants id_of begun joined request welcome)
-join_granted id_of begun joined request id name role Fresh (Ok welcome) is same h = subst (λ (q : Request). Grants id_of begun joined q welcome) (sym is) (h.1 ∙ ap id_of same, h.2)
-join_granted id_of begun joined request id name role Fresh (Err refused) is same h = tt
+pub join_granted : {P : Type 0} (id_of : List ℕ → Option (List ℕ)) (begun : Ask → Welcome P → Type 0) (joined : Asked → Welcome P → Type 0) (request : Request) (id name : List ℕ) (role : Asked) (is_fresh : P → List ℕ → Type 0) (result : Result (Welcome P) Refused) → request ≡ Join id role → name ≡ id
+    → IfOk result (IsLetIn is_fresh id_of name (joined role)) → IfOk result (λ welcome. Grants id_of begun joined request welcome)
+join_granted id_of begun joined request id name role is_fresh (Ok welcome) is same h = subst (λ (q : Request). Grants id_of begun joined q welcome) (sym is) (h.same_id ∙ ap id_of same, h.joined)
+join_granted id_of begun joined request id name role is_fresh (Err refused) is same h = tt
 
--- of what is said of a welcome, the second
-pub named : {P : Type 0} (Fresh Named Joined : Welcome P → Type 0) (result : Result (Welcome P) Refused) → IfOk result (λ welcome. Fresh welcome × Named welcome × Joined welcome) → IfOk result Named
-named Fresh Named Joined (Ok welcome) h = h.1
-named Fresh Named Joined (Err refused) h = tt
+-- of what is said of a welcome, that its ID is that of the name
+pub named : {P : Type 0} (is_fresh : P → List ℕ → Type 0) (id_of : List ℕ → Option (List ℕ)) (name : List ℕ) (says : Welcome P → Type 0) (result : Result (Welcome P) Refused) → IfOk result (IsLetIn is_fresh id_of name says) → IfOk result (λ welcome. id_of welcome.id ≡ id_of name)
+named is_fresh id_of name says (Ok welcome) h = h.same_id
+named is_fresh id_of name says (Err refused) h = tt
 
 pub granted_named : {P : Type 0} (id_of : List ℕ → Option (List ℕ)) (begun : Ask → Welcome P → Type 0) (joined : Asked → Welcome P → Type 0) (request : Request) (welcome : Welcome P) → Grants id_of begun joined request welcome → Names id_of request welcome.id
 granted_named id_of begun joined (Begin ask) welcome h = tt

@@ -1,5 +1,5 @@
 -- The contract of a door: its refusals, its sessions, its places and what it was asked (this project's own).
-use Rattle.std.specs.Prelude.{◌≡◌, ◌≢◌, ℕ, ◌+◌, ◌-◌, ◌<◌, ◌≤◌, ◌⊎◌, List, [], ◌∷◌, ◌++◌, Bool, true, false, Option, Some, None, IsSome, IfSome, Result, Ok, Err, is_some}
+use Rattle.std.specs.Prelude.{◌≡◌, ◌≢◌, ℕ, ◌+◌, ◌-◌, ◌<◌, ◌⊎◌, List, [], ◌∷◌, ◌++◌, Bool, true, false, Option, Some, None, IsSome, IfSome, Result, Ok, Err, is_some}
 use Rattle.std.specs.Option.{option_map}
 use Rattle.gate_model.specs.session.History.{History, share_mode}
 use Rattle.gate_model.specs.session.Refusals.{join_refusal}
@@ -10,7 +10,6 @@ use Rattle.gate_model.specs.declared.join_refusal.JoinRefusal.{JoinRefusal}
 use Rattle.gate_model.specs.declared.join_refusal.JoinRefusal.TheVariants as refusal
 use Rattle.gate_model.specs.declared.sharing.Asked.{Asked}
 use Rattle.gate_model.specs.declared.sharing.Role.{Role}
-use Rattle.gate_outside.specs.Edge.{Rose}
 use Rattle.id_table.specs.Draws.{nth_id}
 use Rattle.id_table.specs.Maps.{Map, Same}
 use Rattle.guac_handshake.specs.declared.ask.Ask.{Ask}
@@ -38,10 +37,6 @@ module _ {A : Type 0} where
 
   abbrev pub IsConflict : Result A Refused → Type 0
   IsConflict r = r ≡ Err Conflict
-
--- a count of faults rose in a call that tells of one, and never falls
-abbrev pub CountsFault : Type 0 → ℕ → ℕ → Type 0
-CountsFault told before after = (told → Rose before after) × before ≤ after
 
 -- the refusals of a door that makes a session, before its jobs are started
 abbrev pub IsOpenRefusal : Refused → Type 0

@@ -1,5 +1,5 @@
 -- What a greeting read, asked and wrote, and why it ended (this project's own).
-use Rattle.std.specs.Prelude.{◌≡◌, ℕ, ◌+◌, List, [], ◌∷◌, ◌++◌, Option, Some, None, IfSome, Result, Ok, Err, is_some, bytes_eq, codes, if◌then◌else◌, Bool}
+use Rattle.std.specs.Prelude.{◌≡◌, ℕ, ◌+◌, List, [], ◌∷◌, ◌++◌, Option, Some, None, IfSome, IfErr, Result, Ok, Err, is_some, bytes_eq, codes, if◌then◌else◌, Bool}
 use Rattle.std.specs.Option.{option_map}
 use Rattle.gate_model.specs.text.HelloMeaning.{Greeting, Selects, HasSize, Connects, SaysOther, greeting_of}
 use Rattle.gate_outside.specs.Edge.{AtEnd, GainedFront, came, gained}
@@ -14,8 +14,10 @@ use Rattle.guac_handshake.specs.declared.stop.Stop.{Stop}
 use Rattle.guac_handshake.specs.declared.stop.Stop.TheVariants as stop
 use Rattle.guac_handshake.specs.declared.welcome.Welcome.{Welcome}
 use Rattle.guac_handshake.specs.Asks.{ReadsNoFurther, Wish, Unfinished, Wants, Refuses, asks, asks_behind, selected, selected_by}
-use Rattle.id_table.specs.Maps.{Same}
-use Rattle.guac_handshake.specs.Doors.{KeepsIds, MayRefuse, Names, Sessions, TouchesOne, asked_more, at_name, logged_for, option_less}
+use Rattle.gate_outside.specs.Helpers.{CountsFaults}
+use Rattle.id_table.specs.Maps.{Same, Told}
+use Rattle.guac_handshake.specs.Doors.{IsBusy, IsDial, KeepsIds, MayRefuse, Names, Sessions, TouchesOne, asked_more, at_name, logged, logged_for, one_more_out, option_less}
+use Rattle.guac_handshake.specs.Views.{DoorView}
 use Rattle.guac_handshake.specs.Splits.{Splits}
 use Rattle.gate_model.specs.text.Statuses.{bad_request, not_found}
 use Rattle.guac_handshake.specs.Statuses.{status_of}
@@ -157,6 +159,19 @@ HasTouched id_of greeted.ReadFault m n = Same m n
 HasTouched id_of greeted.WriteFault m n = (name : Option (List ℕ)) × TouchesOne name m n
 HasTouched id_of greeted.NoMemory m n = (name : Option (List ℕ)) × TouchesOne name m n
 
+-- what a greeting touches of a door: its places that are out, and its sessions
+pub record Touches {P : Type 0} (id_of : List ℕ → Option (List ℕ)) (result : Greeted P) (before after : DoorView) : Type 0 where
+  pub out : HasOut before.out after.out result
+  pub sessions : Told before.sessions after.sessions (HasTouched id_of result)
+
+-- a door's answer to a request, and what it touched
+pub record IsAnswered {P : Type 0} (id_of : List ℕ → Option (List ℕ)) (request : Request) (result : Result (Welcome P) Refused) (before after : DoorView) : Type 0 where
+  pub kind : IfErr result (MayRefuse id_of before.sessions before.helper.draws after.sessions request)
+  pub sessions : Told before.sessions after.sessions (HasAnswered id_of result)
+  pub out : after.out ≡ one_more_out result before.out
+  pub asked : after.asked ≡ logged before.asked request result
+  pub helper : CountsFaults (IsDial result) (IsBusy result) before.helper after.helper
+
 -- an end of a greeting that stopped
 abbrev pub stopped_as : {P : Type 0} → Stop → Greeted P
 stopped_as (stop.Refused status) = greeted.Refused status
@@ -184,13 +199,20 @@ IsToldError told before now greeted.WriteFault = GainedFront before now (error_t
 IsToldError told before now greeted.NoMemory = GainedFront before now (error_text told)
 
 -- a place stays out where the client was told of it, and else goes back
-abbrev pub HasKept : {P : Type 0} → Option ℕ → Option ℕ → Greeted P → Type 0
-HasKept before now (greeted.Ready welcome) = now ≡ before
-HasKept before now (greeted.Refused status) = now ≡ option_less before
-HasKept before now greeted.Ended = now ≡ option_less before
-HasKept before now greeted.ReadFault = now ≡ option_less before
-HasKept before now greeted.WriteFault = now ≡ option_less before
-HasKept before now greeted.NoMemory = now ≡ option_less before
+abbrev pub StaysOut : {P : Type 0} → Option ℕ → Option ℕ → Greeted P → Type 0
+StaysOut before now (greeted.Ready welcome) = now ≡ before
+StaysOut before now (greeted.Refused status) = now ≡ option_less before
+StaysOut before now greeted.Ended = now ≡ option_less before
+StaysOut before now greeted.ReadFault = now ≡ option_less before
+StaysOut before now greeted.WriteFault = now ≡ option_less before
+StaysOut before now greeted.NoMemory = now ≡ option_less before
+
+-- a door whose place in the session of this ID was told to the client, or came back
+pub record HasKept {P : Type 0} (id : Option (List ℕ)) (result : Greeted P) (before after : DoorView) : Type 0 where
+  pub sessions : Told before.sessions after.sessions (KeepsIds id)
+  pub out : StaysOut before.out after.out result
+  pub asked : after.asked ≡ before.asked
+  pub helper : after.helper ≡ before.helper
 
 -- a fact of the end at which the client was told of its session
 abbrev pub OnReady : {P : Type 0} → Greeted P → Type 0 → Type 0
@@ -241,3 +263,8 @@ pub record IsGreeting {P : Type 0} (id_of : List ℕ → Option (List ℕ)) (ses
   pub no_further : ReadsNoFurther (asks known) instructions
   pub looked : IsLook id_of sessions known instructions
   pub ends : Ends (MayRefuse id_of sessions draws sessions_new) (Names id_of) gives (asks known instructions) (args_for (selected known instructions)) rest left_new written_old written_new asked_old asked_new result
+
+-- the same of a door by what it tells before and after
+abbrev pub Greets : {P : Type 0} → (List ℕ → Option (List ℕ)) → (Request → Welcome P → Type 0) → DoorView → DoorView → Option (List ℕ) → Option (List ℕ) → Option (List ℕ) → Option (List ℕ) → List ℕ → Greeted P → Type 0
+Greets id_of gives before after left_old left_new written_old written_new rest result =
+    IsGreeting id_of before.sessions after.sessions before.helper.draws gives left_old left_new written_old written_new before.asked after.asked rest result

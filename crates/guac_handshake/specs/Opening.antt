@@ -1,8 +1,9 @@
 -- What a door was asked by a form, and what it answered (this project's own).
 use Rattle.std.specs.Prelude.{◌≡◌, ◌⊎◌, ◌+◌, ℕ, List, Bool, true, false, Option, IfSome, Result, Ok, Err, is_some}
 use Rattle.std.specs.Option.{option_map}
-use Rattle.id_table.specs.Maps.{Same}
+use Rattle.id_table.specs.Maps.{Same, Told}
 use Rattle.guac_handshake.specs.Doors.{KeepsIds, MayRefuse, Sessions, TouchesOne, asked_more, at_name, logged_for}
+use Rattle.guac_handshake.specs.Views.{DoorView}
 use Rattle.guac_handshake.specs.Forms.{IsForm, IsNoForm}
 use Rattle.guac_handshake.specs.declared.form_refusal.FormRefusal.{FormRefusal}
 use Rattle.guac_handshake.specs.declared.form_refusal.FormRefusal.TheVariants as refusal
@@ -42,6 +43,11 @@ HasMoved id_of (Err (refusal.Door refused)) m n = (name : Option (List ℕ)) × 
 abbrev pub with_opened : {P : Type 0} → Result (Welcome P) FormRefusal → Option ℕ → Option ℕ
 with_opened (Ok welcome) out = option_map (λ n. n + 1) out
 with_opened (Err refused) out = out
+
+-- what it touches of a door: its sessions, and its places that are out
+pub record Moves {P : Type 0} (id_of : List ℕ → Option (List ℕ)) (result : Result (Welcome P) FormRefusal) (before after : DoorView) : Type 0 where
+  pub sessions : Told before.sessions after.sessions (HasMoved id_of result)
+  pub out : after.out ≡ with_opened result before.out
 
 abbrev pub IsDoor : {P : Type 0} → Refused → Result (Welcome P) FormRefusal → Type 0
 IsDoor refused r = r ≡ Err (refusal.Door refused)

@@ -25,10 +25,10 @@ ready_text id = text_of_elements (codes "ready" ∷ chars id ∷ [])
 abbrev pub error_text : ℕ → List ℕ
 error_text status = text (Error status)
 
--- a write failed, for this cause, or memory was wanting
-abbrev pub IsWriteStop : Type 0 → Stop → Type 0
-IsWriteStop Cause (stop.Refused status) = ⊥
-IsWriteStop Cause stop.Ended = ⊥
-IsWriteStop Cause stop.ReadFault = ⊥
-IsWriteStop Cause stop.WriteFault = Cause
-IsWriteStop Cause stop.NoMemory = Unit {0}
+-- a write failed, or memory was wanting
+abbrev pub IsWriteStop : Stop → Type 0
+IsWriteStop (stop.Refused status) = ⊥
+IsWriteStop stop.Ended = ⊥
+IsWriteStop stop.ReadFault = ⊥
+IsWriteStop stop.WriteFault = Unit {0}
+IsWriteStop stop.NoMemory = Unit {0}

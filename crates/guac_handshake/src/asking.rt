@@ -1,9 +1,8 @@
 //! What a door is asked.
 
-ghost use Rattle.std.specs.Prelude.{◌≡◌, IfErr, IfOk};
-ghost use Rattle.guac_handshake.specs.Doors.{Grants, IsBusy, IsDial, MayRefuse, CountsFault, logged, one_more_out};
-ghost use Rattle.guac_handshake.specs.Greetings.{HasAnswered};
-ghost use Rattle.id_table.specs.Maps.{Told};
+ghost use Rattle.std.specs.Prelude.{IfOk};
+ghost use Rattle.guac_handshake.specs.Doors.{Grants};
+ghost use Rattle.guac_handshake.specs.Greetings.{IsAnswered};
 
 use crate::{Door, Refused, Request, Welcome};
 use std::alloc::Global;
@@ -17,12 +16,7 @@ pub(crate) fn ask<R: Threads + Wait + Copy + Send + 'static, D: Door>(
     door: &mut D,
     request: &Request,
 ) -> Result<Welcome<D::Place>, Refused>
-    ensures asked { D.asked door.new ≡ logged (D.asked door.old) request.now result }
-    ensures out { D.out door.new ≡ one_more_out result (D.out door.old) }
-    ensures kind { IfErr result (MayRefuse D.id_of (D.sessions door.old) (D.draws door.old) (D.sessions door.new) request.now) }
-    ensures sessions { Told (D.sessions door.old) (D.sessions door.new) (HasAnswered D.id_of result) }
-    ensures dials { CountsFault (IsDial result) (D.dial_faults door.old) (D.dial_faults door.new) }
-    ensures starts { CountsFault (IsBusy result) (D.start_faults door.old) (D.start_faults door.new) }
+    ensures answers { IsAnswered D.id_of request.now result (D.view door.old) (D.view door.new) }
     ensures fresh { IfOk result (λ welcome. D.Place.fresh welcome.place welcome.first) }
     ensures granted { IfOk result (λ welcome. Grants D.id_of (D.begun door.new) (D.joined door.new) request.now welcome) }
 {

@@ -10,7 +10,7 @@ use crate::Ask;
 use crate::sizes::{columns_of, rows_of};
 use gate_model::{Asked, NoMemory, Share, Text};
 use guac_framing::Frame;
-use guac_instr::number_within;
+use numerals::number_within;
 use std::alloc::Global;
 
 /// The most characters of a terminal type (this project's own rule).

@@ -8,7 +8,7 @@ use crate::connecting::read_ask;
 use crate::pairs::read_pairs;
 use crate::{Ask, FormRefusal, Request};
 use gate_model::{Asked, NoMemory, Text};
-use guac_instr::{number, number_within};
+use numerals::{number, number_within};
 use std::alloc::Global;
 
 /// The greatest width and height in pixels (this project's own).

@@ -1,11 +1,12 @@
 //! The handshake.
 
-ghost use Rattle.std.specs.Prelude.{◌≡◌, ◌<◌, ◌≤◌, [], IfErr, IfOk, length};
-ghost use Rattle.gate_outside.specs.Edge.{Rose};
-ghost use Rattle.guac_handshake.specs.Causes.{HasCause, IsCaused, IsEarly};
-ghost use Rattle.guac_handshake.specs.Doors.{Grants, IsBusy, IsDial, KeepsIds, MayRefuse, Names, logged, one_more_out};
-ghost use Rattle.id_table.specs.Maps.{Same, Told};
-ghost use Rattle.guac_handshake.specs.Greetings.{HasAnswered, HasAsked, HasConnected, HasKept, HasOut, HasSelected, HasTouched, IfReady, IsFound, IsGreeting, IsServed, IsToldError, IsToldReady, OnReady, stopped_as};
+ghost use Rattle.std.specs.Prelude.{◌≡◌, ◌<◌, [], Err, IfErr, length};
+ghost use Rattle.gate_outside.specs.Edge.{CountsFault};
+ghost use Rattle.gate_outside.specs.Helpers.{CountsFaults, NeverFell};
+ghost use Rattle.guac_handshake.specs.Causes.{HasCause, IfRefused, IsEarly};
+ghost use Rattle.guac_handshake.specs.Doors.{Grants, MayRefuse, Names};
+ghost use Rattle.guac_handshake.specs.Greetings.{Greets, HasAsked, HasConnected, HasKept, HasSelected, IfReady, IsFound, IsServed, IsToldError, IsToldReady, OnReady, Touches, stopped_as};
+ghost use Rattle.guac_handshake.specs.Views.{Looks};
 
 use crate::asking::ask;
 use crate::expected::{Expected, Said};
@@ -41,8 +42,7 @@ fn connect<S: Source>(
     requires { 0 < length piece.old }
     ensures connected { HasConnected selected.now (S.left source.old) (S.left source.new) unread.old unread.new result }
     ensures early { IfErr result (IsEarly ⊥) }
-    ensures fault { IfErr result (λ stop. stop ≡ Stop.ReadFault → Rose (S.faults source.old) (S.faults source.new)) }
-    ensures later { S.faults source.old ≤ S.faults source.new }
+    ensures reads { CountsFault (result ≡ Err Stop.ReadFault) (S.faults source.old) (S.faults source.new) }
 {
     let mut size = None;
     'reading: for _between in 0..TOO_MANY {
@@ -73,16 +73,10 @@ fn select<R: Wait, S: Source, D: Door>(
     door: &mut D,
 ) -> Result<Selected, Stop>
     requires { 0 < length piece.old }
-    ensures selected { HasSelected D.id_of (D.sessions door.old) (S.left source.old) (S.left source.new) unread.old unread.new result }
+    ensures selected { HasSelected D.id_of (D.view door.old).sessions (S.left source.old) (S.left source.new) unread.old unread.new result }
     ensures early { IfErr result (IsEarly ⊥) }
-    ensures sessions { Told (D.sessions door.old) (D.sessions door.new) Same }
-    ensures draws { D.draws door.new ≡ D.draws door.old }
-    ensures asked { D.asked door.new ≡ D.asked door.old }
-    ensures out { D.out door.new ≡ D.out door.old }
-    ensures dials { D.dial_faults door.new ≡ D.dial_faults door.old }
-    ensures starts { D.start_faults door.new ≡ D.start_faults door.old }
-    ensures fault { IfErr result (λ stop. stop ≡ Stop.ReadFault → Rose (S.faults source.old) (S.faults source.new)) }
-    ensures later { S.faults source.old ≤ S.faults source.new }
+    ensures looks { Looks (D.view door.old) (D.view door.new) }
+    ensures reads { CountsFault (result ≡ Err Stop.ReadFault) (S.faults source.old) (S.faults source.new) }
 {
     match hear(alloc, source, unread, piece, Expected::Select)? {
         Said::Select(name) => look(rt, door, name),
@@ -93,14 +87,9 @@ fn select<R: Wait, S: Source, D: Door>(
 
 // What is selected by the name.
 fn look<R: Wait, D: Door>(rt: &R, door: &mut D, name: Text) -> Result<Selected, Stop>
-    ensures found { IsFound D.id_of (D.sessions door.old) name result }
+    ensures found { IsFound D.id_of (D.view door.old).sessions name result }
     ensures early { IfErr result (IsEarly ⊥) }
-    ensures sessions { Told (D.sessions door.old) (D.sessions door.new) Same }
-    ensures draws { D.draws door.new ≡ D.draws door.old }
-    ensures asked { D.asked door.new ≡ D.asked door.old }
-    ensures out { D.out door.new ≡ D.out door.old }
-    ensures dials { D.dial_faults door.new ≡ D.dial_faults door.old }
-    ensures starts { D.start_faults door.new ≡ D.start_faults door.old }
+    ensures looks { Looks (D.view door.old) (D.view door.new) }
 {
     if name.as_str() == "telnet" {
         return Ok(Selected::Telnet);
@@ -121,17 +110,11 @@ fn read_request<R: Wait, S: Source, K: Sink, D: Door>(
     unread: &mut Unread,
     door: &mut D,
 ) -> Result<Request, Stop>
-    ensures request { HasAsked D.id_of (D.sessions door.old) (S.left source.old) (S.left source.new) (K.written sink.old) (K.written sink.new) unread.old unread.new result }
-    ensures sessions { Told (D.sessions door.old) (D.sessions door.new) Same }
-    ensures draws { D.draws door.new ≡ D.draws door.old }
-    ensures asked { D.asked door.new ≡ D.asked door.old }
-    ensures out { D.out door.new ≡ D.out door.old }
-    ensures dials { D.dial_faults door.new ≡ D.dial_faults door.old }
-    ensures starts { D.start_faults door.new ≡ D.start_faults door.old }
-    ensures early { IfErr result (IsEarly (Rose (K.faults sink.old) (K.faults sink.new))) }
-    ensures read_fault { IfErr result (λ stop. stop ≡ Stop.ReadFault → Rose (S.faults source.old) (S.faults source.new)) }
-    ensures later_reads { S.faults source.old ≤ S.faults source.new }
-    ensures later_writes { K.faults sink.old ≤ K.faults sink.new }
+    ensures request { HasAsked D.id_of (D.view door.old).sessions (S.left source.old) (S.left source.new) (K.written sink.old) (K.written sink.new) unread.old unread.new result }
+    ensures looks { Looks (D.view door.old) (D.view door.new) }
+    ensures early { IfErr result (IsEarly (Unit {0})) }
+    ensures reads { CountsFault (result ≡ Err Stop.ReadFault) (S.faults source.old) (S.faults source.new) }
+    ensures writes { CountsFault (result ≡ Err Stop.WriteFault) (K.faults sink.old) (K.faults sink.new) }
 {
     let mut piece = vec![in alloc; 0u8; PIECE]?;
     let selected = select(rt, alloc, source, unread, &mut piece, door)?;
@@ -148,14 +131,9 @@ fn ready<R: Wait, K: Sink, D: Door>(
     welcome: Welcome<D::Place>,
 ) -> Greeted<D::Place>
     ensures told { IsToldReady welcome (K.written sink.old) (K.written sink.new) result }
-    ensures write_fault { result ≡ Greeted.WriteFault → Rose (K.faults sink.old) (K.faults sink.new) }
+    ensures writes { CountsFault (result ≡ Greeted.WriteFault) (K.faults sink.old) (K.faults sink.new) }
     ensures same { OnReady result (door.new ≡ door.old) }
-    ensures out { HasKept (D.out door.old) (D.out door.new) result }
-    ensures sessions { Told (D.sessions door.old) (D.sessions door.new) (KeepsIds (D.id_of welcome.id)) }
-    ensures asked { D.asked door.new ≡ D.asked door.old }
-    ensures dials { D.dial_faults door.new ≡ D.dial_faults door.old }
-    ensures starts { D.start_faults door.new ≡ D.start_faults door.old }
-    ensures later { K.faults sink.old ≤ K.faults sink.new }
+    ensures keeps { HasKept (D.id_of welcome.id) result (D.view door.old) (D.view door.new) }
 {
     match write_ready(alloc, sink, &welcome.id) {
         Ok(()) => Greeted::Ready(welcome),
@@ -174,8 +152,7 @@ fn ready<R: Wait, K: Sink, D: Door>(
 // Tells the client why it is refused.
 fn refuse<P, K: Sink>(alloc: Global, sink: &mut K, status: u16) -> Greeted<P>
     ensures told { IsToldError status (K.written sink.old) (K.written sink.new) result }
-    ensures write_fault { result ≡ Greeted.WriteFault → Rose (K.faults sink.old) (K.faults sink.new) }
-    ensures later { K.faults sink.old ≤ K.faults sink.new }
+    ensures writes { CountsFault (result ≡ Greeted.WriteFault) (K.faults sink.old) (K.faults sink.new) }
 {
     match write_error(alloc, sink, status) {
         Ok(()) => Greeted::Refused(status),
@@ -204,16 +181,11 @@ fn serve<R: Threads + Wait + Copy + Send + 'static, K: Sink, D: Door>(
     door: &mut D,
     request: &Request,
 ) -> Greeted<D::Place>
-    ensures served { IsServed (MayRefuse D.id_of (D.sessions door.old) (D.draws door.old) (D.sessions door.new)) (Names D.id_of) (Grants D.id_of (D.begun door.new) (D.joined door.new)) request.now (K.written sink.old) (K.written sink.new) (D.asked door.old) (D.asked door.new) result }
-    ensures out { HasOut (D.out door.old) (D.out door.new) result }
-    ensures sessions { Told (D.sessions door.old) (D.sessions door.new) (HasTouched D.id_of result) }
-    ensures write_fault { result ≡ Greeted.WriteFault → Rose (K.faults sink.old) (K.faults sink.new) }
-    ensures dial { result ≡ Greeted.Refused 519 → Rose (D.dial_faults door.old) (D.dial_faults door.new) }
-    ensures busy { result ≡ Greeted.Refused 513 → Rose (D.start_faults door.old) (D.start_faults door.new) }
+    ensures served { IsServed (MayRefuse D.id_of (D.view door.old).sessions (D.view door.old).helper.draws (D.view door.new).sessions) (Names D.id_of) (Grants D.id_of (D.begun door.new) (D.joined door.new)) request.now (K.written sink.old) (K.written sink.new) (D.view door.old).asked (D.view door.new).asked result }
+    ensures touches { Touches D.id_of result (D.view door.old) (D.view door.new) }
+    ensures faults { CountsFaults (result ≡ Greeted.Refused 519) (result ≡ Greeted.Refused 513) (D.view door.old).helper (D.view door.new).helper }
     ensures fresh { IfReady result (λ place first. D.Place.fresh place first) }
-    ensures later_dials { D.dial_faults door.old ≤ D.dial_faults door.new }
-    ensures later_starts { D.start_faults door.old ≤ D.start_faults door.new }
-    ensures later { K.faults sink.old ≤ K.faults sink.new }
+    ensures writes { CountsFault (result ≡ Greeted.WriteFault) (K.faults sink.old) (K.faults sink.new) }
 {
     match ask(rt, alloc, door, request) {
         Ok(welcome) => ready(rt, alloc, sink, door, welcome),
@@ -230,18 +202,12 @@ fn converse<R: Threads + Wait + Copy + Send + 'static, S: Source, K: Sink, D: Do
     door: &mut D,
 ) -> Greeted<D::Place>
     requires { unread.old ≡ [] }
-    ensures greeting { IsGreeting D.id_of (D.sessions door.old) (D.sessions door.new) (D.draws door.old) (Grants D.id_of (D.begun door.new) (D.joined door.new)) (S.left source.old) (S.left source.new) (K.written sink.old) (K.written sink.new) (D.asked door.old) (D.asked door.new) unread.new result }
-    ensures out { HasOut (D.out door.old) (D.out door.new) result }
-    ensures sessions { Told (D.sessions door.old) (D.sessions door.new) (HasTouched D.id_of result) }
-    ensures read_fault { result ≡ Greeted.ReadFault → Rose (S.faults source.old) (S.faults source.new) }
-    ensures write_fault { result ≡ Greeted.WriteFault → Rose (K.faults sink.old) (K.faults sink.new) }
-    ensures dial { result ≡ Greeted.Refused 519 → Rose (D.dial_faults door.old) (D.dial_faults door.new) }
-    ensures busy { result ≡ Greeted.Refused 513 → Rose (D.start_faults door.old) (D.start_faults door.new) }
+    ensures greeting { Greets D.id_of (Grants D.id_of (D.begun door.new) (D.joined door.new)) (D.view door.old) (D.view door.new) (S.left source.old) (S.left source.new) (K.written sink.old) (K.written sink.new) unread.new result }
+    ensures touches { Touches D.id_of result (D.view door.old) (D.view door.new) }
+    ensures faults { CountsFaults (result ≡ Greeted.Refused 519) (result ≡ Greeted.Refused 513) (D.view door.old).helper (D.view door.new).helper }
     ensures fresh { IfReady result (λ place first. D.Place.fresh place first) }
-    ensures later_dials { D.dial_faults door.old ≤ D.dial_faults door.new }
-    ensures later_starts { D.start_faults door.old ≤ D.start_faults door.new }
-    ensures later_reads { S.faults source.old ≤ S.faults source.new }
-    ensures later_writes { K.faults sink.old ≤ K.faults sink.new }
+    ensures reads { CountsFault (result ≡ Greeted.ReadFault) (S.faults source.old) (S.faults source.new) }
+    ensures writes { CountsFault (result ≡ Greeted.WriteFault) (K.faults sink.old) (K.faults sink.new) }
 {
     match read_request(rt, alloc, source, sink, unread, door) {
         Ok(request) => serve(rt, alloc, sink, door, &request),
@@ -265,15 +231,13 @@ pub fn greet<R: Threads + Wait + Copy + Send + 'static, S: Source, K: Sink, D: D
     rest: &mut Vec<u8>,
     door: &mut D,
 ) -> Greeted<D::Place>
-    ensures greeting { IsGreeting D.id_of (D.sessions door.old) (D.sessions door.new) (D.draws door.old) (Grants D.id_of (D.begun door.new) (D.joined door.new)) (S.left source.old) (S.left source.new) (K.written sink.old) (K.written sink.new) (D.asked door.old) (D.asked door.new) rest.new.items result }
-    ensures out { HasOut (D.out door.old) (D.out door.new) result }
-    ensures sessions { Told (D.sessions door.old) (D.sessions door.new) (HasTouched D.id_of result) }
-    ensures cause { IsCaused (Rose (S.faults source.old) (S.faults source.new)) (Rose (K.faults sink.old) (K.faults sink.new)) (HasCause (D.sessions door.old) (D.sessions door.new) (D.draws door.old) (Rose (D.dial_faults door.old) (D.dial_faults door.new)) (Rose (D.start_faults door.old) (D.start_faults door.new))) result }
+    ensures greeting { Greets D.id_of (Grants D.id_of (D.begun door.new) (D.joined door.new)) (D.view door.old) (D.view door.new) (S.left source.old) (S.left source.new) (K.written sink.old) (K.written sink.new) rest.new.items result }
+    ensures touches { Touches D.id_of result (D.view door.old) (D.view door.new) }
+    ensures refused { IfRefused result (HasCause (D.view door.old) (D.view door.new)) }
     ensures fresh { IfReady result (λ place first. D.Place.fresh place first) }
-    ensures later_dials { D.dial_faults door.old ≤ D.dial_faults door.new }
-    ensures later_starts { D.start_faults door.old ≤ D.start_faults door.new }
-    ensures later_reads { S.faults source.old ≤ S.faults source.new }
-    ensures later_writes { K.faults sink.old ≤ K.faults sink.new }
+    ensures later { NeverFell (D.view door.old).helper (D.view door.new).helper }
+    ensures reads { CountsFault (result ≡ Greeted.ReadFault) (S.faults source.old) (S.faults source.new) }
+    ensures writes { CountsFault (result ≡ Greeted.WriteFault) (K.faults sink.old) (K.faults sink.new) }
 {
     let mut unread = Unread::new(mem::replace(rest, Vec::new(alloc)));
     let greeted = converse(rt, alloc, source, sink, &mut unread, door);

@@ -1,7 +1,7 @@
 //! One instruction of a client, read as it comes.
 
-ghost use Rattle.std.specs.Prelude.{◌≡◌, ◌<◌, ◌≤◌, IfOk, IfErr, length};
-ghost use Rattle.gate_outside.specs.Edge.{Rose};
+ghost use Rattle.std.specs.Prelude.{◌≡◌, ◌<◌, ◌≤◌, IfOk, Err, length};
+ghost use Rattle.gate_outside.specs.Edge.{CountsFault};
 ghost use Rattle.gate_model.specs.text.HelloMeaning.{greeting_of};
 ghost use Rattle.guac_handshake.specs.Asks.{connects_as};
 ghost use Rattle.guac_handshake.specs.Heard.{HasHeard, said_behind, said_first, said_of, wish_said};
@@ -29,8 +29,7 @@ pub(crate) fn hear<S: Source>(
 ) -> Result<Said, Stop>
     requires { 0 < length piece.old }
     ensures heard { HasHeard expected.entry (S.left source.old) (S.left source.new) unread.old unread.new result }
-    ensures fault { IfErr result (λ stop. stop ≡ Stop.ReadFault → Rose (S.faults source.old) (S.faults source.new)) }
-    ensures later { S.faults source.old ≤ S.faults source.new }
+    ensures reads { CountsFault (result ≡ Err Stop.ReadFault) (S.faults source.old) (S.faults source.new) }
 {
     loop {
         match next_instruction(unread.as_slice()) {

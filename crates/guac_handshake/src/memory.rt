@@ -1,7 +1,7 @@
 //! A door in memory, over which greetings are tried.
 
 ghost use Rattle.std.specs.Prelude.{◌≡◌, ◌≤◌, ℕ, [], IfOk, IfSome, OnOk, Some, is_some};
-ghost use Rattle.gate_outside.specs.Edge.{Rose};
+ghost use Rattle.gate_outside.specs.Helpers.{Dials};
 ghost use Rattle.gate_outside.specs.Starts.{IsDialFailed};
 ghost use Rattle.guac_handshake.specs.Doors.{RemovedOne, at_name};
 ghost use Rattle.guac_handshake.specs.Memory.{untold};
@@ -83,14 +83,6 @@ impl MemDoor {
     }
 }
 
-impl Counted for MemDoor {
-    ghost dial_faults = { λ s. ⟦<MemDialer as Counted>⟧.dial_faults s.dialer };
-
-    ghost start_faults = { λ s. s.start_faults };
-
-    ghost draws = { λ s. ⟦<MemDice as Counted>⟧.draws s.dice };
-}
-
 impl Door for MemDoor {
     ghost use Rattle.std.specs.Prelude.{None, Some};
     ghost use Rattle.guac_handshake.specs.Memory.{untold};
@@ -107,11 +99,7 @@ impl Door for MemDoor {
 
     ghost id_of = { λ name. id_of_name name };
 
-    ghost sessions = { λ s. Some (untold (held s.ids)) };
-
-    ghost out = { λ s. Some s.out };
-
-    ghost asked = { λ _. None };
+    ghost view = { λ s. record { sessions = Some (untold (held s.ids)); out = Some s.out; asked = None; helper = record { dial_faults = (⟦<MemDialer as Counted>⟧.helper s.dialer).dial_faults; start_faults = s.start_faults; draws = (⟦<MemDice as Counted>⟧.helper s.dice).draws } } };
 
     ghost begun = { λ _ _ _. Unit {0} };
 
@@ -201,8 +189,7 @@ impl Door for MemDoor {
 
 // Dials the host of the ask, and lets go of the link.
 fn dial<L: Dialer>(dialer: &mut L, alloc: Global, ask: &Ask) -> Result<(), DialFault>
-    ensures cause { IsDialFailed result → Rose (L.dial_faults dialer.old) (L.dial_faults dialer.new) }
-    ensures later { L.dial_faults dialer.old ≤ L.dial_faults dialer.new }
+    ensures { Dials (IsDialFailed result) (L.helper dialer.old) (L.helper dialer.new) }
 {
     match dialer.dial(alloc, ask.host.as_str(), ask.port) {
         Ok(_) => Ok(()),

@@ -1,11 +1,11 @@
 //! A place for the form of an HTTP request.
 
-ghost use Rattle.std.specs.Prelude.{◌≡◌, ◌≤◌, IfOk};
-ghost use Rattle.gate_outside.specs.Edge.{Rose};
+ghost use Rattle.std.specs.Prelude.{IfOk};
+ghost use Rattle.gate_outside.specs.Helpers.{CountsFaults};
 ghost use Rattle.guac_handshake.specs.Doors.{Grants};
-ghost use Rattle.guac_handshake.specs.Opening.{HasMoved, HasOpened, IsDoor, IsThere, with_opened};
+ghost use Rattle.guac_handshake.specs.Opening.{HasOpened, IsDoor, IsThere, Moves};
+ghost use Rattle.guac_handshake.specs.Views.{Looks};
 ghost use Rattle.guac_handshake.specs.declared.refused.Refused.TheVariants.{Busy, Dial};
-ghost use Rattle.id_table.specs.Maps.{Same, Told};
 
 use crate::asking::ask;
 use crate::form::read_form;
@@ -16,13 +16,8 @@ use std::thread::Threads;
 
 // Whether the session that is asked for is there; one that is to begin is asked for anyhow.
 fn is_there<R: Wait, D: Door>(rt: &R, door: &mut D, request: &Request) -> bool
-    ensures there { IsThere D.id_of (D.sessions door.old) request.now result }
-    ensures sessions { Told (D.sessions door.old) (D.sessions door.new) Same }
-    ensures draws { D.draws door.new ≡ D.draws door.old }
-    ensures asked { D.asked door.new ≡ D.asked door.old }
-    ensures out { D.out door.new ≡ D.out door.old }
-    ensures dials { D.dial_faults door.new ≡ D.dial_faults door.old }
-    ensures starts { D.start_faults door.new ≡ D.start_faults door.old }
+    ensures there { IsThere D.id_of (D.view door.old).sessions request.now result }
+    ensures looks { Looks (D.view door.old) (D.view door.new) }
 {
     match request {
         Request::Begin(_) => true,
@@ -43,14 +38,10 @@ pub fn open_form<R: Threads + Wait + Copy + Send + 'static, D: Door>(
     body: &[u8],
     door: &mut D,
 ) -> Result<Welcome<D::Place>, FormRefusal>
-    ensures opened { HasOpened D.id_of (D.sessions door.old) (D.sessions door.new) (D.draws door.old) (Grants D.id_of (D.begun door.new) (D.joined door.new)) (D.asked door.old) (D.asked door.new) body.now result }
-    ensures sessions { Told (D.sessions door.old) (D.sessions door.new) (HasMoved D.id_of result) }
-    ensures out { D.out door.new ≡ with_opened result (D.out door.old) }
-    ensures dial { IsDoor Dial result → Rose (D.dial_faults door.old) (D.dial_faults door.new) }
-    ensures busy { IsDoor Busy result → Rose (D.start_faults door.old) (D.start_faults door.new) }
+    ensures opened { HasOpened D.id_of (D.view door.old).sessions (D.view door.new).sessions (D.view door.old).helper.draws (Grants D.id_of (D.begun door.new) (D.joined door.new)) (D.view door.old).asked (D.view door.new).asked body.now result }
+    ensures moves { Moves D.id_of result (D.view door.old) (D.view door.new) }
+    ensures faults { CountsFaults (IsDoor Dial result) (IsDoor Busy result) (D.view door.old).helper (D.view door.new).helper }
     ensures fresh { IfOk result (λ welcome. D.Place.fresh welcome.place welcome.first) }
-    ensures later_dials { D.dial_faults door.old ≤ D.dial_faults door.new }
-    ensures later_starts { D.start_faults door.old ≤ D.start_faults door.new }
 {
     let request = read_form(alloc, body)?;
     if !is_there(rt, door, &request) {

@@ -1,7 +1,7 @@
 //! What a client is written.
 
-ghost use Rattle.std.specs.Prelude.{◌≡◌, ◌≤◌, ◌++◌, IfErr, IfOk, OnOk, OnErr};
-ghost use Rattle.gate_outside.specs.Edge.{GainedFront, Rose, gained};
+ghost use Rattle.std.specs.Prelude.{◌≡◌, ◌++◌, Err, IfErr, IfOk, IsErr, OnOk, OnErr};
+ghost use Rattle.gate_outside.specs.Edge.{CountsFault, GainedFront, gained};
 ghost use Rattle.guac_handshake.specs.Texts.{IsWriteStop, args_text, error_text, ready_text};
 
 use crate::request::Selected;
@@ -24,8 +24,7 @@ pub(crate) fn write_args<K: Sink>(sink: &mut K, selected: &Selected) -> Result<(
     ensures ok { OnOk result (K.written sink.new ≡ gained (K.written sink.old) (args_text selected.now)) }
     ensures part { OnErr result (GainedFront (K.written sink.old) (K.written sink.new) (args_text selected.now)) }
     ensures kind { IfErr result (λ stop. stop ≡ Stop.WriteFault) }
-    ensures cause { OnErr result (Rose (K.faults sink.old) (K.faults sink.new)) }
-    ensures later { K.faults sink.old ≤ K.faults sink.new }
+    ensures writes { CountsFault (IsErr result) (K.faults sink.old) (K.faults sink.new) }
 {
     let args = match selected {
         Selected::Telnet => BEGIN_ARGS,
@@ -38,8 +37,8 @@ pub(crate) fn write_args<K: Sink>(sink: &mut K, selected: &Selected) -> Result<(
 pub(crate) fn write_ready<K: Sink>(alloc: Global, sink: &mut K, id: &Text) -> Result<(), Stop>
     ensures ok { OnOk result (K.written sink.new ≡ gained (K.written sink.old) (ready_text id.now)) }
     ensures part { OnErr result (GainedFront (K.written sink.old) (K.written sink.new) (ready_text id.now)) }
-    ensures kind { IfErr result (IsWriteStop (Rose (K.faults sink.old) (K.faults sink.new))) }
-    ensures later { K.faults sink.old ≤ K.faults sink.new }
+    ensures kind { IfErr result IsWriteStop }
+    ensures writes { CountsFault (result ≡ Err Stop.WriteFault) (K.faults sink.old) (K.faults sink.new) }
 {
     let text = ready(alloc, id)?;
     write(sink, &text)
@@ -59,8 +58,8 @@ fn ready(alloc: Global, id: &Text) -> Result<Vec<u8>, NoMemory>
 pub(crate) fn write_error<K: Sink>(alloc: Global, sink: &mut K, status: u16) -> Result<(), Stop>
     ensures ok { OnOk result (K.written sink.new ≡ gained (K.written sink.old) (error_text status)) }
     ensures part { OnErr result (GainedFront (K.written sink.old) (K.written sink.new) (error_text status)) }
-    ensures kind { IfErr result (IsWriteStop (Rose (K.faults sink.old) (K.faults sink.new))) }
-    ensures later { K.faults sink.old ≤ K.faults sink.new }
+    ensures kind { IfErr result IsWriteStop }
+    ensures writes { CountsFault (result ≡ Err Stop.WriteFault) (K.faults sink.old) (K.faults sink.new) }
 {
     let mut text = Vec::new(alloc);
     text_of(&Instr::Error { status }, &mut text)?;
@@ -71,8 +70,7 @@ fn write<K: Sink>(sink: &mut K, text: &[u8]) -> Result<(), Stop>
     ensures ok { OnOk result (K.written sink.new ≡ gained (K.written sink.old) text.now) }
     ensures part { OnErr result (GainedFront (K.written sink.old) (K.written sink.new) text.now) }
     ensures kind { IfErr result (λ stop. stop ≡ Stop.WriteFault) }
-    ensures cause { OnErr result (Rose (K.faults sink.old) (K.faults sink.new)) }
-    ensures later { K.faults sink.old ≤ K.faults sink.new }
+    ensures writes { CountsFault (IsErr result) (K.faults sink.old) (K.faults sink.new) }
 {
     match write_all(sink, text) {
         Ok(()) => Ok(()),

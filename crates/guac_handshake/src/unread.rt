@@ -23,8 +23,8 @@ impl Model for Unread {
 }
 
 impl Unread {
-    ghost use Rattle.std.specs.Prelude.{◌≡◌, ◌<◌, ◌≤◌, ◌++◌, [], List, ℕ, Bool, true, false, length, drop, IfOk, IfErr, OnErr, OnOk};
-    ghost use Rattle.gate_outside.specs.Edge.{AtEnd, Rose};
+    ghost use Rattle.std.specs.Prelude.{◌≡◌, ◌<◌, ◌≤◌, ◌++◌, [], List, ℕ, Bool, true, false, length, drop, Err, IfOk, IfErr, OnErr, OnOk};
+    ghost use Rattle.gate_outside.specs.Edge.{AtEnd, CountsFault};
     ghost use Rattle.guac_handshake.specs.Moved.{Moved, IsReadStop};
 
     /// None, in the room of the vector.
@@ -76,8 +76,7 @@ impl Unread {
         ensures end { IfOk result (λ more. more ≡ false → (self.new ≡ self.old) × AtEnd (S.left source.new)) }
         ensures stopped { OnErr result (self.new ≡ self.old) }
         ensures kind { IfErr result IsReadStop }
-        ensures fault { IfErr result (λ stop. stop ≡ Stop.ReadFault → Rose (S.faults source.old) (S.faults source.new)) }
-        ensures later { S.faults source.old ≤ S.faults source.new }
+        ensures reads { CountsFault (result ≡ Err Stop.ReadFault) (S.faults source.old) (S.faults source.new) }
     {
         self.cut();
         self.bytes.reserve(piece.len())?;

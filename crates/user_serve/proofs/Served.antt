@@ -7,11 +7,12 @@ use Rattle.guac_handshake.specs.declared.greeted.Greeted.TheVariants as greeted
 use Rattle.guac_handshake.specs.declared.request.Request.{Request}
 use Rattle.guac_handshake.specs.declared.welcome.Welcome.{Welcome}
 use Rattle.guac_handshake.specs.Doors.{Sessions}
-use Rattle.guac_handshake.specs.Greetings.{HasOut, HasTouched, IsGreeting}
+use Rattle.guac_handshake.specs.Greetings as door
+use Rattle.guac_handshake.specs.Views.{DoorView}
 use Rattle.guac_handshake.proofs.Touching.{touched_none}
 use Rattle.id_table.specs.Maps.{Same, Told}
 use Rattle.shared_desk.specs.declared.place.Place.{Place}
-use Rattle.user_serve.specs.Users.{Greets, HasGreeted, IsEndOf, LeavesDoor, UserRun, VisitRun}
+use Rattle.user_serve.specs.Users.{Greets, HasGreeted, LeavesDoor, UserRun, VisitRun}
 use Rattle.user_serve.specs.declared.ends.UserEnd.{UserEnd}
 use Rattle.user_serve.specs.declared.ends.UserEnd.TheVariants.{Served, NoMemory}
 use Rattle.user_serve.specs.declared.ends.Visit.{Visit}
@@ -48,22 +49,18 @@ pub same_viewer : (one other : ℕ) (P : ℕ → Type 0) → one ≡ other → P
 same_viewer one other P is p = subst P (sym is) p
 
 -- a greeting let the viewer in, and a visit followed
-pub let_in : (id_of : List ℕ → Option (List ℕ)) (sessions sessions_new : Option Sessions) (draws : Option (ℕ → List ℕ)) (gives : Request → Welcome Place → Type 0) (left_old left left_new written_old written written_new : Option (List ℕ)) (asked_old asked_new : Option (List Request)) (rest : List ℕ) (welcome : Welcome Place) (visit : Visit)
-    → IsGreeting id_of sessions sessions_new draws gives left_old left written_old written asked_old asked_new rest (greeted.Ready welcome) → Exchanges left left_new written written_new (λ r w. VisitRun welcome visit (rest ++ r) w left_new)
-    → HasGreeted id_of sessions sessions_new draws gives left_old left_new written_old written_new asked_old asked_new (Served visit)
-let_in id_of sessions sessions_new draws gives left_old left left_new written_old written written_new asked_old asked_new rest welcome visit g v =
+pub let_in : (id_of : List ℕ → Option (List ℕ)) (gives : Request → Welcome Place → Type 0) (before after : DoorView) (left_old left left_new written_old written written_new : Option (List ℕ)) (rest : List ℕ) (welcome : Welcome Place) (visit : Visit)
+    → door.Greets id_of gives before after left_old left written_old written rest (greeted.Ready welcome) → Exchanges left left_new written written_new (λ r w. VisitRun welcome visit (rest ++ r) w left_new)
+    → HasGreeted id_of gives before after left_old left_new written_old written_new (Served visit)
+let_in id_of gives before after left_old left left_new written_old written written_new rest welcome visit g v =
     let ran = v.4 in record { welcome = welcome; id = ran.id; left = left; behind = v.0; reads = v.2; written = written; shown = v.1; writes = v.3; greets = (rest, g) }
 
 -- ---- the door
-
--- the door is as the greeting left it
-pub door_left : (id_of : List ℕ → Option (List ℕ)) (out out_new : Option ℕ) (sessions sessions_new : Option Sessions) (g : Greeted Place) (end : UserEnd) → IsEndOf g end → HasOut out out_new g → Told sessions sessions_new (HasTouched id_of g) → LeavesDoor id_of out out_new sessions sessions_new end
-door_left id_of out out_new sessions sessions_new g end is outs touched = record { greeting = g; is_end = is; out = outs; sessions = touched }
 
 same_told : (o : Option Sessions) → Told o o Same
 same_told None = tt
 same_told (Some m) = λ k. refl
 
--- .. and as it was, where no greeting began
-pub door_kept : (id_of : List ℕ → Option (List ℕ)) (out : Option ℕ) (sessions : Option Sessions) → LeavesDoor id_of out out sessions sessions NoMemory
-door_kept id_of out sessions = record { greeting = greeted.NoMemory; is_end = refl; out = refl; sessions = touched_none sessions sessions (same_told sessions) }
+-- it is as it was, where no greeting began
+pub door_kept : (id_of : List ℕ → Option (List ℕ)) (view : DoorView) → LeavesDoor id_of view view NoMemory
+door_kept id_of view = record { greeting = greeted.NoMemory; is_end = refl; touches = record { out = refl; sessions = touched_none view.sessions view.sessions (same_told view.sessions) } }

@@ -96,11 +96,3 @@ pub record StepRun (viewer : ℕ) (v w : View Entry) (written : List ℕ) (resul
   pub wrote : StepWrote result (texts more) written
   pub cause : StepCause result viewer w.seen
   pub sound : IsSound w.seen
-
-abbrev pub IfFault : Result Step OutletEnd → Type 0 → Type 0
-IfFault (Ok step) P = Unit {0}
-IfFault (Err WriteFault) P = P
-IfFault (Err Ended) P = Unit {0}
-IfFault (Err Left) P = Unit {0}
-IfFault (Err Worn) P = Unit {0}
-IfFault (Err NoMemory) P = Unit {0}

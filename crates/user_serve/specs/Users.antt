@@ -5,9 +5,9 @@ use Rattle.guac_handshake.specs.declared.greeted.Greeted.{Greeted}
 use Rattle.guac_handshake.specs.declared.greeted.Greeted.TheVariants as greeted
 use Rattle.guac_handshake.specs.declared.request.Request.{Request}
 use Rattle.guac_handshake.specs.declared.welcome.Welcome.{Welcome}
-use Rattle.guac_handshake.specs.Doors.{Sessions}
-use Rattle.guac_handshake.specs.Greetings.{HasOut, HasTouched, IsGreeting}
-use Rattle.id_table.specs.Maps.{Told}
+use Rattle.guac_handshake.specs.Greetings.{Touches}
+use Rattle.guac_handshake.specs.Greetings as door
+use Rattle.guac_handshake.specs.Views.{DoorView}
 use Rattle.shared_desk.specs.declared.place.Place.{Place}
 use Rattle.shared_desk.specs.Hosts.{IsFresh}
 use Rattle.user_serve.specs.Greets.{GreetRun}
@@ -55,14 +55,31 @@ UserRun left ReadFault read written = Greets greeted.ReadFault read written
 UserRun left WriteFault read written = Greets greeted.WriteFault read written
 UserRun left NoMemory read written = ((read ≡ []) × (written ≡ [])) ⊎ Greets greeted.NoMemory read written
 
--- why a connection ended so: of a visit, why each of its loops did; at every other end why the greeting did
-abbrev pub IsCaused : Type 0 → Type 0 → (ℕ → Type 0) → UserEnd → Type 0
-IsCaused read_failed write_failed refuses (Served visit) = (visit.intake ≡ intakes.ReadFault → read_failed) × (visit.outlet ≡ outlets.WriteFault → write_failed)
-IsCaused read_failed write_failed refuses (Refused code) = refuses code
-IsCaused read_failed write_failed refuses Ended = Unit {0}
-IsCaused read_failed write_failed refuses ReadFault = read_failed
-IsCaused read_failed write_failed refuses WriteFault = write_failed
-IsCaused read_failed write_failed refuses NoMemory = Unit {0}
+-- a read failed: the greeting's, or the visit's; and the same of a write
+abbrev pub HasReadFault : UserEnd → Type 0
+HasReadFault (Served visit) = visit.intake ≡ intakes.ReadFault
+HasReadFault (Refused code) = ⊥
+HasReadFault Ended = ⊥
+HasReadFault ReadFault = Unit {0}
+HasReadFault WriteFault = ⊥
+HasReadFault NoMemory = ⊥
+
+abbrev pub HasWriteFault : UserEnd → Type 0
+HasWriteFault (Served visit) = visit.outlet ≡ outlets.WriteFault
+HasWriteFault (Refused code) = ⊥
+HasWriteFault Ended = ⊥
+HasWriteFault ReadFault = ⊥
+HasWriteFault WriteFault = Unit {0}
+HasWriteFault NoMemory = ⊥
+
+-- a fact of the code of a viewer that was refused
+abbrev pub IfRefused : UserEnd → (ℕ → Type 0) → Type 0
+IfRefused (Served visit) F = Unit {0}
+IfRefused (Refused code) F = F code
+IfRefused Ended F = Unit {0}
+IfRefused ReadFault F = Unit {0}
+IfRefused WriteFault F = Unit {0}
+IfRefused NoMemory F = Unit {0}
 
 -- ---- by the words of the greeting's own contract
 
@@ -88,10 +105,10 @@ Greeting is_greeting nothing left written WriteFault = is_greeting left written 
 Greeting is_greeting nothing left written NoMemory = nothing ⊎ is_greeting left written greeted.NoMemory
 
 -- .. so the door was asked by the greeting alone, and where a viewer was let in it has given just what was wished
-abbrev pub HasGreeted : (List ℕ → Option (List ℕ)) → Option Sessions → Option Sessions → Option (ℕ → List ℕ) → (Request → Welcome Place → Type 0) → Option (List ℕ) → Option (List ℕ) → Option (List ℕ) → Option (List ℕ) → Option (List Request) → Option (List Request) → UserEnd → Type 0
-HasGreeted id_of sessions sessions_new draws gives left_old left_new written_old written_new asked_old asked_new end =
-    Greeting (λ left written g. (rest : List ℕ) × IsGreeting id_of sessions sessions_new draws gives left_old left written_old written asked_old asked_new rest g)
-    ((left_new ≡ left_old) × (written_new ≡ written_old) × (asked_new ≡ asked_old)) left_new written_new end
+abbrev pub HasGreeted : (List ℕ → Option (List ℕ)) → (Request → Welcome Place → Type 0) → DoorView → DoorView → Option (List ℕ) → Option (List ℕ) → Option (List ℕ) → Option (List ℕ) → UserEnd → Type 0
+HasGreeted id_of gives before after left_old left_new written_old written_new end =
+    Greeting (λ left written g. (rest : List ℕ) × door.Greets id_of gives before after left_old left written_old written rest g)
+    ((left_new ≡ left_old) × (written_new ≡ written_old) × (after.asked ≡ before.asked)) left_new written_new end
 
 -- the greeting that stands behind an end
 abbrev pub IsEndOf : Greeted Place → UserEnd → Type 0
@@ -103,8 +120,7 @@ IsEndOf g WriteFault = g ≡ greeted.WriteFault
 IsEndOf g NoMemory = g ≡ greeted.NoMemory
 
 -- the door is as that greeting left it: its places that are out, and its sessions
-pub record LeavesDoor (id_of : List ℕ → Option (List ℕ)) (out_old out_new : Option ℕ) (sessions_old sessions_new : Option Sessions) (end : UserEnd) : Type 0 where
+pub record LeavesDoor (id_of : List ℕ → Option (List ℕ)) (before after : DoorView) (end : UserEnd) : Type 0 where
   pub greeting : Greeted Place
   pub is_end : IsEndOf greeting end
-  pub out : HasOut out_old out_new greeting
-  pub sessions : Told sessions_old sessions_new (HasTouched id_of greeting)
+  pub touches : Touches id_of greeting before after

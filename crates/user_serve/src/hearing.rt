@@ -1,7 +1,8 @@
 //! What a viewer sends goes into its session.
 
-ghost use Rattle.std.specs.Prelude.{◌≡◌, ◌<◌, ◌≤◌, ◌++◌, ℕ, List, Some, drop, length, IfErr};
-ghost use Rattle.gate_outside.specs.Edge.{Rose, came};
+ghost use Rattle.std.specs.Prelude.{◌≡◌, ◌<◌, ◌≤◌, ◌++◌, ℕ, List, Err, Some, drop, length};
+ghost use Rattle.gate_outside.specs.Edge.{CountsFault, came};
+ghost use Rattle.shared_desk.specs.Members.{Stays};
 ghost use Rattle.user_serve.specs.Intakes.{HasHeard, HasRead, HasTaken, HasWritten, HearStop, IntakeRun, Leaves, LeftNow, end_of, is_disconnect};
 ghost use Rattle.user_serve.specs.declared.ends.IntakeEnd.TheVariants as ends;
 
@@ -30,11 +31,9 @@ pub fn intake<R: Wait, S: Source, B: Bell>(
     rest: &mut Vec<u8>,
     bell: &B,
 ) -> IntakeEnd
-    ensures session { pass.new.session ≡ pass.old.session }
-    ensures viewer { pass.new.viewer ≡ pass.old.viewer }
+    ensures stays { Stays pass.old pass.new }
     ensures ran { (read : List ℕ) × (S.left source.old ≡ came read (S.left source.new)) × IntakeRun pass.old.viewer pass.old.view pass.new.view (rest.old.items ++ read) rest.new.items (S.left source.new) result }
-    ensures read_fault { result ≡ ends.ReadFault → Rose (S.faults source.old) (S.faults source.new) }
-    ensures later { S.faults source.old ≤ S.faults source.new }
+    ensures faults { CountsFault (result ≡ ends.ReadFault) (S.faults source.old) (S.faults source.new) }
 {
     let end = hear_all(rt, alloc, pass, source, rest, bell);
     leave_after(rt, pass, bell, end);
@@ -43,8 +42,7 @@ pub fn intake<R: Wait, S: Source, B: Bell>(
 
 // Leaves, but where the viewer had left, and rings.
 fn leave_after<R: Wait, B: Bell>(rt: &R, pass: &mut WriterPass, bell: &B, end: IntakeEnd)
-    ensures session { pass.new.session ≡ pass.old.session }
-    ensures viewer { pass.new.viewer ≡ pass.old.viewer }
+    ensures stays { Stays pass.old pass.new }
     ensures leaves { Leaves end pass.old.viewer pass.old.view pass.new.view }
 {
     match end {
@@ -60,8 +58,7 @@ fn leave_after<R: Wait, B: Bell>(rt: &R, pass: &mut WriterPass, bell: &B, end: I
 
 // Leaves where the viewer is there, and then rings.
 fn leave<R: Wait, B: Bell>(rt: &R, pass: &mut WriterPass, bell: &B)
-    ensures session { pass.new.session ≡ pass.old.session }
-    ensures viewer { pass.new.viewer ≡ pass.old.viewer }
+    ensures stays { Stays pass.old pass.new }
     ensures left { LeftNow pass.old.viewer pass.old.view pass.new.view }
 {
     // So its Leave stands in what the pass has seen.
@@ -80,11 +77,9 @@ fn hear_all<R: Wait, S: Source, B: Bell>(
     rest: &mut Vec<u8>,
     bell: &B,
 ) -> IntakeEnd
-    ensures session { pass.new.session ≡ pass.old.session }
-    ensures viewer { pass.new.viewer ≡ pass.old.viewer }
+    ensures stays { Stays pass.old pass.new }
     ensures stopped { (read : List ℕ) × (S.left source.old ≡ came read (S.left source.new)) × HearStop pass.old.viewer pass.old.view pass.new.view (rest.old.items ++ read) rest.new.items (S.left source.new) result }
-    ensures read_fault { result ≡ ends.ReadFault → Rose (S.faults source.old) (S.faults source.new) }
-    ensures later { S.faults source.old ≤ S.faults source.new }
+    ensures faults { CountsFault (result ≡ ends.ReadFault) (S.faults source.old) (S.faults source.new) }
 {
     let mut piece = [0u8; PIECE];
     let mut at = 0;
@@ -115,11 +110,9 @@ fn hear_next<R: Wait, S: Source, B: Bell>(
     requires room { 0 < length piece.old }
     ensures within { at.new ≤ length rest.new.items }
     ensures room { length piece.new ≡ length piece.old }
-    ensures session { pass.new.session ≡ pass.old.session }
-    ensures viewer { pass.new.viewer ≡ pass.old.viewer }
+    ensures stays { Stays pass.old pass.new }
     ensures heard { HasHeard pass.old.viewer pass.old.view pass.new.view (S.left source.old) (S.left source.new) (drop at.old rest.old.items) (drop at.new rest.new.items) result }
-    ensures read_fault { IfErr result (λ end. end ≡ ends.ReadFault → Rose (S.faults source.old) (S.faults source.new)) }
-    ensures later { S.faults source.old ≤ S.faults source.new }
+    ensures faults { CountsFault (result ≡ Err ends.ReadFault) (S.faults source.old) (S.faults source.new) }
 {
     match next_instruction(unread(rest, *at)) {
         Next::Whole(frame, count) => {
@@ -160,8 +153,7 @@ fn read_more<S: Source>(
     ensures at { at.new ≡ 0 }
     ensures room { length piece.new ≡ length piece.old }
     ensures read { HasRead (S.left source.old) (S.left source.new) (drop at.old rest.old.items) rest.new.items result }
-    ensures read_fault { IfErr result (λ end. end ≡ ends.ReadFault → Rose (S.faults source.old) (S.faults source.new)) }
-    ensures later { S.faults source.old ≤ S.faults source.new }
+    ensures faults { CountsFault (result ≡ Err ends.ReadFault) (S.faults source.old) (S.faults source.new) }
 {
     cut(rest, *at);
     *at = 0;
@@ -189,8 +181,7 @@ fn take_up<R: Wait, B: Bell>(
     act: Option<Act>,
     bell: &B,
 ) -> Result<(), IntakeEnd>
-    ensures session { pass.new.session ≡ pass.old.session }
-    ensures viewer { pass.new.viewer ≡ pass.old.viewer }
+    ensures stays { Stays pass.old pass.new }
     ensures taken { HasTaken pass.old.viewer act pass.old.view pass.new.view result }
 {
     match act {
@@ -225,8 +216,7 @@ fn write<R: Wait, B: Bell>(
     act: Act,
     bell: &B,
 ) -> Result<(), IntakeEnd>
-    ensures session { pass.new.session ≡ pass.old.session }
-    ensures viewer { pass.new.viewer ≡ pass.old.viewer }
+    ensures stays { Stays pass.old pass.new }
     ensures wrote { HasWritten pass.old.viewer act pass.old.view pass.new.view result }
 {
     match write_acts(rt, alloc, pass, &[act], bell) {

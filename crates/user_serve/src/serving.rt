@@ -1,15 +1,17 @@
 //! One viewer's connection.
 
-ghost use Rattle.std.specs.Prelude.{◌≡◌, ◌≤◌, ◌++◌, ℕ, List};
+ghost use Rattle.std.specs.Prelude.{◌≡◌, ◌++◌, ℕ, List};
 ghost use Rattle.gate_model.specs.session.Delivered.{delivered};
 ghost use Rattle.gate_model.specs.text.Text.{texts};
-ghost use Rattle.gate_outside.specs.Edge.{Rose, came, gained};
+ghost use Rattle.gate_outside.specs.Edge.{CountsFault, came, gained};
+ghost use Rattle.gate_outside.specs.Helpers.{NeverFell};
 ghost use Rattle.guac_handshake.specs.Causes.{HasCause};
 ghost use Rattle.guac_handshake.specs.Doors.{Grants};
 ghost use Rattle.shared_desk.specs.Hosts.{IsFresh};
+ghost use Rattle.shared_desk.specs.Members.{Stays};
 ghost use Rattle.user_serve.specs.Intakes.{IntakeRun};
 ghost use Rattle.user_serve.specs.Outlets.{OutletRun};
-ghost use Rattle.user_serve.specs.Users.{HasGreeted, IsCaused, LeavesDoor, UserRun, VisitRun};
+ghost use Rattle.user_serve.specs.Users.{HasGreeted, HasReadFault, HasWriteFault, IfRefused, LeavesDoor, UserRun, VisitRun};
 ghost use Rattle.user_serve.specs.declared.ends.IntakeEnd.TheVariants as intakes;
 ghost use Rattle.user_serve.specs.declared.ends.OutletEnd.TheVariants as outlets;
 
@@ -44,13 +46,12 @@ where
     D: Door<Place = Place>,
     B: Bell + Send,
     ensures ran { (read : List ℕ) × (written : List ℕ) × (S.left source.old ≡ came read (S.left source.new)) × (K.written sink.new ≡ gained (K.written sink.old) written) × UserRun (S.left source.new) result read written }
-    ensures greeting { HasGreeted D.id_of (D.sessions door.old) (D.sessions door.new) (D.draws door.old) (Grants D.id_of (D.begun door.new) (D.joined door.new)) (S.left source.old) (S.left source.new) (K.written sink.old) (K.written sink.new) (D.asked door.old) (D.asked door.new) result }
-    ensures door { LeavesDoor D.id_of (D.out door.old) (D.out door.new) (D.sessions door.old) (D.sessions door.new) result }
-    ensures cause { IsCaused (Rose (S.faults source.old) (S.faults source.new)) (Rose (K.faults sink.old) (K.faults sink.new)) (HasCause (D.sessions door.old) (D.sessions door.new) (D.draws door.old) (Rose (D.dial_faults door.old) (D.dial_faults door.new)) (Rose (D.start_faults door.old) (D.start_faults door.new))) result }
-    ensures later_dials { D.dial_faults door.old ≤ D.dial_faults door.new }
-    ensures later_starts { D.start_faults door.old ≤ D.start_faults door.new }
-    ensures later_reads { S.faults source.old ≤ S.faults source.new }
-    ensures later_writes { K.faults sink.old ≤ K.faults sink.new }
+    ensures greeting { HasGreeted D.id_of (Grants D.id_of (D.begun door.new) (D.joined door.new)) (D.view door.old) (D.view door.new) (S.left source.old) (S.left source.new) (K.written sink.old) (K.written sink.new) result }
+    ensures door { LeavesDoor D.id_of (D.view door.old) (D.view door.new) result }
+    ensures refused { IfRefused result (HasCause (D.view door.old) (D.view door.new)) }
+    ensures later { NeverFell (D.view door.old).helper (D.view door.new).helper }
+    ensures reads { CountsFault (HasReadFault result) (S.faults source.old) (S.faults source.new) }
+    ensures writes { CountsFault (HasWriteFault result) (K.faults sink.old) (K.faults sink.new) }
 {
     let Ok(hearing) = bell.another(alloc) else {
         return UserEnd::NoMemory;
@@ -94,10 +95,8 @@ where
     S: Source + Send,
     requires fresh { IsFresh welcome.place welcome.first }
     ensures ran { (read : List ℕ) × (written : List ℕ) × (S.left source.old ≡ came read (S.left source.new)) × (K.written sink.new ≡ gained (K.written sink.old) written) × VisitRun welcome result (rest.items ++ read) written (S.left source.new) }
-    ensures read_fault { result.intake ≡ intakes.ReadFault → Rose (S.faults source.old) (S.faults source.new) }
-    ensures write_fault { result.outlet ≡ outlets.WriteFault → Rose (K.faults sink.old) (K.faults sink.new) }
-    ensures later_reads { S.faults source.old ≤ S.faults source.new }
-    ensures later_writes { K.faults sink.old ≤ K.faults sink.new }
+    ensures reads { CountsFault (result.intake ≡ intakes.ReadFault) (S.faults source.old) (S.faults source.new) }
+    ensures writes { CountsFault (result.outlet ≡ outlets.WriteFault) (K.faults sink.old) (K.faults sink.new) }
 {
     let Welcome { id, place, first } = welcome;
     let Place {
@@ -150,16 +149,12 @@ where
     B: Bell + Send,
     S: Source + Send,
     requires fresh { first.old ≡ texts (delivered reader.old.view.seen reader.old.viewer) }
-    ensures reader_session { reader.new.session ≡ reader.old.session }
-    ensures reader_viewer { reader.new.viewer ≡ reader.old.viewer }
-    ensures writer_session { writer.new.session ≡ writer.old.session }
-    ensures writer_viewer { writer.new.viewer ≡ writer.old.viewer }
+    ensures reader_stays { Stays reader.old reader.new }
+    ensures writer_stays { Stays writer.old writer.new }
     ensures shown { (written : List ℕ) × (K.written sink.new ≡ gained (K.written sink.old) written) × OutletRun reader.old.viewer reader.old.view reader.new.view written result.0 }
     ensures heard { (read : List ℕ) × (S.left source.old ≡ came read (S.left source.new)) × IntakeRun writer.old.viewer writer.old.view writer.new.view (rest.old.items ++ read) rest.new.items (S.left source.new) result.1 }
-    ensures read_fault { result.1 ≡ intakes.ReadFault → Rose (S.faults source.old) (S.faults source.new) }
-    ensures write_fault { result.0 ≡ outlets.WriteFault → Rose (K.faults sink.old) (K.faults sink.new) }
-    ensures later_reads { S.faults source.old ≤ S.faults source.new }
-    ensures later_writes { K.faults sink.old ≤ K.faults sink.new }
+    ensures reads { CountsFault (result.1 ≡ intakes.ReadFault) (S.faults source.old) (S.faults source.new) }
+    ensures writes { CountsFault (result.0 ≡ outlets.WriteFault) (K.faults sink.old) (K.faults sink.new) }
 {
     join_mut(
         rt,
@@ -178,11 +173,9 @@ fn show<R: Wait, K: Sink, B: Bell>(
     bell: &mut B,
 ) -> OutletEnd
     requires fresh { first.old ≡ texts (delivered reader.old.view.seen reader.old.viewer) }
-    ensures session { reader.new.session ≡ reader.old.session }
-    ensures viewer { reader.new.viewer ≡ reader.old.viewer }
+    ensures stays { Stays reader.old reader.new }
     ensures ran { (written : List ℕ) × (K.written sink.new ≡ gained (K.written sink.old) written) × OutletRun reader.old.viewer reader.old.view reader.new.view written result }
-    ensures write_fault { result ≡ outlets.WriteFault → Rose (K.faults sink.old) (K.faults sink.new) }
-    ensures later { K.faults sink.old ≤ K.faults sink.new }
+    ensures faults { CountsFault (result ≡ outlets.WriteFault) (K.faults sink.old) (K.faults sink.new) }
 {
     outlet(rt, alloc, reader, &*first, sink, bell)
 }
@@ -196,11 +189,9 @@ fn hear<R: Wait, S: Source, B: Bell>(
     rest: &mut Vec<u8>,
     bell: &mut B,
 ) -> IntakeEnd
-    ensures session { writer.new.session ≡ writer.old.session }
-    ensures viewer { writer.new.viewer ≡ writer.old.viewer }
+    ensures stays { Stays writer.old writer.new }
     ensures ran { (read : List ℕ) × (S.left source.old ≡ came read (S.left source.new)) × IntakeRun writer.old.viewer writer.old.view writer.new.view (rest.old.items ++ read) rest.new.items (S.left source.new) result }
-    ensures read_fault { result ≡ intakes.ReadFault → Rose (S.faults source.old) (S.faults source.new) }
-    ensures later { S.faults source.old ≤ S.faults source.new }
+    ensures faults { CountsFault (result ≡ intakes.ReadFault) (S.faults source.old) (S.faults source.new) }
 {
     intake(rt, alloc, writer, source, rest, bell)
 }

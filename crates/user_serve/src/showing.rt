@@ -1,10 +1,11 @@
 //! What a viewer is given goes out to it.
 
-ghost use Rattle.std.specs.Prelude.{◌≡◌, ◌≤◌, ℕ, List};
+ghost use Rattle.std.specs.Prelude.{◌≡◌, ℕ, List, Err};
 ghost use Rattle.gate_model.specs.session.Delivered.{delivered};
 ghost use Rattle.gate_model.specs.text.Text.{texts};
-ghost use Rattle.gate_outside.specs.Edge.{Rose, gained};
-ghost use Rattle.user_serve.specs.Outlets.{IfFault, OutletRun, StepRun, step_of};
+ghost use Rattle.gate_outside.specs.Edge.{CountsFault, gained};
+ghost use Rattle.shared_desk.specs.Members.{Stays};
+ghost use Rattle.user_serve.specs.Outlets.{OutletRun, StepRun, step_of};
 ghost use Rattle.user_serve.specs.declared.ends.OutletEnd.TheVariants as ends;
 
 use crate::OutletEnd;
@@ -27,11 +28,9 @@ pub fn outlet<R: Wait, K: Sink, B: Bell>(
     bell: &B,
 ) -> OutletEnd
     requires fresh { first.now ≡ texts (delivered pass.old.view.seen pass.old.viewer) }
-    ensures session { pass.new.session ≡ pass.old.session }
-    ensures viewer { pass.new.viewer ≡ pass.old.viewer }
+    ensures stays { Stays pass.old pass.new }
     ensures ran { (written : List ℕ) × (K.written sink.new ≡ gained (K.written sink.old) written) × OutletRun pass.old.viewer pass.old.view pass.new.view written result }
-    ensures write_fault { result ≡ ends.WriteFault → Rose (K.faults sink.old) (K.faults sink.new) }
-    ensures later { K.faults sink.old ≤ K.faults sink.new }
+    ensures faults { CountsFault (result ≡ ends.WriteFault) (K.faults sink.old) (K.faults sink.new) }
 {
     let end = show_all(rt, alloc, pass, first, sink, bell);
     sink.finish();
@@ -48,11 +47,9 @@ fn show_all<R: Wait, K: Sink, B: Bell>(
     bell: &B,
 ) -> OutletEnd
     requires fresh { first.now ≡ texts (delivered pass.old.view.seen pass.old.viewer) }
-    ensures session { pass.new.session ≡ pass.old.session }
-    ensures viewer { pass.new.viewer ≡ pass.old.viewer }
+    ensures stays { Stays pass.old pass.new }
     ensures ran { (written : List ℕ) × (K.written sink.new ≡ gained (K.written sink.old) written) × OutletRun pass.old.viewer pass.old.view pass.new.view written result }
-    ensures write_fault { result ≡ ends.WriteFault → Rose (K.faults sink.old) (K.faults sink.new) }
-    ensures later { K.faults sink.old ≤ K.faults sink.new }
+    ensures faults { CountsFault (result ≡ ends.WriteFault) (K.faults sink.old) (K.faults sink.new) }
 {
     match write_all(sink, first.as_slice()) {
         Ok(()) => {}
@@ -101,11 +98,9 @@ fn show_next<R: Wait, K: Sink>(
     sink: &mut K,
     lag: &mut Lag,
 ) -> Result<Step, OutletEnd>
-    ensures session { pass.new.session ≡ pass.old.session }
-    ensures viewer { pass.new.viewer ≡ pass.old.viewer }
+    ensures stays { Stays pass.old pass.new }
     ensures step { (written : List ℕ) × (K.written sink.new ≡ gained (K.written sink.old) written) × StepRun pass.old.viewer pass.old.view pass.new.view written result }
-    ensures write_fault { IfFault result (Rose (K.faults sink.old) (K.faults sink.new)) }
-    ensures later { K.faults sink.old ≤ K.faults sink.new }
+    ensures faults { CountsFault (result ≡ Err ends.WriteFault) (K.faults sink.old) (K.faults sink.new) }
 {
     // So what was seen before the read is sound, and the viewer has joined.
     pass.history_is_sound();

@@ -1,16 +1,28 @@
-use Rattle.guac_handshake.proofs.Touching.{begin_answered, begin_granted, join_answered, join_granted, join_may, join_refuses, named}
+use Rattle.std.proofs.Common.{rules}
+use Rattle.guac_handshake.proofs.Touching.{begin_answered, begin_granted, begin_may, join_answered, join_granted, join_may, join_refuses, named}
 use Rattle.guac_handshake.proofs.asking.ask.Goals as goal
 
-pub returns-in-Begin-clause-sessions : goal.returns-in-Begin-clause-sessions
-returns-in-Begin-clause-sessions g c = begin_answered g.D.Door.id_of _ _ _ c.begin.ensures.sessions
+pub returns-in-Begin-clause-answers : goal.returns-in-Begin-clause-answers
+returns-in-Begin-clause-answers g c =
+    let b = c.begin.ensures.begins in
+    record {
+      kind = begin_may _ _ _ _ _ _ _ c.in-Begin.is c.begin.ensures.kind b.conflict;
+      sessions = begin_answered g.D.Door.id_of _ _ _ b.sessions;
+      out = b.out;
+      asked = search rules;
+      helper = b.helper;
+    }
 
-pub returns-in-Join-clause-sessions : goal.returns-in-Join-clause-sessions
-returns-in-Join-clause-sessions g c = join_answered g.D.Door.id_of _ _ _ _ (named _ _ _ _ c.join.ensures.welcome) c.join.ensures.ids
-
-pub returns-in-Join-clause-kind : goal.returns-in-Join-clause-kind
-returns-in-Join-clause-kind g c =
-    join_may _ _ _ _ _ _ _ _ _ c.in-Join.is c.as_str.ensures
-    (join_refuses _ _ _ _ _ c.join.ensures.kind c.join.ensures.absent c.join.ensures.ids c.join.ensures.history)
+pub returns-in-Join-clause-answers : goal.returns-in-Join-clause-answers
+returns-in-Join-clause-answers g c =
+    let j = c.join.ensures.joins in
+    record {
+      kind = join_may _ _ _ _ _ _ _ _ _ c.in-Join.is c.as_str.ensures (join_refuses _ _ _ _ _ c.join.ensures.kind j.absent j.ids j.history);
+      sessions = join_answered g.D.Door.id_of _ _ _ _ (named _ _ _ _ _ c.join.ensures.welcome) j.ids;
+      out = j.out;
+      asked = search rules;
+      helper = search rules;
+    }
 
 pub returns-in-Begin-clause-granted : goal.returns-in-Begin-clause-granted
 returns-in-Begin-clause-granted g c = begin_granted g.D.Door.id_of (g.D.Door.begun c.begin.new.self) (g.D.Door.joined c.begin.new.self) _ _ _ c.in-Begin.is c.begin.ensures.begun

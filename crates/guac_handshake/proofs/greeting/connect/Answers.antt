@@ -47,7 +47,7 @@ reading-preserved g c =
         | in-Other w ↦ (let f = said_others c.args.selected.now v c.reading.size (greeting_of v) (sym w.in-Other.is ∙ is) in read_more _ _ _ _ _ _ _ _ so _ _ h c.match-branch-2.size f.0 (w.size-is ∙ f.1))
       ];
       room = search rules;
-      later = omega (arith, c.reading.invariant.later, c.hear.ensures.later);
+      later = omega (arith, c.reading.invariant.later, c.hear.ensures.reads.1);
     }
 
 pub returns-clause-connected : goal.returns-clause-connected

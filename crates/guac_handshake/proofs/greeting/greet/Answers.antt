@@ -5,7 +5,7 @@ use Rattle.guac_handshake.proofs.greeting.greet.Goals as goal
 pub returns-clause-greeting : goal.returns-clause-greeting
 returns-clause-greeting g c = with_rest _ _ _ _ _ _ _ _ _ _ _ _ _ _ c.into_vec.ensures c.converse-greeted.ensures.greeting
 
-pub returns-clause-cause : goal.returns-clause-cause
-returns-clause-cause g c =
+pub returns-clause-refused : goal.returns-clause-refused
+returns-clause-refused g c =
     let k = c.converse-greeted.ensures in
-    caused _ _ _ _ _ _ _ _ _ _ _ _ _ _ _ _ _ k.greeting k.read_fault k.write_fault k.dial k.busy
+    caused _ _ _ _ _ _ _ _ _ _ k.greeting k.faults.dials.0 k.faults.starts.0

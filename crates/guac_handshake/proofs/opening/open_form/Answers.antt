@@ -1,4 +1,5 @@
 use Rattle.std.proofs.Common.{◌∙◌, ap, inr, List, Option}
+use Rattle.gate_outside.specs.Helpers.{HelperView}
 use Rattle.guac_handshake.specs.Doors.{logged_for}
 use Rattle.guac_handshake.specs.declared.request.Request.{Request}
 use Rattle.guac_handshake.proofs.Refusing.{may_before}
@@ -9,7 +10,7 @@ returns-clause-opened g c = (
   c.in_ok-request.request,
   c.in_ok-request.ensures.form,
   inr (
-    may_before g.D.Door.id_of _ _ _ _ _ c.is_there.ensures.sessions c.is_there.ensures.draws c.in_ok-request.request c.in-Err.refused c.in-Err.ensures.kind,
-    c.in-Err.ensures.asked ∙ ap (λ (l : Option (List Request)). logged_for l c.in_ok-request.request c.in-Err.refused) c.is_there.ensures.asked,
+    may_before g.D.Door.id_of _ _ _ _ _ c.is_there.ensures.looks.sessions (ap (λ (h : HelperView). h.draws) c.is_there.ensures.looks.helper) c.in_ok-request.request c.in-Err.refused c.in-Err.ensures.answers.kind,
+    c.in-Err.ensures.answers.asked ∙ ap (λ (l : Option (List Request)). logged_for l c.in_ok-request.request c.in-Err.refused) c.is_there.ensures.looks.asked,
   ),
 )

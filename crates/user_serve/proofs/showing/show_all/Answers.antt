@@ -12,17 +12,16 @@ returns-in-Err-clause-ran g c =
     (take part.0 text, part.2, shown_part _ _ text (take part.0 text) c.history_is_sound.ensures.sound (c.as_slice.ensures ∙ c.requires.fresh) (drop part.0 text, sym (take-append-drop part.0 text)))
 
 pub loop-init : goal.loop-init
-loop-init g c = record { session = refl; viewer = refl; so_far = (c.as_slice.result.now, c.in-Ok.ensures.ok, shown_first _ _ _ (c.as_slice.ensures ∙ c.requires.fresh)); later = c.write_all.ensures.later }
+loop-init g c = record { stays = record { session = refl; viewer = refl }; so_far = (c.as_slice.result.now, c.in-Ok.ensures.ok, shown_first _ _ _ (c.as_slice.ensures ∙ c.requires.fresh)); later = c.write_all.ensures.faults.1 }
 
 pub loop-preserved-in-Ok-Gave : goal.loop-preserved-in-Ok-Gave
 loop-preserved-in-Ok-Gave g c =
     let p = c.loop.invariant.so_far in
     let s = c.in-Ok-Gave.ensures.step in
     record {
-      session = c.show_next.ensures.session ∙ c.loop.invariant.session;
-      viewer = c.show_next.ensures.viewer ∙ c.loop.invariant.viewer;
-      so_far = (p.0 ++ s.0, s.1 ∙ (ap (λ (o : Option (List ℕ)). gained o s.0) p.1 ∙ gained-gained _ p.0 s.0), shown_more _ _ _ _ p.0 s.0 p.2 _ c.loop.invariant.viewer _ s.2);
-      later = omega (arith, c.loop.invariant.later, c.show_next.ensures.later);
+      stays = record { session = c.show_next.ensures.stays.session ∙ c.loop.invariant.stays.session; viewer = c.show_next.ensures.stays.viewer ∙ c.loop.invariant.stays.viewer };
+      so_far = (p.0 ++ s.0, s.1 ∙ (ap (λ (o : Option (List ℕ)). gained o s.0) p.1 ∙ gained-gained _ p.0 s.0), shown_more _ _ _ _ p.0 s.0 p.2 _ c.loop.invariant.stays.viewer _ s.2);
+      later = omega (arith, c.loop.invariant.later, c.show_next.ensures.faults.1);
     }
 
 pub loop-preserved : goal.loop-preserved
@@ -30,14 +29,13 @@ loop-preserved g c =
     let p = c.loop.invariant.so_far in
     let s = c.in-Ok-Waits.ensures.step in
     record {
-      session = c.show_next.ensures.session ∙ c.loop.invariant.session;
-      viewer = c.show_next.ensures.viewer ∙ c.loop.invariant.viewer;
-      so_far = (p.0 ++ s.0, s.1 ∙ (ap (λ (o : Option (List ℕ)). gained o s.0) p.1 ∙ gained-gained _ p.0 s.0), shown_more _ _ _ _ p.0 s.0 p.2 _ c.loop.invariant.viewer _ s.2);
-      later = omega (arith, c.loop.invariant.later, c.show_next.ensures.later);
+      stays = record { session = c.show_next.ensures.stays.session ∙ c.loop.invariant.stays.session; viewer = c.show_next.ensures.stays.viewer ∙ c.loop.invariant.stays.viewer };
+      so_far = (p.0 ++ s.0, s.1 ∙ (ap (λ (o : Option (List ℕ)). gained o s.0) p.1 ∙ gained-gained _ p.0 s.0), shown_more _ _ _ _ p.0 s.0 p.2 _ c.loop.invariant.stays.viewer _ s.2);
+      later = omega (arith, c.loop.invariant.later, c.show_next.ensures.faults.1);
     }
 
 pub returns-in-Err-show_next-clause-ran : goal.returns-in-Err-show_next-clause-ran
 returns-in-Err-show_next-clause-ran g c =
     let p = c.loop.invariant.so_far in
     let s = c.in-Err-show_next.ensures.step in
-    (p.0 ++ s.0, s.1 ∙ (ap (λ (o : Option (List ℕ)). gained o s.0) p.1 ∙ gained-gained _ p.0 s.0), shown_last _ _ _ _ p.0 s.0 p.2 _ c.loop.invariant.viewer c.in-Err-show_next.end s.2)
+    (p.0 ++ s.0, s.1 ∙ (ap (λ (o : Option (List ℕ)). gained o s.0) p.1 ∙ gained-gained _ p.0 s.0), shown_last _ _ _ _ p.0 s.0 p.2 _ c.loop.invariant.stays.viewer c.in-Err-show_next.end s.2)
