@@ -2,6 +2,7 @@
 use Rattle.std.proofs.Common.{◌≡◌, ◌⊎◌, inl, inr, ℕ, ◌+◌, ◌-◌, ◌<◌, List, [], ◌++◌, length, refl, ap, sym, ◌∙◌, subst, arith}
 use Rattle.std.specs.Prelude.{Option, Some, None, IfSome, is_some, Result, Ok, Err, IsOk, OnErr, is_ok, if◌then◌else◌}
 use Rattle.std.specs.Option.{option_map}
+use Rattle.gate_outside.specs.Helpers.{CountsFaults, HelperView}
 use Rattle.guac_handshake.specs.Doors.{Sessions, option_less}
 use Rattle.guac_handshake.specs.Opening.{HasOpened}
 use Rattle.guac_handshake.specs.declared.request.Request.{Request}
@@ -19,7 +20,7 @@ use Rattle.shared_desk.specs.declared.place.Place.{Place}
 use Rattle.uuid.specs.Text.{hyphenated_text, lower}
 use Rattle.uuid.proofs.TextLemmas.{by_index_length}
 use Rattle.http_tunnel.specs.Connects.{ConnectOf, IsAdded, IsId, refused_by_door, refused_form, tunnel_of}
-use Rattle.http_tunnel.specs.Tunnels.{AreHome, IsHome, less_one}
+use Rattle.http_tunnel.specs.Tunnels.{AreHome, IsHome}
 use Rattle.http_front.specs.declared.refusal.Refusal.{Refusal}
 use Rattle.http_front.specs.declared.refusal.Refusal.TheVariants.{NotFound, Form, Dial, Busy, Conflict, Forbidden, TooMany, Closed, NoMemory}
 use Rattle.http_tunnel.specs.declared.tunnel.Tunnel.{Tunnel}
@@ -37,16 +38,6 @@ added_conflict welcome r t ids drawn a b e same there next =
 
 pub added_none : (welcome : Welcome Place) (drawn : Option (ℕ → List ℕ)) (a b : Option (Shelved Tunnel)) → Told a b Same → Told a b (IsAdded IsId drawn welcome (Err NoMemory))
 added_none welcome drawn a b same = told_as Same (IsAdded IsId drawn welcome (Err NoMemory)) a b same (λ m n is p. (p, λ e. absurd (let z : NoMemory ≡ Conflict = e in cc)))
-
--- its place goes back
-place_back : (welcome : Welcome Place) (t : Tunnel) (before now : Option ℕ) → t ≡ tunnel_of welcome → now ≡ less_one (is_some t.reader) before → now ≡ option_less before
-place_back welcome t before now same out = out ∙ ap (λ (x : Tunnel). less_one (is_some x.reader) before) same
-
-pub conflict_back : (welcome : Welcome Place) (r : AddRefusal Tunnel) (v t : Tunnel) (ids : List (List ℕ)) (before now : Option ℕ) → r ≡ refusal.Conflict t ids → value_of r ≡ v → v ≡ tunnel_of welcome → now ≡ less_one (is_some t.reader) before → now ≡ option_less before
-conflict_back welcome r v t ids before now e given is out = place_back welcome t before now (sym (ap value_of e) ∙ (given ∙ is)) out
-
-pub memory_back : (welcome : Welcome Place) (r : AddRefusal Tunnel) (v t : Tunnel) (before now : Option ℕ) → r ≡ refusal.NoMemory t → value_of r ≡ v → v ≡ tunnel_of welcome → now ≡ less_one (is_some t.reader) before → now ≡ option_less before
-memory_back welcome r v t before now e given is out = place_back welcome t before now (sym (ap value_of e) ∙ (given ∙ is)) out
 
 -- ---- its ID, written into room that was taken before
 
@@ -94,6 +85,14 @@ still_refused id_of sessions sessions_new draws Gives Others before now body for
 still_refused id_of sessions sessions_new draws Gives Others before now body (form.Door refused) h = h
 
 -- ---- what the door counted
+
+-- the same counts, told by other causes
+pub counted_as : {P Q R S : Type 0} (before mid after : HelperView) → after ≡ mid → (R → P) → (S → Q) → CountsFaults P Q before mid → CountsFaults R S before after
+counted_as {P} {Q} {R} {S} before mid after same dialed started c = subst (λ (x : HelperView). CountsFaults R S before x) (sym same) record { dials = (λ r. c.dials.0 (dialed r), c.dials.1); starts = (λ s. c.starts.0 (started s), c.starts.1) }
+
+-- none rose, and none was told
+pub counted_none : {R S : Type 0} (before after : HelperView) → after ≡ before → (R → ⊥) → (S → ⊥) → CountsFaults R S before after
+counted_none {R} {S} before after same dialed started = subst (λ (x : HelperView). CountsFaults R S before x) (sym same) record { dials = (λ r. absurd (dialed r), omega arith); starts = (λ s. absurd (started s), omega arith) }
 
 dial_door : (r : Refused) → refused_by_door r ≡ Dial → r ≡ door.Dial
 dial_door door.Absent e = absurd (let z : NotFound ≡ Dial = e in cc)

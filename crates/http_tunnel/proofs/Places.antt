@@ -1,8 +1,9 @@
--- What places that go back do to the sessions of their door.
+-- What places that go back do to their door.
 use Rattle.std.proofs.Common.{◌≡◌, ◌≢◌, inl, inr, ℕ, List, Bool, true, false, refl, ap, sym, ◌∙◌, subst}
 use Rattle.std.specs.Prelude.{Option, Some, None, IfSome, IsSome, is_some, Ok, Err}
 use Rattle.guac_handshake.specs.Doors.{KeepsIds, SameId, Sessions, TouchesOne}
 use Rattle.guac_handshake.specs.Opening.{HasMoved}
+use Rattle.guac_handshake.specs.Views.{DoorView, Gives}
 use Rattle.guac_handshake.specs.declared.form_refusal.FormRefusal.{FormRefusal}
 use Rattle.guac_handshake.specs.declared.welcome.Welcome.{Welcome}
 use Rattle.guac_handshake.proofs.Touching.{moved_none as unasked}
@@ -52,24 +53,24 @@ module _ (id_of : List ℕ → Option (List ℕ)) where
 
   -- ---- a place
 
-  pub given_as : (P Q : List ℕ → Type 0) (back : Bool) (o p : Option Sessions) → ((name : List ℕ) → P name → Q name) → HasGiven id_of P back o p → HasGiven id_of Q back o p
+  pub given_as : (P Q : List ℕ → Type 0) (back : Bool) (o p : DoorView) → ((name : List ℕ) → P name → Q name) → HasGiven id_of P back o p → HasGiven id_of Q back o p
   given_as P Q false o p f g = g
   given_as P Q true o p f g = (g.0, f g.0 g.1, g.2)
 
-  pub given_some : (P : List ℕ → Type 0) (r : Option ViewerState) (x : ViewerState) (name : List ℕ) (o p : Option Sessions) → r ≡ Some x → P name → Told o p (KeepsIds (id_of name)) → HasGiven id_of P (is_some r) o p
-  given_some P r x name o p is so kept = subst (λ (y : Option ViewerState). HasGiven id_of P (is_some y) o p) (sym is) (name, so, kept)
+  pub given_some : (P : List ℕ → Type 0) (r : Option ViewerState) (x : ViewerState) (name : List ℕ) (o p : DoorView) → r ≡ Some x → P name → Gives (id_of name) o p → HasGiven id_of P (is_some r) o p
+  given_some P r x name o p is so gives = subst (λ (y : Option ViewerState). HasGiven id_of P (is_some y) o p) (sym is) (name, so, gives)
 
-  pub given_none : (P : List ℕ → Type 0) (r : Option ViewerState) (o : Option Sessions) → r ≡ None → HasGiven id_of P (is_some r) o o
+  pub given_none : (P : List ℕ → Type 0) (r : Option ViewerState) (o : DoorView) → r ≡ None → HasGiven id_of P (is_some r) o o
   given_none P r o is = subst (λ (y : Option ViewerState). HasGiven id_of P (is_some y) o o) (sym is) refl
 
   -- .. of a tunnel that wasn't added
-  unplaced : (welcome : Welcome Place) (t : Tunnel) (o p : Option Sessions) → t ≡ tunnel_of welcome → HasGiven id_of (λ name. name ≡ t.id) (is_some t.reader) o p → Told o p (KeepsIds (id_of welcome.id))
-  unplaced welcome t o p is given = let g = subst (λ (x : Tunnel). HasGiven id_of (λ name. name ≡ x.id) (is_some x.reader) o p) is given in subst (λ (name : List ℕ). Told o p (KeepsIds (id_of name))) g.1 g.2
+  unplaced : (welcome : Welcome Place) (t : Tunnel) (o p : DoorView) → t ≡ tunnel_of welcome → HasGiven id_of (λ name. name ≡ t.id) (is_some t.reader) o p → Gives (id_of welcome.id) o p
+  unplaced welcome t o p is given = let g = subst (λ (x : Tunnel). HasGiven id_of (λ name. name ≡ x.id) (is_some x.reader) o p) is given in subst (λ (name : List ℕ). Gives (id_of name) o p) g.1 g.2
 
-  pub conflict_given : (welcome : Welcome Place) (r : AddRefusal Tunnel) (v t : Tunnel) (ids : List (List ℕ)) (o p : Option Sessions) → r ≡ refusal.Conflict t ids → value_of r ≡ v → v ≡ tunnel_of welcome → HasGiven id_of (λ name. name ≡ t.id) (is_some t.reader) o p → Told o p (KeepsIds (id_of welcome.id))
+  pub conflict_given : (welcome : Welcome Place) (r : AddRefusal Tunnel) (v t : Tunnel) (ids : List (List ℕ)) (o p : DoorView) → r ≡ refusal.Conflict t ids → value_of r ≡ v → v ≡ tunnel_of welcome → HasGiven id_of (λ name. name ≡ t.id) (is_some t.reader) o p → Gives (id_of welcome.id) o p
   conflict_given welcome r v t ids o p e given is g = unplaced welcome t o p (sym (ap value_of e) ∙ (given ∙ is)) g
 
-  pub memory_given : (welcome : Welcome Place) (r : AddRefusal Tunnel) (v t : Tunnel) (o p : Option Sessions) → r ≡ refusal.NoMemory t → value_of r ≡ v → v ≡ tunnel_of welcome → HasGiven id_of (λ name. name ≡ t.id) (is_some t.reader) o p → Told o p (KeepsIds (id_of welcome.id))
+  pub memory_given : (welcome : Welcome Place) (r : AddRefusal Tunnel) (v t : Tunnel) (o p : DoorView) → r ≡ refusal.NoMemory t → value_of r ≡ v → v ≡ tunnel_of welcome → HasGiven id_of (λ name. name ≡ t.id) (is_some t.reader) o p → Gives (id_of welcome.id) o p
   memory_given welcome r v t o p e given is g = unplaced welcome t o p (sym (ap value_of e) ∙ (given ∙ is)) g
 
 -- ---- whose it is

@@ -1,15 +1,16 @@
 -- What the kinds of request come to.
-use Rattle.std.proofs.Common.{◌≡◌, inl, inr, ℕ, List, ◌++◌, Bool, refl, ap, sym, ◌∙◌, subst, arith}
+use Rattle.std.proofs.Common.{◌≡◌, inl, inr, ℕ, List, ◌++◌, Bool, true, false, refl, ap, sym, ◌∙◌, subst, arith}
 use Rattle.std.specs.Prelude.{Option, Result, Ok, Err, IfErr}
 use Rattle.gate_model.specs.declared.entry.Entry.{Entry}
 use Rattle.gate_model.specs.session.History.{History}
 use Rattle.turn_lock.specs.declared.view.View.{View}
 use Rattle.http_front.specs.declared.response.Response.{Response}
-use Rattle.guac_handshake.specs.Doors.{Sessions}
+use Rattle.guac_handshake.specs.Views.{DoorView}
 use Rattle.guac_handshake.specs.declared.request.Request.{Request}
 use Rattle.guac_handshake.specs.declared.welcome.Welcome.{Welcome}
 use Rattle.shared_desk.specs.declared.place.Place.{Place}
 use Rattle.id_table.specs.Maps.{Shelved}
+use Rattle.http_tunnel.specs.Places.{HasGiven}
 use Rattle.http_tunnel.specs.Requests.{IsTunnelRefusal, Serves, without_body}
 use Rattle.http_tunnel.specs.Reads.{mark_of}
 use Rattle.http_tunnel.specs.Routes.{IsAsked}
@@ -127,7 +128,12 @@ pub busy_answered : (answered : Result (List ℕ) Refusal) (response : Response)
 busy_answered (Ok body) response r e = absurd (let z : 200 ≡ 503 = sym r.0 ∙ e in omega (arith, z))
 busy_answered (Err refusal) response r e = ap Err (status_busy refusal (sym r.0 ∙ e))
 
+-- a place that went back is no fault of a helper
+pub given_helper : (id_of : List ℕ → Option (List ℕ)) (P : List ℕ → Type 0) (back : Bool) (before after : DoorView) → HasGiven id_of P back before after → after.helper ≡ before.helper
+given_helper id_of P false before after g = ap DoorView.helper g
+given_helper id_of P true before after g = g.2.helper
+
 -- what was done for the same request
-pub served_as : (id_of : List ℕ → Option (List ℕ)) (s s1 : Option Sessions) (draws : Option (ℕ → List ℕ)) (gives : Request → Welcome Place → Type 0) (asked asked1 : Option (List Request)) (out out1 : Option ℕ) (drawn : Option (ℕ → List ℕ)) (told told1 : Option (Shelved Tunnel)) (body : List ℕ) (answered : Result (List ℕ) Refusal) (r q : Route) → r ≡ q
-    → Serves id_of s s1 draws gives asked asked1 out out1 drawn told told1 body answered q → Serves id_of s s1 draws gives asked asked1 out out1 drawn told told1 body answered r
-served_as id_of s s1 draws gives asked asked1 out out1 drawn told told1 body answered r q same k = subst (λ (x : Route). Serves id_of s s1 draws gives asked asked1 out out1 drawn told told1 body answered x) (sym same) k
+pub served_as : (id_of : List ℕ → Option (List ℕ)) (gives : Request → Welcome Place → Type 0) (before after : DoorView) (drawn : Option (ℕ → List ℕ)) (told told1 : Option (Shelved Tunnel)) (body : List ℕ) (answered : Result (List ℕ) Refusal) (r q : Route) → r ≡ q → Serves id_of gives before after drawn told told1 body answered q
+    → Serves id_of gives before after drawn told told1 body answered r
+served_as id_of gives before after drawn told told1 body answered r q same k = subst (λ (x : Route). Serves id_of gives before after drawn told told1 body answered x) (sym same) k

@@ -11,7 +11,7 @@ use Rattle.gate_model.specs.session.Rights.{is_live}
 use Rattle.gate_model.specs.session.Waiting.{waiting}
 use Rattle.gate_model.specs.Limits.{most_waiting}
 use Rattle.id_table.specs.Maps.{Changed, IsLent, Same, Shelved, Told, had}
-use Rattle.shared_desk.specs.Members.{ViewerState}
+use Rattle.shared_desk.specs.Members.{Stays, ViewerState}
 use Rattle.http_tunnel.specs.Reads.{HasRead, TunnelCause, mark_of}
 use Rattle.http_tunnel.specs.Tunnels.{AreHome, GivesReader, HasBegun, HasEnded, HasEndedOf, HasTaken, HasTakenFrom, IsAnswered, IsHome, IsReadOf, ReadOf, RefusedCause, answer_with, is_end, kept_with, with_reader, without_reader}
 use Rattle.http_tunnel.specs.declared.read.Left.{Left}
@@ -172,9 +172,9 @@ kept_both P a c t = (first_told P a c t, home_told P a c t)
 -- ---- the whole read
 
 module _ (id : List ℕ) (lent : Lent) (now : ViewerState) (left : Left) (text : List ℕ) (end : Result TunnelEnd TunnelRefusal) (result : Result (List ℕ) Refusal) where
-  read_to : (back : Bool) (m k n : Shelved Tunnel) → ((i : List ℕ) → IsHome (m i)) → HasBegun id m k (Some lent) → HasEnded id now left back k n → now.session ≡ lent.reader.session → now.viewer ≡ lent.reader.viewer → HasRead lent.reader.viewer lent.reader.view now.view text end → IsAnswered lent.kept text end result left
+  read_to : (back : Bool) (m k n : Shelved Tunnel) → ((i : List ℕ) → IsHome (m i)) → HasBegun id m k (Some lent) → HasEnded id now left back k n → Stays lent.reader now → HasRead lent.reader.viewer lent.reader.view now.view text end → IsAnswered lent.kept text end result left
       → IsReadOf id back result m n × ((i : List ℕ) → IsHome (n i))
-  read_to back m k n home b e session viewer did answer =
+  read_to back m k n home b e same_pass did answer =
       let t = b.0 in
       let k_id : k id ≡ Some (Some (without_reader t)) = b.4.0 in
       let done = e (without_reader t) k_id in
@@ -189,8 +189,7 @@ module _ (id : List ℕ) (lent : Lent) (now : ViewerState) (left : Left) (text :
           reader = lent.reader;
           had = b.2;
           now = now;
-          session = session;
-          viewer = viewer;
+          stays = same_pass;
           text = text;
           end = end;
           read = did;
@@ -210,10 +209,10 @@ module _ (id : List ℕ) (lent : Lent) (now : ViewerState) (left : Left) (text :
       stays_home true g = tt
       stays_home false g = (refl, g)
 
-  pub read_done : (back : Bool) (a b c : Option (Shelved Tunnel)) → AreHome a → Told a b (λ m n. HasBegun id m n (Some lent)) → Told b c (HasEnded id now left back) → now.session ≡ lent.reader.session → now.viewer ≡ lent.reader.viewer → HasRead lent.reader.viewer lent.reader.view now.view text end → IsAnswered lent.kept text end result left
+  pub read_done : (back : Bool) (a b c : Option (Shelved Tunnel)) → AreHome a → Told a b (λ m n. HasBegun id m n (Some lent)) → Told b c (HasEnded id now left back) → Stays lent.reader now → HasRead lent.reader.viewer lent.reader.view now.view text end → IsAnswered lent.kept text end result left
       → Told a c (ReadOf id back result) × AreHome c
-  read_done back a b c home begin ends session viewer did answer = kept_both (ReadOf id back result) a c (told_on (λ m n. HasBegun id m n (Some lent)) (HasEnded id now left back) (λ m n. ReadOf id back result m n × ((i : List ℕ) → IsHome (n i))) a b c begin ends
-      (λ m k n is p q. let r = read_to back m k n (subst AreHome is home) p q session viewer did answer in (inr r.0, r.1)))
+  read_done back a b c home begin ends same_pass did answer = kept_both (ReadOf id back result) a c (told_on (λ m n. HasBegun id m n (Some lent)) (HasEnded id now left back) (λ m n. ReadOf id back result m n × ((i : List ℕ) → IsHome (n i))) a b c begin ends
+      (λ m k n is p q. let r = read_to back m k n (subst AreHome is home) p q same_pass did answer in (inr r.0, r.1)))
 
 pub read_absent : (id : List ℕ) (a b : Option (Shelved Tunnel)) → AreHome a → Told a b (λ m n. HasBegun id m n None) → Told a b (ReadOf id false (Err NotFound)) × AreHome b
 read_absent id a b home t = kept_both (ReadOf id false (Err NotFound)) a b (told_with (λ m n. HasBegun id m n None) (λ m n. ReadOf id false (Err NotFound) m n × ((i : List ℕ) → IsHome (n i))) (λ m. (i : List ℕ) → IsHome (m i)) a b t home (λ m n h p. (inl (p.0, refl, refl, p.1), all_same IsHome m n h p.1)))

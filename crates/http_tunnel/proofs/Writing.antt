@@ -13,7 +13,7 @@ use Rattle.gate_model.specs.session.History.{History}
 use Rattle.id_table.specs.Maps.{Changed, Shelved, Told, had}
 use Rattle.turn_lock.specs.declared.view.View.{View}
 use Rattle.shared_desk.specs.Called.{Called}
-use Rattle.shared_desk.specs.Members.{ViewerState}
+use Rattle.shared_desk.specs.Members.{Stays, ViewerState}
 use Rattle.shared_desk.specs.Own.{own_entries}
 use Rattle.shared_desk.proofs.Lasting.{leave_gone}
 use Rattle.viewer_acts.specs.Parts.{parts_of}
@@ -113,10 +113,10 @@ module _ (id : List ℕ) (t : Tunnel) where
   lent_home (Some m) (Some n) h lend = (subst IsHome lend.0 (h id)).0
 
   module _ (now : ViewerState) (body : List ℕ) (done : Result Bool Refusal) (ended back : Bool) where
-    written_to : (m n : Shelved Tunnel) → ((i : List ℕ) → IsHome (m i)) → m id ≡ Some (Some t) → back ≡ ended → ended ≡ is_ended done → Changed id (if back then None else Some (Some (record t { writer = now }))) m n → now.session ≡ t.writer.session → now.viewer ≡ t.writer.viewer → WritesBody t.writer.viewer t.writer.view now.view body done
+    written_to : (m n : Shelved Tunnel) → ((i : List ℕ) → IsHome (m i)) → m id ≡ Some (Some t) → back ≡ ended → ended ≡ is_ended done → Changed id (if back then None else Some (Some (record t { writer = now }))) m n → Stays t.writer now → WritesBody t.writer.viewer t.writer.view now.view body done
         → (result : Result (Unit {0}) Refusal) → result ≡ without_value done → WriteOf id body back result m n × ((i : List ℕ) → IsHome (n i))
-    written_to m n home there goes ends changed session viewer wrote result is = (
-      inr record { tunnel = t; there = there; now = now; session = session; viewer = viewer; done = done; wrote = wrote; answered = is; removed = goes ∙ ends; left = changed },
+    written_to m n home there goes ends changed same_pass wrote result is = (
+      inr record { tunnel = t; there = there; now = now; stays = same_pass; done = done; wrote = wrote; answered = is; removed = goes ∙ ends; left = changed },
       all_changed IsHome id (if back then None else Some (Some (record t { writer = now }))) m n home (stays back (subst IsHome there (home id))) changed,
     )
       where
@@ -124,10 +124,10 @@ module _ (id : List ℕ) (t : Tunnel) where
         stays true h = tt
         stays false h = h
 
-    pub write_done : (result : Result (Unit {0}) Refusal) (a b c : Option (Shelved Tunnel)) → AreHome a → Told a b (Lends id (Some t)) → Told b c (HasPut id (record t { writer = now }) ended back) → ended ≡ is_ended done → now.session ≡ t.writer.session → now.viewer ≡ t.writer.viewer → WritesBody t.writer.viewer t.writer.view now.view body done → result ≡ without_value done
+    pub write_done : (result : Result (Unit {0}) Refusal) (a b c : Option (Shelved Tunnel)) → AreHome a → Told a b (Lends id (Some t)) → Told b c (HasPut id (record t { writer = now }) ended back) → ended ≡ is_ended done → Stays t.writer now → WritesBody t.writer.viewer t.writer.view now.view body done → result ≡ without_value done
         → Told a c (WriteOf id body back result) × AreHome c
-    write_done result a b c home lend put ends session viewer wrote is = kept_both (WriteOf id body back result) a c (told_on (Lends id (Some t)) (HasPut id (record t { writer = now }) ended back) (λ m n. WriteOf id body back result m n × ((i : List ℕ) → IsHome (n i))) a b c lend put
-        (λ m k n was p q. written_to m n (subst AreHome was home) p.0 q.0 ends (changed_twice id (Some None) (if back then None else Some (Some (record t { writer = now }))) m k n p.1 q.1) session viewer wrote result is))
+    write_done result a b c home lend put ends same_pass wrote is = kept_both (WriteOf id body back result) a c (told_on (Lends id (Some t)) (HasPut id (record t { writer = now }) ended back) (λ m n. WriteOf id body back result m n × ((i : List ℕ) → IsHome (n i))) a b c lend put
+        (λ m k n was p q. written_to m n (subst AreHome was home) p.0 q.0 ends (changed_twice id (Some None) (if back then None else Some (Some (record t { writer = now }))) m k n p.1 q.1) same_pass wrote result is))
 
 pub write_absent : (id body : List ℕ) (a b : Option (Shelved Tunnel)) → AreHome a → Told a b (Lends id None) → Told a b (WriteOf id body false (Err NotFound)) × AreHome b
 write_absent id body a b home lend = kept_both (WriteOf id body false (Err NotFound)) a b (told_with (Lends id None) (λ m n. WriteOf id body false (Err NotFound) m n × ((i : List ℕ) → IsHome (n i))) (λ m. (i : List ℕ) → IsHome (m i)) a b lend home

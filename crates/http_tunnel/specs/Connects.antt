@@ -1,14 +1,16 @@
 -- What a request for a tunnel does (this project's own).
-use Rattle.std.specs.Prelude.{◌≡◌, ◌⊎◌, ℕ, ◌+◌, false, List, Option, Some, None, IfSome, Result, Ok, Err}
+use Rattle.std.specs.Prelude.{◌≡◌, ◌⊎◌, ℕ, ◌+◌, false, List, Option, Some, None, IfSome, Result, Ok, Err, OnOk}
 use Rattle.std.specs.Option.{option_map}
-use Rattle.guac_handshake.specs.Doors.{option_less}
+use Rattle.guac_handshake.specs.Opening.{HasMoved, HasOpened}
+use Rattle.guac_handshake.specs.Views.{DoorView}
 use Rattle.guac_handshake.specs.declared.form_refusal.FormRefusal.{FormRefusal}
 use Rattle.guac_handshake.specs.declared.form_refusal.FormRefusal.TheVariants as form
 use Rattle.guac_handshake.specs.declared.refused.Refused.{Refused}
 use Rattle.guac_handshake.specs.declared.refused.Refused.TheVariants as door
+use Rattle.guac_handshake.specs.declared.request.Request.{Request}
 use Rattle.guac_handshake.specs.declared.welcome.Welcome.{Welcome}
 use Rattle.id_table.specs.Draws.{AreNext, AreThere, IsFirstAbsent}
-use Rattle.id_table.specs.Maps.{Changed, Same, Shelved}
+use Rattle.id_table.specs.Maps.{Changed, Same, Shelved, Told}
 use Rattle.shared_desk.specs.Hosts.{IsFresh}
 use Rattle.shared_desk.specs.declared.place.Place.{Place}
 use Rattle.uuid.specs.Text.{hyphenated_text, lower}
@@ -68,6 +70,12 @@ abbrev pub out_after : {A : Type 0} → Result A Refusal → Option ℕ → Opti
 out_after (Ok text) out = option_map (λ n. n + 1) out
 out_after (Err refused) out = out
 
-abbrev pub out_added : {A : Type 0} → Result A Refusal → Option ℕ → Option ℕ
-out_added (Ok text) out = out
-out_added (Err refused) out = option_less out
+-- the door was asked what the body asks, and the tunnel of its welcome was added, or its place went back. What it says of
+-- itself where it gave a place is said where an ID is answered
+pub record OpensTunnel (id_of : List ℕ → Option (List ℕ)) (gives : Request → Welcome Place → Type 0) (before after : DoorView) (drawn : Option (ℕ → List ℕ)) (told told_new : Option (Shelved Tunnel)) (body : List ℕ) (answered : Result (List ℕ) Refusal) : Type 0 where
+  pub opened : Result (Welcome Place) FormRefusal
+  pub asked : HasOpened id_of before.sessions after.sessions before.helper.draws (λ request welcome. OnOk answered (gives request welcome)) before.asked after.asked body opened
+  pub answers : AnswersOpened opened answered
+  pub sessions : Told before.sessions after.sessions (HasMoved id_of opened)
+  pub out : after.out ≡ out_after answered before.out
+  pub tunnels : Told told told_new (ConnectOf drawn opened answered)

@@ -1,14 +1,13 @@
--- What a place that goes back does to the sessions of its door, where the door tells them (this project's own).
+-- What a place that goes back does to its door (this project's own).
 use Rattle.std.specs.Prelude.{◌≡◌, Bool, true, false, ℕ, List, Option, Some, IfSome}
-use Rattle.guac_handshake.specs.Doors.{KeepsIds, Sessions}
-use Rattle.id_table.specs.Maps.{Shelved, Told}
+use Rattle.guac_handshake.specs.Views.{DoorView, Gives}
+use Rattle.id_table.specs.Maps.{Shelved}
 use Rattle.http_tunnel.specs.declared.tunnel.Tunnel.{Tunnel}
 
--- a place went back under a session's ID that is so, and that session's history alone may be another then; or none did,
--- and the sessions are as they were
-abbrev pub HasGiven : (List ℕ → Option (List ℕ)) → (List ℕ → Type 0) → Bool → Option Sessions → Option Sessions → Type 0
-HasGiven id_of IsSo false before now = now ≡ before
-HasGiven id_of IsSo true before now = (name : List ℕ) × IsSo name × Told before now (KeepsIds (id_of name))
+-- a place went back under a session's ID that is so; or none did, and the door is as it was
+abbrev pub HasGiven : (List ℕ → Option (List ℕ)) → (List ℕ → Type 0) → Bool → DoorView → DoorView → Type 0
+HasGiven id_of IsSo false before after = after ≡ before
+HasGiven id_of IsSo true before after = (name : List ℕ) × IsSo name × Gives (id_of name) before after
 
 -- it is that of the session of the tunnel under this ID
 abbrev pub IsOfTunnel : List ℕ → Option (Shelved Tunnel) → List ℕ → Type 0

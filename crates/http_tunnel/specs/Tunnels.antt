@@ -2,9 +2,8 @@
 use Rattle.std.specs.Prelude.{◌≡◌, ◌⊎◌, ℕ, Bool, true, false, ◌||◌, if◌then◌else◌, List, [], ◌++◌, Option, Some, None, IfSome, is_some, Result, Ok, Err}
 use Rattle.gate_model.specs.session.History.{History, is_full}
 use Rattle.gate_model.specs.session.Rights.{is_live}
-use Rattle.guac_handshake.specs.Doors.{option_less}
 use Rattle.id_table.specs.Maps.{Changed, Same, Shelved}
-use Rattle.shared_desk.specs.Members.{ViewerState}
+use Rattle.shared_desk.specs.Members.{Stays, ViewerState}
 use Rattle.http_tunnel.specs.Reads.{HasRead, mark_of}
 use Rattle.http_tunnel.specs.declared.read.Left.{Left}
 use Rattle.http_tunnel.specs.declared.read.Lent.{Lent}
@@ -26,10 +25,6 @@ IsHome (Some (Some t)) = (is_some t.reader ≡ true) × (t.gone ≡ false)
 
 abbrev pub AreHome : Option (Shelved Tunnel) → Type 0
 AreHome told = IfSome told (λ m. (id : List ℕ) → IsHome (m id))
-
--- the places that are out, once one went back
-abbrev pub less_one : Bool → Option ℕ → Option ℕ
-less_one back out = if back then option_less out else out
 
 -- ---- a read
 
@@ -118,8 +113,7 @@ pub record IsReadOf (id : List ℕ) (back : Bool) (result : Result (List ℕ) Re
   pub reader : ViewerState
   pub had : tunnel.reader ≡ Some reader
   pub now : ViewerState
-  pub session : now.session ≡ reader.session
-  pub viewer : now.viewer ≡ reader.viewer
+  pub stays : Stays reader now
   pub text : List ℕ
   pub end : Result TunnelEnd TunnelRefusal
   pub read : HasRead reader.viewer reader.view now.view text end

@@ -8,7 +8,7 @@ use Rattle.gate_model.specs.session.History.{History, is_closed, is_full}
 use Rattle.gate_model.specs.session.Rights.{is_live}
 use Rattle.id_table.specs.Maps.{Changed, Same, Shelved}
 use Rattle.turn_lock.specs.declared.view.View.{View}
-use Rattle.shared_desk.specs.Members.{ViewerState}
+use Rattle.shared_desk.specs.Members.{Stays, ViewerState}
 use Rattle.shared_desk.specs.Own.{own_entries}
 use Rattle.viewer_acts.specs.Parts.{Part, parts_of}
 use Rattle.viewer_acts.specs.Doing.{GoesOn, HasDone, WritesParts}
@@ -97,8 +97,7 @@ pub record IsWriteOf (id body : List ℕ) (back : Bool) (result : Result (Unit {
   pub tunnel : Tunnel
   pub there : m id ≡ Some (Some tunnel)
   pub now : ViewerState
-  pub session : now.session ≡ tunnel.writer.session
-  pub viewer : now.viewer ≡ tunnel.writer.viewer
+  pub stays : Stays tunnel.writer now
   pub done : Result Bool Refusal
   pub wrote : WritesBody tunnel.writer.viewer tunnel.writer.view now.view body done
   pub answered : result ≡ without_value done

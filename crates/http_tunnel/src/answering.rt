@@ -1,7 +1,7 @@
 //! One request, answered.
 
-ghost use Rattle.std.specs.Prelude.{◌≡◌, ◌≤◌, ℕ, List, Err, Result};
-ghost use Rattle.gate_outside.specs.Edge.{Rose};
+ghost use Rattle.std.specs.Prelude.{◌≡◌, ℕ, List, Err, Result};
+ghost use Rattle.gate_outside.specs.Helpers.{CountsFaults};
 ghost use Rattle.guac_handshake.specs.Doors.{Grants};
 ghost use Rattle.http_front.specs.Refusals.{IsResponse};
 ghost use Rattle.http_tunnel.specs.Requests.{Serves, without_body};
@@ -54,11 +54,8 @@ where
     requires home { AreHome (T.told tunnels.old) }
     requires route { IsAsked route }
     ensures home { AreHome (T.told tunnels.new) }
-    ensures served { Serves D.id_of (D.sessions door.old) (D.sessions door.new) (D.draws door.old) (Grants D.id_of (D.begun door.new) (D.joined door.new)) (D.asked door.old) (D.asked door.new) (D.out door.old) (D.out door.new) (X.draws dice.old) (T.told tunnels.old) (T.told tunnels.new) body.now result route }
-    ensures dial { result ≡ Err Dial → Rose (D.dial_faults door.old) (D.dial_faults door.new) }
-    ensures busy { result ≡ Err Busy → Rose (D.start_faults door.old) (D.start_faults door.new) }
-    ensures later_dials { D.dial_faults door.old ≤ D.dial_faults door.new }
-    ensures later_starts { D.start_faults door.old ≤ D.start_faults door.new }
+    ensures served { Serves D.id_of (Grants D.id_of (D.begun door.new) (D.joined door.new)) (D.view door.old) (D.view door.new) (X.helper dice.old).draws (T.told tunnels.old) (T.told tunnels.new) body.now result route }
+    ensures faults { CountsFaults (result ≡ Err Dial) (result ≡ Err Busy) (D.view door.old).helper (D.view door.new).helper }
 {
     match route {
         Route::Connect => connect(rt, alloc, tunnels, body, door, dice),
@@ -92,11 +89,8 @@ where
     X: Dice,
     requires { AreHome (T.told tunnels.old) }
     ensures home { AreHome (T.told tunnels.new) }
-    ensures answered { (answered : Result (List ℕ) Refusal) × IsResponse answered result × Serves D.id_of (D.sessions door.old) (D.sessions door.new) (D.draws door.old) (Grants D.id_of (D.begun door.new) (D.joined door.new)) (D.asked door.old) (D.asked door.new) (D.out door.old) (D.out door.new) (X.draws dice.old) (T.told tunnels.old) (T.told tunnels.new) request.now.body.now answered (route_of request.now.method request.now.target.now) }
-    ensures dial { result.status ≡ 502 → Rose (D.dial_faults door.old) (D.dial_faults door.new) }
-    ensures busy { result.status ≡ 503 → Rose (D.start_faults door.old) (D.start_faults door.new) }
-    ensures later_dials { D.dial_faults door.old ≤ D.dial_faults door.new }
-    ensures later_starts { D.start_faults door.old ≤ D.start_faults door.new }
+    ensures answered { (answered : Result (List ℕ) Refusal) × IsResponse answered result × Serves D.id_of (Grants D.id_of (D.begun door.new) (D.joined door.new)) (D.view door.old) (D.view door.new) (X.helper dice.old).draws (T.told tunnels.old) (T.told tunnels.new) request.now.body.now answered (route_of request.now.method request.now.target.now) }
+    ensures faults { CountsFaults (result.status ≡ 502) (result.status ≡ 503) (D.view door.old).helper (D.view door.new).helper }
 {
     let route = find_route(
         request.method.as_str().as_bytes(),

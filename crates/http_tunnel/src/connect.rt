@@ -1,14 +1,11 @@
 //! A request for a tunnel.
 
-ghost use Rattle.std.specs.Prelude.{◌≡◌, ◌≤◌, ◌⊎◌, IfErr, IfOk, OnOk, Err, Result};
-ghost use Rattle.gate_outside.specs.Edge.{Rose};
-ghost use Rattle.guac_handshake.specs.Doors.{Grants, KeepsIds};
-ghost use Rattle.guac_handshake.specs.Opening.{HasMoved, HasOpened};
-ghost use Rattle.guac_handshake.specs.declared.form_refusal.FormRefusal.{FormRefusal};
-ghost use Rattle.guac_handshake.specs.declared.welcome.Welcome.{Welcome};
+ghost use Rattle.std.specs.Prelude.{◌≡◌, ◌⊎◌, IfErr, OnErr, OnOk, Err};
+ghost use Rattle.gate_outside.specs.Helpers.{CountsFaults};
+ghost use Rattle.guac_handshake.specs.Doors.{Grants};
+ghost use Rattle.guac_handshake.specs.Views.{Gives};
 ghost use Rattle.id_table.specs.Maps.{Told};
-ghost use Rattle.shared_desk.specs.declared.place.Place.{Place};
-ghost use Rattle.http_tunnel.specs.Connects.{AnswersOpened, ConnectOf, IsAdded, IsId, out_added, out_after, refused_by_door, refused_form};
+ghost use Rattle.http_tunnel.specs.Connects.{IsAdded, IsId, OpensTunnel, refused_by_door, refused_form};
 ghost use Rattle.http_tunnel.specs.Tunnels.{AreHome};
 ghost use Rattle.http_front.specs.declared.refusal.Refusal.TheVariants.{Busy, Conflict, Dial, NoMemory};
 
@@ -61,14 +58,10 @@ fn add_tunnel<R: Wait, T: Shelf<Tunnel>, D: Door<Place = Place>, X: Dice>(
     dice: &mut X,
     welcome: Welcome<Place>,
 ) -> Result<Uuid, Refusal>
-    ensures added { Told (T.told tunnels.old) (T.told tunnels.new) (IsAdded IsId (X.draws dice.old) welcome result) }
+    ensures added { Told (T.told tunnels.old) (T.told tunnels.new) (IsAdded IsId (X.helper dice.old).draws welcome result) }
     ensures kind { IfErr result (λ refused. (refused ≡ Conflict) ⊎ (refused ≡ NoMemory)) }
     ensures same { OnOk result (door.new ≡ door.old) }
-    ensures out { D.out door.new ≡ out_added result (D.out door.old) }
-    ensures sessions { Told (D.sessions door.old) (D.sessions door.new) (KeepsIds (D.id_of welcome.id)) }
-    ensures asked { D.asked door.new ≡ D.asked door.old }
-    ensures dials { D.dial_faults door.new ≡ D.dial_faults door.old }
-    ensures starts { D.start_faults door.new ≡ D.start_faults door.old }
+    ensures gives { OnErr result (Gives (D.id_of welcome.id) (D.view door.old) (D.view door.new)) }
 {
     match tunnels.add(rt, dice, Tunnel::of(welcome)) {
         Ok(id) => Ok(id),
@@ -99,12 +92,8 @@ where
     X: Dice,
     requires { AreHome (T.told tunnels.old) }
     ensures home { AreHome (T.told tunnels.new) }
-    ensures connected { (opened : Result (Welcome Place) FormRefusal) × HasOpened D.id_of (D.sessions door.old) (D.sessions door.new) (D.draws door.old) (λ request welcome. OnOk result (Grants D.id_of (D.begun door.new) (D.joined door.new) request welcome)) (D.asked door.old) (D.asked door.new) body.now opened × AnswersOpened opened result × Told (D.sessions door.old) (D.sessions door.new) (HasMoved D.id_of opened) × Told (T.told tunnels.old) (T.told tunnels.new) (ConnectOf (X.draws dice.old) opened result) }
-    ensures out { D.out door.new ≡ out_after result (D.out door.old) }
-    ensures dial { result ≡ Err Dial → Rose (D.dial_faults door.old) (D.dial_faults door.new) }
-    ensures busy { result ≡ Err Busy → Rose (D.start_faults door.old) (D.start_faults door.new) }
-    ensures later_dials { D.dial_faults door.old ≤ D.dial_faults door.new }
-    ensures later_starts { D.start_faults door.old ≤ D.start_faults door.new }
+    ensures connected { OpensTunnel D.id_of (Grants D.id_of (D.begun door.new) (D.joined door.new)) (D.view door.old) (D.view door.new) (X.helper dice.old).draws (T.told tunnels.old) (T.told tunnels.new) body.now result }
+    ensures faults { CountsFaults (result ≡ Err Dial) (result ≡ Err Busy) (D.view door.old).helper (D.view door.new).helper }
 {
     let Ok(mut answer) = Vec::with_capacity(alloc, ID_BYTES) else {
         return Err(Refusal::NoMemory);

@@ -1,10 +1,8 @@
 //! Places that go back to the door.
 
 ghost use Rattle.std.specs.Prelude.{◌≡◌, is_some};
-ghost use Rattle.guac_handshake.specs.Doors.{KeepsIds, option_less};
-ghost use Rattle.id_table.specs.Maps.{Told};
+ghost use Rattle.guac_handshake.specs.Views.{Gives};
 ghost use Rattle.http_tunnel.specs.Places.{HasGiven};
-ghost use Rattle.http_tunnel.specs.Tunnels.{less_one};
 
 use crate::tunnel::Tunnel;
 use guac_handshake::Door;
@@ -18,11 +16,7 @@ pub(crate) fn give<R: Wait, D: Door<Place = Place>>(
     tunnel: Tunnel,
     reader: ReaderPass,
 )
-    ensures out { D.out door.new ≡ option_less (D.out door.old) }
-    ensures sessions { Told (D.sessions door.old) (D.sessions door.new) (KeepsIds (D.id_of tunnel.id)) }
-    ensures asked { D.asked door.new ≡ D.asked door.old }
-    ensures dials { D.dial_faults door.new ≡ D.dial_faults door.old }
-    ensures starts { D.start_faults door.new ≡ D.start_faults door.old }
+    ensures { Gives (D.id_of tunnel.id) (D.view door.old) (D.view door.new) }
 {
     let Tunnel {
         id,
@@ -40,11 +34,7 @@ pub(crate) fn give<R: Wait, D: Door<Place = Place>>(
 
 /// Gives the place of a tunnel that has both passes.
 pub(crate) fn give_back<R: Wait, D: Door<Place = Place>>(rt: &R, door: &mut D, mut tunnel: Tunnel)
-    ensures out { D.out door.new ≡ less_one (is_some tunnel.reader) (D.out door.old) }
-    ensures sessions { HasGiven D.id_of (λ name. name ≡ tunnel.id) (is_some tunnel.reader) (D.sessions door.old) (D.sessions door.new) }
-    ensures asked { D.asked door.new ≡ D.asked door.old }
-    ensures dials { D.dial_faults door.new ≡ D.dial_faults door.old }
-    ensures starts { D.start_faults door.new ≡ D.start_faults door.old }
+    ensures { HasGiven D.id_of (λ name. name ≡ tunnel.id) (is_some tunnel.reader) (D.view door.old) (D.view door.new) }
 {
     if let Some(reader) = tunnel.reader.take() {
         give(rt, door, tunnel, reader);

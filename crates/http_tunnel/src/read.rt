@@ -2,10 +2,11 @@
 
 ghost use Rattle.std.specs.Prelude.{◌≡◌, ◌||◌, ◌++◌, ℕ, List, Bool, true, IfErr, IfSome, Some, None, Result};
 ghost use Rattle.id_table.specs.Maps.{Changed, IsLent, Told};
+ghost use Rattle.shared_desk.specs.Members.{Stays};
 ghost use Rattle.http_tunnel.specs.Places.{HasGiven, IsOfTunnel};
 ghost use Rattle.http_tunnel.specs.Reads.{HasRead, mark_of};
 ghost use Rattle.http_tunnel.specs.Requests.{IsTunnelRefusal};
-ghost use Rattle.http_tunnel.specs.Tunnels.{AreHome, GivesReader, HasBegun, HasEnded, HasEndedOf, HasTaken, HasTakenFrom, IsAnswered, ReadOf, answer_with, is_end, is_last, kept_with, less_one, refused_read};
+ghost use Rattle.http_tunnel.specs.Tunnels.{AreHome, GivesReader, HasBegun, HasEnded, HasEndedOf, HasTaken, HasTakenFrom, IsAnswered, ReadOf, answer_with, is_end, is_last, kept_with, refused_read};
 ghost use Rattle.http_tunnel.specs.declared.reading.TunnelEnd.{TunnelEnd};
 ghost use Rattle.http_tunnel.specs.declared.reading.TunnelRefusal.{TunnelRefusal};
 ghost use Rattle.http_tunnel.specs.declared.tunnel.Tunnel.{Tunnel};
@@ -131,9 +132,7 @@ fn remove_read<R: Wait, T: Shelf<Tunnel>, D: Door<Place = Place>>(
     reader: ReaderPass,
 )
     requires { IfSome (T.told tunnels.old) (λ m. (t : Tunnel) × (m id.now ≡ Some (Some t))) }
-    ensures given { (back : Bool) × (D.out door.new ≡ less_one back (D.out door.old)) × HasGiven D.id_of (IsOfTunnel id.now (T.told tunnels.old)) back (D.sessions door.old) (D.sessions door.new) × Told (T.told tunnels.old) (T.told tunnels.new) (λ m n. (back ≡ true) × Changed id.now None m n) }
-    ensures dials { D.dial_faults door.new ≡ D.dial_faults door.old }
-    ensures starts { D.start_faults door.new ≡ D.start_faults door.old }
+    ensures { (back : Bool) × HasGiven D.id_of (IsOfTunnel id.now (T.told tunnels.old)) back (D.view door.old) (D.view door.new) × Told (T.told tunnels.old) (T.told tunnels.new) (λ m n. (back ≡ true) × Changed id.now None m n) }
 {
     match tunnels.remove(rt, id) {
         Some(tunnel) => give(rt, door, tunnel, reader),
@@ -169,9 +168,7 @@ fn end_lent<R: Wait, T: Shelf<Tunnel>, D: Door<Place = Place>>(
     left: Left,
 )
     requires { IfSome (T.told tunnels.old) (IsLent id.now) }
-    ensures given { (back : Bool) × (D.out door.new ≡ less_one back (D.out door.old)) × HasGiven D.id_of (λ name. IfSome (T.told tunnels.old) (λ _. name ≡ tunnel.id)) back (D.sessions door.old) (D.sessions door.new) × Told (T.told tunnels.old) (T.told tunnels.new) (HasEndedOf id.now tunnel reader left back) }
-    ensures dials { D.dial_faults door.new ≡ D.dial_faults door.old }
-    ensures starts { D.start_faults door.new ≡ D.start_faults door.old }
+    ensures { (back : Bool) × HasGiven D.id_of (λ name. IfSome (T.told tunnels.old) (λ _. name ≡ tunnel.id)) back (D.view door.old) (D.view door.new) × Told (T.told tunnels.old) (T.told tunnels.new) (HasEndedOf id.now tunnel reader left back) }
 {
     if goes(&left, &tunnel) {
         tunnels.back(rt, id, tunnel);
@@ -193,9 +190,7 @@ fn end_read<R: Wait, T: Shelf<Tunnel>, D: Door<Place = Place>>(
     left: Left,
 )
     requires { IfSome (T.told tunnels.old) (λ m. (t : Tunnel) × (m id.now ≡ Some (Some t))) }
-    ensures given { (back : Bool) × (D.out door.new ≡ less_one back (D.out door.old)) × HasGiven D.id_of (IsOfTunnel id.now (T.told tunnels.old)) back (D.sessions door.old) (D.sessions door.new) × Told (T.told tunnels.old) (T.told tunnels.new) (HasEnded id.now reader left back) }
-    ensures dials { D.dial_faults door.new ≡ D.dial_faults door.old }
-    ensures starts { D.start_faults door.new ≡ D.start_faults door.old }
+    ensures { (back : Bool) × HasGiven D.id_of (IsOfTunnel id.now (T.told tunnels.old)) back (D.view door.old) (D.view door.new) × Told (T.told tunnels.old) (T.told tunnels.new) (HasEnded id.now reader left back) }
 {
     match tunnels.lend(rt, id) {
         Some(tunnel) => end_lent(rt, tunnels, id, door, tunnel, reader, left),
@@ -236,8 +231,7 @@ fn read_behind<R: Wait, B: Bell>(
     text: &mut Vec<u8>,
     bell: &B,
 ) -> Result<TunnelEnd, TunnelRefusal>
-    ensures session { reader.new.session ≡ reader.old.session }
-    ensures viewer { reader.new.viewer ≡ reader.old.viewer }
+    ensures stays { Stays reader.old reader.new }
     ensures read { (given : List ℕ) × (text.new.items ≡ text.old.items ++ (given ++ mark_of result)) × HasRead reader.old.viewer reader.old.view reader.new.view given result }
 {
     let waits = if text.is_empty() {
@@ -256,8 +250,7 @@ fn read_lent<R: Wait, B: Bell>(
     kept: Bytes,
     bell: &B,
 ) -> (Result<Bytes, Refusal>, Left)
-    ensures session { reader.new.session ≡ reader.old.session }
-    ensures viewer { reader.new.viewer ≡ reader.old.viewer }
+    ensures stays { Stays reader.old reader.new }
     ensures read { (text : List ℕ) × (end : Result TunnelEnd TunnelRefusal) × HasRead reader.old.viewer reader.old.view reader.new.view text end × IsAnswered kept text end result.0 result.1 }
 {
     let mut text = kept.into_inner();
@@ -277,9 +270,7 @@ pub(crate) fn read<R: Wait, T: Shelf<Tunnel>, D: Door<Place = Place>, B: Bell>(
     requires { AreHome (T.told tunnels.old) }
     ensures home { AreHome (T.told tunnels.new) }
     ensures kind { IfErr result IsTunnelRefusal }
-    ensures read { (back : Bool) × (D.out door.new ≡ less_one back (D.out door.old)) × HasGiven D.id_of (IsOfTunnel id.now (T.told tunnels.old)) back (D.sessions door.old) (D.sessions door.new) × Told (T.told tunnels.old) (T.told tunnels.new) (ReadOf id.now back result) }
-    ensures dials { D.dial_faults door.new ≡ D.dial_faults door.old }
-    ensures starts { D.start_faults door.new ≡ D.start_faults door.old }
+    ensures read { (back : Bool) × HasGiven D.id_of (IsOfTunnel id.now (T.told tunnels.old)) back (D.view door.old) (D.view door.new) × Told (T.told tunnels.old) (T.told tunnels.new) (ReadOf id.now back result) }
 {
     match begin_read(rt, alloc, tunnels, id, bell) {
         Some(lent) => {

@@ -1,6 +1,7 @@
 //! What the viewer of a tunnel is given.
 
 ghost use Rattle.std.specs.Prelude.{◌≡◌, ◌⊎◌, ◌++◌, ℕ, List, Ok, Err};
+ghost use Rattle.shared_desk.specs.Members.{Stays};
 ghost use Rattle.http_tunnel.specs.Reads.{HasLooked, HasRead, end_of, mark_of, refusal_of, second};
 ghost use Rattle.http_tunnel.specs.declared.reading.TunnelRefusal.TheVariants.{NoMemory as no_memory};
 
@@ -71,8 +72,7 @@ fn look<R: Wait>(
     into: &mut Vec<u8>,
     held: &mut bool,
 ) -> Result<Option<TunnelEnd>, TunnelRefusal>
-    ensures session { pass.new.session ≡ pass.old.session }
-    ensures viewer { pass.new.viewer ≡ pass.old.viewer }
+    ensures stays { Stays pass.old pass.new }
     ensures looked { (text : List ℕ) × (into.new.items ≡ into.old.items ++ text) × HasLooked pass.old.viewer pass.old.view pass.new.view text result }
 {
     match pass.read(rt, into) {
@@ -114,8 +114,7 @@ fn look_twice<R: Wait, B: Bell>(
     into: &mut Vec<u8>,
     waits: Waits,
 ) -> Result<TunnelEnd, TunnelRefusal>
-    ensures session { pass.new.session ≡ pass.old.session }
-    ensures viewer { pass.new.viewer ≡ pass.old.viewer }
+    ensures stays { Stays pass.old pass.new }
     ensures read { (text : List ℕ) × (into.new.items ≡ into.old.items ++ text) × HasRead pass.old.viewer pass.old.view pass.new.view text result }
 {
     let mut held = false;
@@ -160,8 +159,7 @@ pub(crate) fn read_within<R: Wait, B: Bell>(
     into: &mut Vec<u8>,
     waits: Waits,
 ) -> Result<TunnelEnd, TunnelRefusal>
-    ensures session { pass.new.session ≡ pass.old.session }
-    ensures viewer { pass.new.viewer ≡ pass.old.viewer }
+    ensures stays { Stays pass.old pass.new }
     ensures read { (text : List ℕ) × (into.new.items ≡ into.old.items ++ (text ++ mark_of result)) × HasRead pass.old.viewer pass.old.view pass.new.view text result }
 {
     match look_twice(rt, pass, bell, into, waits) {
@@ -180,8 +178,7 @@ pub fn tunnel_read<R: Wait, B: Bell>(
     bell: &B,
     into: &mut Vec<u8>,
 ) -> Result<TunnelEnd, TunnelRefusal>
-    ensures session { pass.new.session ≡ pass.old.session }
-    ensures viewer { pass.new.viewer ≡ pass.old.viewer }
+    ensures stays { Stays pass.old pass.new }
     ensures read { (text : List ℕ) × (into.new.items ≡ into.old.items ++ (text ++ mark_of result)) × HasRead pass.old.viewer pass.old.view pass.new.view text result }
 {
     read_within(rt, pass, bell, into, Waits::Once)

@@ -3,9 +3,10 @@
 ghost use Rattle.std.specs.Prelude.{◌≡◌, ◌≤◌, Bool, true, None, IfErr, IfSome, is_some, length};
 ghost use Rattle.gate_model.specs.Limits.{most_acts};
 ghost use Rattle.id_table.specs.Maps.{Changed, IsLent, Told};
+ghost use Rattle.shared_desk.specs.Members.{Stays};
 ghost use Rattle.http_tunnel.specs.Places.{HasGiven, IsOfTunnel};
 ghost use Rattle.http_tunnel.specs.Requests.{IsTunnelRefusal};
-ghost use Rattle.http_tunnel.specs.Tunnels.{AreHome, less_one};
+ghost use Rattle.http_tunnel.specs.Tunnels.{AreHome};
 ghost use Rattle.http_tunnel.specs.Writes.{HasLeft, HasPut, WriteOf, WritesBody, WritesWish, is_ended, refused_write, without_value};
 
 use crate::acts::{BodyFault, Wanted, read_body};
@@ -34,8 +35,7 @@ fn refused_write(refusal: WriteRefusal) -> Refusal
 
 // The viewer leaves, where its body asks for an end.
 fn leave_at<R: Wait, B: Bell>(rt: &R, writer: &mut WriterPass, ends: bool, bell: &B)
-    ensures session { writer.new.session ≡ writer.old.session }
-    ensures viewer { writer.new.viewer ≡ writer.old.viewer }
+    ensures stays { Stays writer.old writer.new }
     ensures left { HasLeft writer.old.viewer writer.old.view writer.new.view ends }
 {
     if ends {
@@ -54,8 +54,7 @@ fn write_wish<R: Wait, B: Bell>(
     bell: &B,
 ) -> Result<bool, Refusal>
     requires { length wanted.now.acts ≤ most_acts }
-    ensures session { writer.new.session ≡ writer.old.session }
-    ensures viewer { writer.new.viewer ≡ writer.old.viewer }
+    ensures stays { Stays writer.old writer.new }
     ensures wrote { WritesWish writer.old.viewer writer.old.view writer.new.view wanted.now result }
 {
     match write_acts(rt, alloc, writer, &wanted.acts, bell) {
@@ -75,8 +74,7 @@ fn write_body<R: Wait, B: Bell>(
     body: &[u8],
     bell: &B,
 ) -> Result<bool, Refusal>
-    ensures session { writer.new.session ≡ writer.old.session }
-    ensures viewer { writer.new.viewer ≡ writer.old.viewer }
+    ensures stays { Stays writer.old writer.new }
     ensures wrote { WritesBody writer.old.viewer writer.old.view writer.new.view body.now result }
 {
     match read_body(alloc, body) {
@@ -116,9 +114,7 @@ fn remove_written<R: Wait, T: Shelf<Tunnel>, D: Door<Place = Place>>(
 )
     requires lent { IfSome (T.told tunnels.old) (IsLent id.now) }
     requires home { IfSome (T.told tunnels.old) (λ m. is_some tunnel.reader ≡ true) }
-    ensures given { (back : Bool) × (D.out door.new ≡ less_one back (D.out door.old)) × HasGiven D.id_of (λ name. IfSome (T.told tunnels.old) (λ _. name ≡ tunnel.id)) back (D.sessions door.old) (D.sessions door.new) × Told (T.told tunnels.old) (T.told tunnels.new) (λ m n. (back ≡ true) × Changed id.now None m n) }
-    ensures dials { D.dial_faults door.new ≡ D.dial_faults door.old }
-    ensures starts { D.start_faults door.new ≡ D.start_faults door.old }
+    ensures { (back : Bool) × HasGiven D.id_of (λ name. IfSome (T.told tunnels.old) (λ _. name ≡ tunnel.id)) back (D.view door.old) (D.view door.new) × Told (T.told tunnels.old) (T.told tunnels.new) (λ m n. (back ≡ true) × Changed id.now None m n) }
 {
     let here = tunnel.reader.is_some();
     tunnel.gone = true;
@@ -142,9 +138,7 @@ fn end_write<R: Wait, T: Shelf<Tunnel>, D: Door<Place = Place>>(
 )
     requires lent { IfSome (T.told tunnels.old) (IsLent id.now) }
     requires home { IfSome (T.told tunnels.old) (λ m. is_some tunnel.reader ≡ true) }
-    ensures given { (back : Bool) × (D.out door.new ≡ less_one back (D.out door.old)) × HasGiven D.id_of (λ name. IfSome (T.told tunnels.old) (λ _. name ≡ tunnel.id)) back (D.sessions door.old) (D.sessions door.new) × Told (T.told tunnels.old) (T.told tunnels.new) (HasPut id.now tunnel ended back) }
-    ensures dials { D.dial_faults door.new ≡ D.dial_faults door.old }
-    ensures starts { D.start_faults door.new ≡ D.start_faults door.old }
+    ensures { (back : Bool) × HasGiven D.id_of (λ name. IfSome (T.told tunnels.old) (λ _. name ≡ tunnel.id)) back (D.view door.old) (D.view door.new) × Told (T.told tunnels.old) (T.told tunnels.new) (HasPut id.now tunnel ended back) }
 {
     if ended {
         remove_written(rt, tunnels, id, door, tunnel);
@@ -166,9 +160,7 @@ pub(crate) fn write<R: Wait, T: Shelf<Tunnel>, D: Door<Place = Place>, B: Bell>(
     requires { AreHome (T.told tunnels.old) }
     ensures home { AreHome (T.told tunnels.new) }
     ensures kind { IfErr result IsTunnelRefusal }
-    ensures wrote { (back : Bool) × (D.out door.new ≡ less_one back (D.out door.old)) × HasGiven D.id_of (IsOfTunnel id.now (T.told tunnels.old)) back (D.sessions door.old) (D.sessions door.new) × Told (T.told tunnels.old) (T.told tunnels.new) (WriteOf id.now body.now back result) }
-    ensures dials { D.dial_faults door.new ≡ D.dial_faults door.old }
-    ensures starts { D.start_faults door.new ≡ D.start_faults door.old }
+    ensures wrote { (back : Bool) × HasGiven D.id_of (IsOfTunnel id.now (T.told tunnels.old)) back (D.view door.old) (D.view door.new) × Told (T.told tunnels.old) (T.told tunnels.new) (WriteOf id.now body.now back result) }
 {
     match tunnels.lend(rt, id) {
         Some(lent) => {

@@ -1,9 +1,9 @@
 //! The link.
 
-ghost use Rattle.std.specs.Prelude.{◌≡◌, ◌≤◌};
-ghost use Rattle.gate_outside.specs.Edge.{Rose};
+ghost use Rattle.std.specs.Prelude.{◌≡◌};
+ghost use Rattle.gate_outside.specs.Edge.{CountsFault};
 ghost use Rattle.ws_link.specs.Reads.{Appends};
-ghost use Rattle.ws_tunnel.specs.Links.{IsFailed};
+ghost use Rattle.ws_tunnel.specs.declared.got.LinkFailed.TheVariants.{Failed};
 
 use crate::ends::{Stream, stream};
 use crate::socket::{accepted, next, part_with, send};
@@ -96,8 +96,7 @@ impl<'a, S: Source, K: Sink> WsLink<'a, S, K> {
 
     // Counts a call that failed.
     fn count(&mut self, failed: LinkFailed)
-        ensures cause { IsFailed (Rose self.old.faults self.new.faults) failed }
-        ensures later { self.old.faults ≤ self.new.faults }
+        ensures { CountsFault (failed ≡ Failed) self.old.faults self.new.faults }
     {
         match failed {
             LinkFailed::Failed => self.faults = self.faults.saturating_add(1),

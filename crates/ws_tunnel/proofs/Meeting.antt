@@ -1,5 +1,5 @@
 -- A read between two meetings of a viewer's passes.
-use Rattle.std.proofs.Common.{◌≡◌, ℕ, ◌≤◌, List, [], ◌++◌, length, Bool, false, ap, sym, ◌∙◌, subst}
+use Rattle.std.proofs.Common.{◌≡◌, ℕ, ◌≤◌, List, [], ◌++◌, length, Bool, false, refl, ap, sym, ◌∙◌, subst}
 use Rattle.std.specs.Prelude.{Some, Result, Ok, Err}
 use Rattle.gate_model.specs.declared.entry.Entry.{Entry}
 use Rattle.gate_model.specs.declared.entry.Entry.TheVariants.{Leave, Close}
@@ -18,13 +18,13 @@ use Rattle.turn_lock.proofs.Elements.{contains_none}
 use Rattle.shared_desk.specs.Called.{Gives}
 use Rattle.shared_desk.specs.Marks.{reader_mark}
 use Rattle.shared_desk.specs.Meetings.{HasMet, HaveMet, written_by}
-use Rattle.shared_desk.specs.Members.{KnowsViewer}
+use Rattle.shared_desk.specs.Members.{KnowsViewer, Stays, ViewerState}
 use Rattle.shared_desk.specs.Own.{own_entries}
 use Rattle.shared_desk.proofs.Lasting.{full_stays, later_contains, left_seen, read_adds, some_seen, turn_knows, turn_legal}
 use Rattle.shared_desk.proofs.Meetings.{found_ended, keeps_ended, keeps_mark, now_mine, now_seen, read_behind}
 use Rattle.viewer_acts.specs.Doing.{GoesOn}
 use Rattle.viewer_acts.proofs.Doings.{goes_further}
-use Rattle.ws_tunnel.specs.Runs.{HasClose, ReadEnd, ReadsBehind, WsCause, over_of}
+use Rattle.ws_tunnel.specs.Runs.{HasClose, OfOneViewer, ReadEnd, ReadsBehind, WsCause, over_of}
 use Rattle.ws_tunnel.specs.declared.ends.WsEnd.{WsEnd}
 use Rattle.ws_tunnel.specs.declared.ends.WsEnd.TheVariants.{Ended, Disconnected, Refused, Bad, Cut, TooLong, LinkFault, Left, Worn, NoMemory}
 use Rattle.ws_tunnel.proofs.Reading.{are_reads, ended_later, read_later, refused, told}
@@ -46,6 +46,17 @@ cause_later NoMemory viewer g h l some legal c = tt
 
 pub close_later : (g h : History) → IsLater g h → HasClose g → HasClose h
 close_later g h l k = (k.0, later_contains g h (Close k.0) l k.1)
+
+-- ---- passes of one viewer
+
+pub stayed : (s : ViewerState) → Stays s s
+stayed s = record { session = refl; viewer = refl }
+
+pub stays_on : (s t u : ViewerState) → Stays s t → Stays t u → Stays s u
+stays_on s t u a b = record { session = b.session ∙ a.session; viewer = b.viewer ∙ a.viewer }
+
+pub still_one : (r w r_now w_now : ViewerState) → OfOneViewer r w → Stays r r_now → Stays w w_now → OfOneViewer r_now w_now
+still_one r w r_now w_now one a b = record { session = b.session ∙ (one.session ∙ sym a.session); viewer = b.viewer ∙ (one.viewer ∙ sym a.viewer) }
 
 -- ---- a pass that met another goes on
 

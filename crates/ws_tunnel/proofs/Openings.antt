@@ -1,19 +1,19 @@
 -- The link's messages and texts, the texts of the handshake, and what the door was asked.
-use Rattle.std.proofs.Common.{◌≡◌, ◌⊎◌, inl, inr, ℕ, List, [], ◌∷◌, ◌++◌, refl, ap, sym, ◌∙◌, subst, append-nil, append_assoc}
+use Rattle.std.proofs.Common.{◌≡◌, ◌⊎◌, inl, inr, ℕ, List, [], ◌∷◌, ◌++◌, refl, ap, sym, ◌∙◌, subst, append-nil, append_assoc, arith}
 use Rattle.std.specs.Prelude.{Option, Some, None, Result, Ok, Err}
 use Rattle.gate_model.specs.session.History.{History}
 use Rattle.gate_model.specs.declared.entry.Entry.{Entry}
-use Rattle.guac_handshake.specs.Doors.{Sessions}
-use Rattle.guac_handshake.specs.Opening.{with_opened}
+use Rattle.gate_outside.specs.Helpers.{NeverFell}
 use Rattle.guac_handshake.specs.Texts.{error_text, ready_text}
+use Rattle.guac_handshake.specs.Views.{DoorView}
 use Rattle.guac_handshake.specs.declared.form_refusal.FormRefusal.{FormRefusal}
 use Rattle.guac_handshake.specs.declared.request.Request.{Request}
 use Rattle.guac_handshake.specs.declared.welcome.Welcome.{Welcome}
 use Rattle.turn_lock.specs.declared.view.View.{View}
 use Rattle.shared_desk.specs.declared.place.Place.{Place}
-use Rattle.ws_tunnel.specs.Links.{NoneLeft, came_messages, sent_messages}
+use Rattle.ws_tunnel.specs.Links.{Exchanges, NoneLeft, came_messages, sent_messages}
 use Rattle.ws_tunnel.specs.Runs.{HasRun, IsStart}
-use Rattle.ws_tunnel.specs.Served.{HasAnsweredAll, HasAnsweredForm, HasAsked, HasRefused, IsAdmitted, IsEndOf, IsLinkEnd, IsOpenEnd, NoMessage, NoPlace, NotAsked, OpensDoor, ServesPlace, status_for, with_place}
+use Rattle.ws_tunnel.specs.Served.{HasAnsweredAll, HasAnsweredForm, HasAsked, HasRefused, IsAdmitted, IsEndOf, IsLinkEnd, IsOpenEnd, NoMessage, NoPlace, NotAsked, OpensDoor, ServesPlace, status_for}
 use Rattle.ws_tunnel.specs.declared.ends.WsEnd.{WsEnd}
 use Rattle.ws_tunnel.specs.declared.ends.WsEnd.TheVariants.{Ended, Disconnected, Refused, Bad, Cut, TooLong, LinkFault, Left, Worn, NoMemory}
 use Rattle.ws_tunnel.proofs.Replies.{none_came}
@@ -36,10 +36,6 @@ sent_none (Some sent) = ap Some (append-nil sent)
 pub sent_twice : (o : Option (List (List ℕ))) (a b : List (List ℕ)) → sent_messages (sent_messages o a) b ≡ sent_messages o (a ++ b)
 sent_twice None a b = refl
 sent_twice (Some sent) a b = ap Some (append_assoc sent a b)
-
--- these messages came, and these texts were sent
-abbrev pub Exchanges : (left left_new sent sent_new : Option (List (List ℕ))) → (List (List ℕ) → List (List ℕ) → Type 0) → Type 0
-Exchanges left left_new sent sent_new told = (received : List (List ℕ)) × (texts : List (List ℕ)) × (left ≡ came_messages received left_new) × (sent_new ≡ sent_messages sent texts) × told received texts
 
 -- ---- `ready`
 
@@ -105,8 +101,8 @@ given_by (Err r) sent sent_new welcome k = absurd (let z : Ok welcome ≡ Err k.
 
 -- ---- no place was given
 
-same_end : (r : Result (Welcome Place) WsEnd) (a b : WsEnd) → r ≡ Err a → r ≡ Err b → a ≡ b
-same_end r a b e f = let z : Err a ≡ Err b = sym e ∙ f in cc
+pub same_end : {A : Type 0} (r : Result A WsEnd) (a b : WsEnd) → r ≡ Err a → r ≡ Err b → a ≡ b
+same_end {A} r a b e f = let z : Err a ≡ Err b = sym e ∙ f in cc
 
 record IsDenied (answer : Result (Welcome Place) FormRefusal) (sent sent_new : Option (List (List ℕ))) (end : WsEnd) : Type 0 where
   refusal : FormRefusal
@@ -155,21 +151,21 @@ came_not left left_new Worn same k = absurd k
 
 -- ---- the whole call
 
-module _ (id_of : List ℕ → Option (List ℕ)) (sessions sessions_new : Option Sessions) (draws : Option (ℕ → List ℕ)) (gives : Request → Welcome Place → Type 0) (asked asked_new : Option (List Request)) (out out_new : Option ℕ) (dials dials_new starts starts_new : ℕ) (left left_mid sent sent_mid : Option (List (List ℕ))) where
+module _ (id_of : List ℕ → Option (List ℕ)) (gives : Request → Welcome Place → Type 0) (before after : DoorView) (left left_mid sent sent_mid : Option (List (List ℕ))) where
   abbrev Opens : Result (Welcome Place) WsEnd → Type 0
-  Opens result = OpensDoor id_of sessions sessions_new draws gives asked asked_new out out_new dials dials_new starts starts_new left left_mid sent sent_mid result
+  Opens result = OpensDoor id_of gives before after left left_mid sent sent_mid result
 
   abbrev Asks : Option (List ℕ × Place) → WsEnd → Type 0
-  Asks place end = NotAsked sessions sessions_new asked asked_new left place end ⊎ HasAsked id_of sessions sessions_new draws gives asked asked_new dials dials_new starts starts_new left place end
+  Asks place end = NotAsked before after left place end ⊎ HasAsked id_of gives before after left place end
 
   -- a form came, and was answered over the link as it was then
   pub form_came : (form given : List ℕ) (left_then sent_then : Option (List (List ℕ))) (result : Result (Welcome Place) WsEnd) → given ≡ form → sent_then ≡ sent → left ≡ came_messages (form ∷ []) left_then → left_mid ≡ left_then
-      → HasAnsweredForm id_of sessions sessions_new draws gives asked asked_new out out_new dials dials_new starts starts_new given sent_then sent_mid result → Opens result
+      → HasAnsweredForm id_of gives before after given sent_then sent_mid result → Opens result
   form_came form given left_then sent_then result is told came same k = inr (
     form,
     came ∙ ap (λ (o : Option (List (List ℕ))). came_messages (form ∷ []) o) (sym same),
-    subst (λ (f : List ℕ). HasAnsweredForm id_of sessions sessions_new draws gives asked asked_new out out_new dials dials_new starts starts_new f sent sent_mid result) is
-        (subst (λ (s : Option (List (List ℕ))). HasAnsweredForm id_of sessions sessions_new draws gives asked asked_new out out_new dials dials_new starts starts_new given s sent_mid result) told k),
+    subst (λ (f : List ℕ). HasAnsweredForm id_of gives before after f sent sent_mid result) is
+        (subst (λ (s : Option (List (List ℕ))). HasAnsweredForm id_of gives before after given s sent_mid result) told k),
   )
 
   module _ (welcome : Welcome Place) (left_new sent_new : Option (List (List ℕ))) (place : Option (List ℕ × Place)) (end : WsEnd) (k : Exchanges left_mid left_new sent_mid sent_new (λ received texts. IsAdmitted welcome place left_new received texts end)) where
@@ -189,14 +185,7 @@ module _ (id_of : List ℕ → Option (List ℕ)) (sessions sessions_new : Optio
     asks_in (inr f) =
         let g = given_by f.2.answer sent sent_mid welcome f.2.is_end in
         let own = admitted welcome place left_new k.0 k.1 end k.4 in
-        inr record { form = f.0; rest = left_mid; came = f.1; answer = f.2.answer; opened = f.2.opened; moved = f.2.moved; dial = f.2.dial; busy = f.2.busy; is_end = subst (λ (a : Result (Welcome Place) FormRefusal). IsEndOf a place end) (sym g.answer_is) own }
-
-    pub out_in : Opens (Ok welcome) → out_new ≡ with_place place out
-    out_in (inl n) = absurd (let z : Ok welcome ≡ Err n.end = n.is in cc)
-    out_in (inr f) =
-        let g = given_by f.2.answer sent sent_mid welcome f.2.is_end in
-        let own = admitted welcome place left_new k.0 k.1 end k.4 in
-        f.2.out_is ∙ (ap (λ (a : Result (Welcome Place) FormRefusal). with_opened a out) g.answer_is ∙ ap (λ (o : Option (List ℕ × Place)). with_place o out) (sym own.1))
+        inr record { form = f.0; rest = left_mid; came = f.1; answer = f.2.answer; door = f.2.door; is_end = subst (λ (a : Result (Welcome Place) FormRefusal). IsEndOf a place end) (sym g.answer_is) own }
 
   module _ (end : WsEnd) where
     pub denied : Opens (Err end) → Exchanges left left_mid sent sent_mid (λ received texts. NoPlace left_mid end received texts)
@@ -207,13 +196,12 @@ module _ (id_of : List ℕ → Option (List ℕ)) (sessions sessions_new : Optio
         (f.0 ∷ [], t.0, f.1, t.1, t.2)
 
     pub asks_denied : Opens (Err end) → Asks None end
-    asks_denied (inl n) = inl record { none = subst (NoMessage left) (sym (same_end (Err end) end n.end refl n.is)) n.none; no_place = refl; same = n.same; moved = n.moved }
+    asks_denied (inl n) = inl record { none = subst (NoMessage left) (sym (same_end (Err end) end n.end refl n.is)) n.none; no_place = refl; same = n.same }
     asks_denied (inr f) =
         let d = denied_by f.2.answer sent sent_mid end f.2.is_end in
-        inr record { form = f.0; rest = left_mid; came = f.1; answer = f.2.answer; opened = f.2.opened; moved = f.2.moved; dial = f.2.dial; busy = f.2.busy; is_end = subst (λ (a : Result (Welcome Place) FormRefusal). IsEndOf a None end) (sym d.answer_is) (refl, told_end (status_for d.refusal) sent sent_mid end d.refused) }
+        inr record { form = f.0; rest = left_mid; came = f.1; answer = f.2.answer; door = f.2.door; is_end = subst (λ (a : Result (Welcome Place) FormRefusal). IsEndOf a None end) (sym d.answer_is) (refl, told_end (status_for d.refusal) sent sent_mid end d.refused) }
 
-    pub out_denied : Opens (Err end) → out_new ≡ with_place None out
-    out_denied (inl n) = n.out_is
-    out_denied (inr f) =
-        let d = denied_by f.2.answer sent sent_mid end f.2.is_end in
-        f.2.out_is ∙ ap (λ (a : Result (Welcome Place) FormRefusal). with_opened a out) d.answer_is
+  -- whatever came, no count of the door fell
+  pub never_fell : (place : Option (List ℕ × Place)) (end : WsEnd) → Asks place end → NeverFell before.helper after.helper
+  never_fell place end (inl n) = subst (λ (x : DoorView). NeverFell before.helper x.helper) (sym n.same) record { dials = omega arith; starts = omega arith }
+  never_fell place end (inr h) = record { dials = h.door.faults.dials.1; starts = h.door.faults.starts.1 }

@@ -18,6 +18,10 @@ abbrev pub sent_messages : Option (List (List ℕ)) → List (List ℕ) → Opti
 sent_messages None texts = None
 sent_messages (Some sent) texts = Some (sent ++ texts)
 
+-- these messages came and these texts were sent, of which this is told
+abbrev pub Exchanges : Option (List (List ℕ)) → Option (List (List ℕ)) → Option (List (List ℕ)) → Option (List (List ℕ)) → (List (List ℕ) → List (List ℕ) → Type 0) → Type 0
+Exchanges left left_new sent sent_new told = (received : List (List ℕ)) × (texts : List (List ℕ)) × (left ≡ came_messages received left_new) × (sent_new ≡ sent_messages sent texts) × told received texts
+
 -- none is left, where the link tells
 abbrev pub NoneLeft : Option (List (List ℕ)) → Type 0
 NoneLeft None = Unit {0}
@@ -29,10 +33,10 @@ HasReceived old new before after (Ok Message) = (message : List ℕ) × (old ≡
 HasReceived old new before after (Ok Closed) = NoneLeft old × (new ≡ old) × (after ≡ before)
 HasReceived old new before after (Err refused) = (new ≡ old) × (after ≡ before)
 
--- the link failed, for this cause, or memory was wanting
-abbrev pub IsFailed : Type 0 → LinkFailed → Type 0
-IsFailed Cause Failed = Cause
-IsFailed Cause NoMemory = Unit {0}
+-- the text was sent, or none was
+abbrev pub HasSent : {E : Type 0} → Option (List (List ℕ)) → Option (List (List ℕ)) → List ℕ → Result (Unit {0}) E → Type 0
+HasSent old new text (Ok done) = new ≡ sent_messages old (text ∷ [])
+HasSent old new text (Err refused) = new ≡ old
 
 -- the end at a call that was refused so
 abbrev pub end_of_link : LinkFailed → WsEnd

@@ -17,7 +17,7 @@ use Rattle.gate_model.specs.text.Text.{texts}
 use Rattle.gate_model.specs.Sequences.{BeginsWith, IsLater}
 use Rattle.turn_lock.specs.declared.view.View.{View}
 use Rattle.shared_desk.specs.Meetings.{written_by}
-use Rattle.shared_desk.specs.Members.{IsSound}
+use Rattle.shared_desk.specs.Members.{IsSound, ViewerState}
 use Rattle.shared_desk.specs.Own.{own_entries}
 use Rattle.script_grammar.specs.Acts.{HasTooMany, IsBad, IsCut}
 use Rattle.viewer_acts.specs.Parts.{AreParts, Part, joined}
@@ -151,6 +151,11 @@ pub record MessagesRun (viewer : ℕ) (start : History) (r w : View Entry) (firs
   pub gone : Contains w.seen (Leave viewer)
 
 -- ---- its beginning
+
+-- both passes are of one viewer of one session
+pub record OfOneViewer (reader writer : ViewerState) : Type 0 where
+  pub session : writer.session ≡ reader.session
+  pub viewer : writer.viewer ≡ reader.viewer
 
 -- both passes have seen the same, and added nothing; it is sound, and the viewer was given this text, which is no end
 pub record IsStart (viewer : ℕ) (r w : View Entry) (first : List ℕ) : Type 0 where

@@ -1,12 +1,11 @@
 -- What `ws_serve` received and sent, what it asked of the door, and the place that it answers (this project's own).
-use Rattle.std.specs.Prelude.{◌≡◌, ◌⊎◌, ℕ, ◌+◌, List, [], ◌∷◌, ◌++◌, Option, Some, None, Result, Ok, Err}
-use Rattle.std.specs.Option.{option_map}
-use Rattle.gate_outside.specs.Edge.{Rose}
-use Rattle.guac_handshake.specs.Doors.{Sessions}
+use Rattle.std.specs.Prelude.{◌≡◌, ◌⊎◌, ℕ, List, [], ◌∷◌, ◌++◌, Option, Some, None, Result, Ok, Err}
+use Rattle.gate_outside.specs.Helpers.{CountsFaults}
 use Rattle.gate_model.specs.declared.entry.Entry.{Entry}
 use Rattle.gate_model.specs.session.History.{History}
 use Rattle.turn_lock.specs.declared.view.View.{View}
-use Rattle.guac_handshake.specs.Opening.{HasMoved, HasOpened, IsDoor, with_opened}
+use Rattle.guac_handshake.specs.Opening.{HasOpened, IsDoor, Moves}
+use Rattle.guac_handshake.specs.Views.{DoorView}
 use Rattle.gate_model.specs.text.Statuses.{bad_request}
 use Rattle.guac_handshake.specs.Statuses.{status_of}
 use Rattle.guac_handshake.specs.Texts.{error_text, ready_text}
@@ -15,8 +14,8 @@ use Rattle.guac_handshake.specs.declared.form_refusal.FormRefusal.TheVariants as
 use Rattle.guac_handshake.specs.declared.refused.Refused.TheVariants as refused
 use Rattle.guac_handshake.specs.declared.request.Request.{Request}
 use Rattle.guac_handshake.specs.declared.welcome.Welcome.{Welcome}
-use Rattle.id_table.specs.Maps.{Told}
 use Rattle.shared_desk.specs.Hosts.{IsFresh}
+use Rattle.shared_desk.specs.Members.{Stays}
 use Rattle.shared_desk.specs.declared.place.Place.{Place}
 use Rattle.ws_tunnel.specs.Links.{NoneLeft, came_messages, sent_messages}
 use Rattle.ws_tunnel.specs.Runs.{HasRun, MessagesRun}
@@ -57,8 +56,7 @@ HasVisited viewer start id first r w left received sent end = (answers : List (L
 pub record IsLetIn (welcome : Welcome Place) (id : List ℕ) (place : Place) (left : Option (List (List ℕ))) (received sent : List (List ℕ)) (end : WsEnd) : Type 0 where
   pub id_is : id ≡ welcome.id
   pub fresh : IsFresh welcome.place welcome.first
-  pub sessions : (place.reader.session ≡ welcome.place.reader.session) × (place.writer.session ≡ welcome.place.reader.session)
-  pub viewers : (place.reader.viewer ≡ welcome.place.reader.viewer) × (place.writer.viewer ≡ welcome.place.reader.viewer)
+  pub stays : Stays welcome.place.reader place.reader × Stays welcome.place.writer place.writer
   pub role : place.role ≡ welcome.place.role
   pub ran : HasVisited welcome.place.reader.viewer welcome.place.reader.view.seen welcome.id welcome.first place.reader.view place.writer.view left received sent end
 
@@ -102,33 +100,31 @@ abbrev pub IsOpenEnd : Result (Welcome Place) FormRefusal → Option (List (List
 IsOpenEnd (Ok welcome) sent sent_new result = (result ≡ Ok welcome) × (sent_new ≡ sent)
 IsOpenEnd (Err r) sent sent_new result = (end : WsEnd) × (result ≡ Err end) × HasRefused (status_for r) sent sent_new end
 
-pub record HasAnsweredForm (id_of : List ℕ → Option (List ℕ)) (sessions sessions_new : Option Sessions) (draws : Option (ℕ → List ℕ)) (gives : Request → Welcome Place → Type 0) (asked asked_new : Option (List Request)) (out out_new : Option ℕ) (dials dials_new starts starts_new : ℕ) (form : List ℕ) (sent sent_new : Option (List (List ℕ))) (result : Result (Welcome Place) WsEnd) : Type 0 where
+-- what `open_form` says of a door that answered a form so
+pub record AnswersForm (id_of : List ℕ → Option (List ℕ)) (gives : Request → Welcome Place → Type 0) (before after : DoorView) (form : List ℕ) (answer : Result (Welcome Place) FormRefusal) : Type 0 where
+  pub opened : HasOpened id_of before.sessions after.sessions before.helper.draws gives before.asked after.asked form answer
+  pub moves : Moves id_of answer before after
+  pub faults : CountsFaults (IsDoor refused.Dial answer) (IsDoor refused.Busy answer) before.helper after.helper
+
+pub record HasAnsweredForm (id_of : List ℕ → Option (List ℕ)) (gives : Request → Welcome Place → Type 0) (before after : DoorView) (form : List ℕ) (sent sent_new : Option (List (List ℕ))) (result : Result (Welcome Place) WsEnd) : Type 0 where
   pub answer : Result (Welcome Place) FormRefusal
-  pub opened : HasOpened id_of sessions sessions_new draws gives asked asked_new form answer
-  pub moved : Told sessions sessions_new (HasMoved id_of answer)
-  pub out_is : out_new ≡ with_opened answer out
-  pub dial : IsDoor refused.Dial answer → Rose dials dials_new
-  pub busy : IsDoor refused.Busy answer → Rose starts starts_new
+  pub door : AnswersForm id_of gives before after form answer
   pub is_end : IsOpenEnd answer sent sent_new result
 
 -- a form came, and was answered
-abbrev pub FormCame : (List ℕ → Option (List ℕ)) → (sessions sessions_new : Option Sessions) → Option (ℕ → List ℕ) → (Request → Welcome Place → Type 0) → (asked asked_new : Option (List Request)) → (out out_new : Option ℕ) → (dials dials_new starts starts_new : ℕ) → (left left_new sent sent_new : Option (List (List ℕ))) → Result (Welcome Place) WsEnd → Type 0
-FormCame id_of sessions sessions_new draws gives asked asked_new out out_new dials dials_new starts starts_new left left_new sent sent_new result =
-    (form : List ℕ) × (left ≡ came_messages (form ∷ []) left_new) × HasAnsweredForm id_of sessions sessions_new draws gives asked asked_new out out_new dials dials_new starts starts_new form sent sent_new result
+abbrev pub FormCame : (List ℕ → Option (List ℕ)) → (Request → Welcome Place → Type 0) → (before after : DoorView) → (left left_new sent sent_new : Option (List (List ℕ))) → Result (Welcome Place) WsEnd → Type 0
+FormCame id_of gives before after left left_new sent sent_new result = (form : List ℕ) × (left ≡ came_messages (form ∷ []) left_new) × HasAnsweredForm id_of gives before after form sent sent_new result
 
-pub record NoFormCame (sessions sessions_new : Option Sessions) (asked asked_new : Option (List Request)) (out out_new : Option ℕ) (left left_new sent sent_new : Option (List (List ℕ))) (result : Result (Welcome Place) WsEnd) : Type 0 where
+pub record NoFormCame (before after : DoorView) (left left_new sent sent_new : Option (List (List ℕ))) (result : Result (Welcome Place) WsEnd) : Type 0 where
   pub end : WsEnd
   pub is : result ≡ Err end
   pub none : NoMessage left end
   pub came : left_new ≡ left
   pub told : sent_new ≡ sent
-  pub same : asked_new ≡ asked
-  pub moved : sessions_new ≡ sessions
-  pub out_is : out_new ≡ out
+  pub same : after ≡ before
 
-abbrev pub OpensDoor : (List ℕ → Option (List ℕ)) → (sessions sessions_new : Option Sessions) → Option (ℕ → List ℕ) → (Request → Welcome Place → Type 0) → (asked asked_new : Option (List Request)) → (out out_new : Option ℕ) → (dials dials_new starts starts_new : ℕ) → (left left_new sent sent_new : Option (List (List ℕ))) → Result (Welcome Place) WsEnd → Type 0
-OpensDoor id_of sessions sessions_new draws gives asked asked_new out out_new dials dials_new starts starts_new left left_new sent sent_new result =
-    NoFormCame sessions sessions_new asked asked_new out out_new left left_new sent sent_new result ⊎ FormCame id_of sessions sessions_new draws gives asked asked_new out out_new dials dials_new starts starts_new left left_new sent sent_new result
+abbrev pub OpensDoor : (List ℕ → Option (List ℕ)) → (Request → Welcome Place → Type 0) → (before after : DoorView) → (left left_new sent sent_new : Option (List (List ℕ))) → Result (Welcome Place) WsEnd → Type 0
+OpensDoor id_of gives before after left left_new sent sent_new result = NoFormCame before after left left_new sent sent_new result ⊎ FormCame id_of gives before after left left_new sent sent_new result
 
 -- what the door answered a form: the place of its welcome; or it refused, which the viewer was told, unless the link
 -- failed or memory was wanting
@@ -137,29 +133,20 @@ IsEndOf (Ok welcome) place end = (own : Place) × (place ≡ Some (welcome.id, o
 IsEndOf (Err r) place end = (place ≡ None) × ((end ≡ Refused (status_for r)) ⊎ IsLinkEnd end)
 
 -- the door was asked what the first message asks
-pub record HasAsked (id_of : List ℕ → Option (List ℕ)) (sessions sessions_new : Option Sessions) (draws : Option (ℕ → List ℕ)) (gives : Request → Welcome Place → Type 0) (asked asked_new : Option (List Request)) (dials dials_new starts starts_new : ℕ) (left : Option (List (List ℕ))) (place : Option (List ℕ × Place)) (end : WsEnd) : Type 0 where
+pub record HasAsked (id_of : List ℕ → Option (List ℕ)) (gives : Request → Welcome Place → Type 0) (before after : DoorView) (left : Option (List (List ℕ))) (place : Option (List ℕ × Place)) (end : WsEnd) : Type 0 where
   pub form : List ℕ
   pub rest : Option (List (List ℕ))
   pub came : left ≡ came_messages (form ∷ []) rest
   pub answer : Result (Welcome Place) FormRefusal
-  pub opened : HasOpened id_of sessions sessions_new draws gives asked asked_new form answer
-  pub moved : Told sessions sessions_new (HasMoved id_of answer)
-  pub dial : IsDoor refused.Dial answer → Rose dials dials_new
-  pub busy : IsDoor refused.Busy answer → Rose starts starts_new
+  pub door : AnswersForm id_of gives before after form answer
   pub is_end : IsEndOf answer place end
 
 -- .. or no message came, and it wasn't
-pub record NotAsked (sessions sessions_new : Option Sessions) (asked asked_new : Option (List Request)) (left : Option (List (List ℕ))) (place : Option (List ℕ × Place)) (end : WsEnd) : Type 0 where
+pub record NotAsked (before after : DoorView) (left : Option (List (List ℕ))) (place : Option (List ℕ × Place)) (end : WsEnd) : Type 0 where
   pub none : NoMessage left end
   pub no_place : place ≡ None
-  pub same : asked_new ≡ asked
-  pub moved : sessions_new ≡ sessions
+  pub same : after ≡ before
 
-abbrev pub AsksDoor : (List ℕ → Option (List ℕ)) → Option Sessions → Option Sessions → Option (ℕ → List ℕ) → (Request → Welcome Place → Type 0) → Option (List Request) → Option (List Request) → (dials dials_new starts starts_new : ℕ) → Option (List (List ℕ)) → WsRun → Type 0
-AsksDoor id_of sessions sessions_new draws gives asked asked_new dials dials_new starts starts_new left run =
-    NotAsked sessions sessions_new asked asked_new left run.place run.end ⊎ HasAsked id_of sessions sessions_new draws gives asked asked_new dials dials_new starts starts_new left run.place run.end
-
--- a place more is out where one is answered, and else none
-abbrev pub with_place : Option (List ℕ × Place) → Option ℕ → Option ℕ
-with_place None out = out
-with_place (Some placed) out = option_map (λ n. n + 1) out
+-- so a place more is out where one is answered, and else none
+abbrev pub AsksDoor : (List ℕ → Option (List ℕ)) → (Request → Welcome Place → Type 0) → (before after : DoorView) → Option (List (List ℕ)) → WsRun → Type 0
+AsksDoor id_of gives before after left run = NotAsked before after left run.place run.end ⊎ HasAsked id_of gives before after left run.place run.end

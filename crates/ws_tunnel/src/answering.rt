@@ -3,8 +3,9 @@
 ghost use Rattle.std.specs.Prelude.{◌≡◌, ◌≤◌, ℕ, List, [], IfErr, false, length};
 ghost use Rattle.gate_model.specs.Limits.{most_acts};
 ghost use Rattle.gate_model.specs.session.Delivered.{ended};
+ghost use Rattle.shared_desk.specs.Members.{Stays};
 ghost use Rattle.ws_tunnel.specs.Heard.{IsMessage};
-ghost use Rattle.ws_tunnel.specs.Runs.{AnswerRun, HasPut, IsOwn, ReadsBehind, over_of, put_of};
+ghost use Rattle.ws_tunnel.specs.Runs.{AnswerRun, HasPut, IsOwn, OfOneViewer, ReadsBehind, over_of, put_of};
 
 use crate::WsEnd;
 use crate::asking::{acts_of, end_place};
@@ -36,8 +37,7 @@ fn put<R: Wait, B: Bell>(
     bell: &B,
 ) -> Result<(), WsEnd>
     requires { length acts.now ≤ most_acts }
-    ensures session { writer.new.session ≡ writer.old.session }
-    ensures viewer { writer.new.viewer ≡ writer.old.viewer }
+    ensures stays { Stays writer.old writer.new }
     ensures put { HasPut writer.old.viewer writer.old.view writer.new.view acts.now result }
 {
     let written = write_acts(rt, alloc, writer, acts, bell);
@@ -67,12 +67,10 @@ fn read_behind<R: Wait>(
     writer: &mut WriterPass,
     text: &mut Vec<u8>,
 ) -> Result<bool, WsEnd>
-    requires session { writer.old.session ≡ reader.old.session }
-    requires viewer { writer.old.viewer ≡ reader.old.viewer }
+    requires one { OfOneViewer reader.old writer.old }
     requires empty { text.old.items ≡ [] }
     requires going { ended reader.old.view.seen reader.old.viewer ≡ false }
-    ensures session { (reader.new.session ≡ reader.old.session) × (writer.new.session ≡ writer.old.session) }
-    ensures viewer { (reader.new.viewer ≡ reader.old.viewer) × (writer.new.viewer ≡ writer.old.viewer) }
+    ensures stays { Stays reader.old reader.new × Stays writer.old writer.new }
     ensures read { ReadsBehind reader.old.viewer reader.old.view writer.old.view reader.new.view writer.new.view text.new.items result }
 {
     meet(reader, writer);
@@ -94,12 +92,10 @@ fn answer_acts<R: Wait, B: Bell>(
     text: &mut Vec<u8>,
 ) -> Result<bool, WsEnd>
     requires few { length acts.now ≤ most_acts }
-    requires session { writer.old.session ≡ reader.old.session }
-    requires viewer { writer.old.viewer ≡ reader.old.viewer }
+    requires one { OfOneViewer reader.old writer.old }
     requires empty { text.old.items ≡ [] }
     requires going { ended reader.old.view.seen reader.old.viewer ≡ false }
-    ensures session { (reader.new.session ≡ reader.old.session) × (writer.new.session ≡ writer.old.session) }
-    ensures viewer { (reader.new.viewer ≡ reader.old.viewer) × (writer.new.viewer ≡ writer.old.viewer) }
+    ensures stays { Stays reader.old reader.new × Stays writer.old writer.new }
     ensures ran { (message : List ℕ) → IsMessage message acts.now → AnswerRun reader.old.viewer reader.old.view writer.old.view reader.new.view writer.new.view message text.new.items result }
     ensures own { IfErr result IsOwn }
 {
@@ -127,12 +123,10 @@ pub(crate) fn answer<R: Wait, B: Bell>(
     bell: &B,
     text: &mut Vec<u8>,
 ) -> Result<bool, WsEnd>
-    requires session { writer.old.session ≡ reader.old.session }
-    requires viewer { writer.old.viewer ≡ reader.old.viewer }
+    requires one { OfOneViewer reader.old writer.old }
     requires empty { text.old.items ≡ [] }
     requires going { ended reader.old.view.seen reader.old.viewer ≡ false }
-    ensures session { (reader.new.session ≡ reader.old.session) × (writer.new.session ≡ writer.old.session) }
-    ensures viewer { (reader.new.viewer ≡ reader.old.viewer) × (writer.new.viewer ≡ writer.old.viewer) }
+    ensures stays { Stays reader.old reader.new × Stays writer.old writer.new }
     ensures ran { AnswerRun reader.old.viewer reader.old.view writer.old.view reader.new.view writer.new.view message.now text.new.items result }
     ensures own { IfErr result IsOwn }
 {

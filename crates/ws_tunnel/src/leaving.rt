@@ -1,6 +1,6 @@
 //! A viewer leaves.
 
-ghost use Rattle.std.specs.Prelude.{◌≡◌};
+ghost use Rattle.shared_desk.specs.Members.{Stays};
 ghost use Rattle.ws_tunnel.specs.Runs.{LeftNow, Leaves};
 
 use crate::WsEnd;
@@ -10,8 +10,7 @@ use std::sync::Wait;
 
 // Leaves where the viewer is there, and then rings.
 fn leave<R: Wait, B: Bell>(rt: &R, writer: &mut WriterPass, bell: &B)
-    ensures session { writer.new.session ≡ writer.old.session }
-    ensures viewer { writer.new.viewer ≡ writer.old.viewer }
+    ensures stays { Stays writer.old writer.new }
     ensures left { LeftNow writer.old.viewer writer.old.view writer.new.view }
 {
     // So its Leave stands in what the pass has seen.
@@ -23,8 +22,7 @@ fn leave<R: Wait, B: Bell>(rt: &R, writer: &mut WriterPass, bell: &B)
 
 /// Leaves, but where the viewer had left, and rings.
 pub(crate) fn leave_at<R: Wait, B: Bell>(rt: &R, writer: &mut WriterPass, end: WsEnd, bell: &B)
-    ensures session { writer.new.session ≡ writer.old.session }
-    ensures viewer { writer.new.viewer ≡ writer.old.viewer }
+    ensures stays { Stays writer.old writer.new }
     ensures leaves { Leaves end writer.old.viewer writer.old.view writer.new.view }
 {
     match end {

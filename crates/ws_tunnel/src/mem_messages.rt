@@ -73,9 +73,9 @@ impl MemMessages {
 }
 
 impl Messages for MemMessages {
-    ghost use Rattle.std.specs.Prelude.{◌∷◌, ◌≤◌, ◌↔◌, IfErr, IsTrue, OnErr, OnOk, Some};
-    ghost use Rattle.gate_outside.specs.Edge.{Rose};
-    ghost use Rattle.ws_tunnel.specs.Links.{HasReceived, IsFailed, sent_messages};
+    ghost use Rattle.std.specs.Prelude.{◌↔◌, Err, IsTrue, Some};
+    ghost use Rattle.gate_outside.specs.Edge.{CountsFault};
+    ghost use Rattle.ws_tunnel.specs.Links.{HasReceived, HasSent};
     ghost use Rattle.ws_tunnel.specs.declared.got.LinkFailed.TheVariants.{Failed};
 
     ghost left = { λ s. Some s.left };
@@ -91,8 +91,7 @@ impl Messages for MemMessages {
         // The trait's clauses.
         ensures received { HasReceived (Some self.old.left) (Some self.new.left) into.old.items into.new.items result }
         ensures sent { Some self.new.sent ≡ Some self.old.sent }
-        ensures cause { IfErr result (IsFailed (Rose self.old.faults self.new.faults)) }
-        ensures later { self.old.faults ≤ self.new.faults }
+        ensures faults { CountsFault (result ≡ Err Failed) self.old.faults self.new.faults }
     {
         if self.fails() {
             return Err(LinkFailed::Failed);
@@ -114,11 +113,9 @@ impl Messages for MemMessages {
         ensures fails { (result ≡ Err Failed) ↔ IsTrue (link_fails self.old) }
 
         // The trait's clauses.
-        ensures ok { OnOk result (Some self.new.sent ≡ sent_messages (Some self.old.sent) (text.now ∷ [])) }
-        ensures unchanged { OnErr result (Some self.new.sent ≡ Some self.old.sent) }
+        ensures sent { HasSent (Some self.old.sent) (Some self.new.sent) text.now result }
         ensures left { Some self.new.left ≡ Some self.old.left }
-        ensures cause { IfErr result (IsFailed (Rose self.old.faults self.new.faults)) }
-        ensures later { self.old.faults ≤ self.new.faults }
+        ensures faults { CountsFault (result ≡ Err Failed) self.old.faults self.new.faults }
     {
         if self.fails() {
             return Err(LinkFailed::Failed);

@@ -1,6 +1,7 @@
-ghost use Rattle.std.specs.Prelude.{◌≡◌, ◌≤◌, ℕ, [], ◌∷◌, List, Option, IfErr, OnErr, OnOk};
-ghost use Rattle.gate_outside.specs.Edge.{Rose};
-ghost use Rattle.ws_tunnel.specs.Links.{HasReceived, IsFailed, sent_messages};
+ghost use Rattle.std.specs.Prelude.{◌≡◌, ℕ, List, Option, Err};
+ghost use Rattle.gate_outside.specs.Edge.{CountsFault};
+ghost use Rattle.ws_tunnel.specs.Links.{HasReceived, HasSent};
+ghost use Rattle.ws_tunnel.specs.declared.got.LinkFailed.TheVariants.{Failed};
 
 use crate::{Got, LinkFailed};
 use std::sync::Wait;
@@ -22,14 +23,11 @@ pub trait Messages: Drop {
     fn receive<R: Wait>(&mut self, rt: &R, into: &mut Vec<u8>) -> Result<Got, LinkFailed>
         ensures received { HasReceived (left self.old) (left self.new) into.old.items into.new.items result }
         ensures sent { sent self.new ≡ sent self.old }
-        ensures cause { IfErr result (IsFailed (Rose (faults self.old) (faults self.new))) }
-        ensures later { faults self.old ≤ faults self.new };
+        ensures faults { CountsFault (result ≡ Err Failed) (faults self.old) (faults self.new) };
 
     /// Sends a message; refused, none.
     fn send<R: Wait>(&mut self, rt: &R, text: &[u8]) -> Result<(), LinkFailed>
-        ensures ok { OnOk result (sent self.new ≡ sent_messages (sent self.old) (text.now ∷ [])) }
-        ensures unchanged { OnErr result (sent self.new ≡ sent self.old) }
+        ensures sent { HasSent (sent self.old) (sent self.new) text.now result }
         ensures left { left self.new ≡ left self.old }
-        ensures cause { IfErr result (IsFailed (Rose (faults self.old) (faults self.new))) }
-        ensures later { faults self.old ≤ faults self.new };
+        ensures faults { CountsFault (result ≡ Err Failed) (faults self.old) (faults self.new) };
 }

@@ -1,8 +1,8 @@
 //! Messages come and go.
 
-ghost use Rattle.std.specs.Prelude.{◌≡◌, ◌≤◌, [], ◌∷◌, IfErr, IfOk, OnErr, OnOk};
-ghost use Rattle.gate_outside.specs.Edge.{Rose};
-ghost use Rattle.ws_tunnel.specs.Links.{came_messages, end_of_link, sent_messages};
+ghost use Rattle.std.specs.Prelude.{◌≡◌, [], ◌∷◌, Err, IfErr, IfOk};
+ghost use Rattle.gate_outside.specs.Edge.{CountsFault};
+ghost use Rattle.ws_tunnel.specs.Links.{HasSent, came_messages, end_of_link};
 ghost use Rattle.ws_tunnel.specs.Served.{IsLinkEnd, NoMessage};
 ghost use Rattle.ws_tunnel.specs.declared.ends.WsEnd.TheVariants as ends;
 
@@ -29,8 +29,7 @@ pub(crate) fn receive<R: Wait, M: Messages>(
     ensures came { IfOk result (λ message. M.left link.old ≡ came_messages (message.items ∷ []) (M.left link.new)) }
     ensures none { IfErr result (λ end. (M.left link.new ≡ M.left link.old) × NoMessage (M.left link.old) end) }
     ensures sent { M.sent link.new ≡ M.sent link.old }
-    ensures fault { IfErr result (λ end. end ≡ ends.LinkFault → Rose (M.faults link.old) (M.faults link.new)) }
-    ensures later { M.faults link.old ≤ M.faults link.new }
+    ensures faults { CountsFault (result ≡ Err ends.LinkFault) (M.faults link.old) (M.faults link.new) }
 {
     let mut message = Vec::new(alloc);
     match link.receive(rt, &mut message) {
@@ -42,12 +41,10 @@ pub(crate) fn receive<R: Wait, M: Messages>(
 
 /// Sends a text.
 pub(crate) fn send<R: Wait, M: Messages>(rt: &R, link: &mut M, text: &[u8]) -> Result<(), WsEnd>
-    ensures ok { OnOk result (M.sent link.new ≡ sent_messages (M.sent link.old) (text.now ∷ [])) }
-    ensures unchanged { OnErr result (M.sent link.new ≡ M.sent link.old) }
+    ensures sent { HasSent (M.sent link.old) (M.sent link.new) text.now result }
     ensures left { M.left link.new ≡ M.left link.old }
     ensures kind { IfErr result IsLinkEnd }
-    ensures fault { IfErr result (λ end. end ≡ ends.LinkFault → Rose (M.faults link.old) (M.faults link.new)) }
-    ensures later { M.faults link.old ≤ M.faults link.new }
+    ensures faults { CountsFault (result ≡ Err ends.LinkFault) (M.faults link.old) (M.faults link.new) }
 {
     match link.send(rt, text) {
         Ok(()) => Ok(()),

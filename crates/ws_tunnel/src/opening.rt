@@ -1,7 +1,7 @@
 //! The first message is a form, which asks for a place.
 
-ghost use Rattle.std.specs.Prelude.{◌≡◌, ◌≤◌, IfErr, IfOk};
-ghost use Rattle.gate_outside.specs.Edge.{Rose};
+ghost use Rattle.std.specs.Prelude.{◌≡◌, Err, IfOk};
+ghost use Rattle.gate_outside.specs.Edge.{CountsFault};
 ghost use Rattle.guac_handshake.specs.Doors.{Grants};
 ghost use Rattle.shared_desk.specs.Hosts.{IsFresh};
 ghost use Rattle.ws_tunnel.specs.Served.{HasAnsweredForm, HasRefused, OpensDoor, status_for};
@@ -32,8 +32,7 @@ fn status_for(refusal: FormRefusal) -> u16
 fn refuse<R: Wait, M: Messages>(rt: &R, alloc: Global, link: &mut M, status: u16) -> WsEnd
     ensures refused { HasRefused status (M.sent link.old) (M.sent link.new) result }
     ensures left { M.left link.new ≡ M.left link.old }
-    ensures fault { result ≡ ends.LinkFault → Rose (M.faults link.old) (M.faults link.new) }
-    ensures later { M.faults link.old ≤ M.faults link.new }
+    ensures faults { CountsFault (result ≡ ends.LinkFault) (M.faults link.old) (M.faults link.new) }
 {
     let Ok(text) = error(alloc, status) else {
         return WsEnd::NoMemory;
@@ -56,12 +55,9 @@ where
     R: Threads + Wait + Copy + Send + 'static,
     M: Messages,
     D: Door<Place = Place>,
-    ensures opened { OpensDoor D.id_of (D.sessions door.old) (D.sessions door.new) (D.draws door.old) (Grants D.id_of (D.begun door.new) (D.joined door.new)) (D.asked door.old) (D.asked door.new) (D.out door.old) (D.out door.new) (D.dial_faults door.old) (D.dial_faults door.new) (D.start_faults door.old) (D.start_faults door.new) (M.left link.old) (M.left link.new) (M.sent link.old) (M.sent link.new) result }
+    ensures opened { OpensDoor D.id_of (Grants D.id_of (D.begun door.new) (D.joined door.new)) (D.view door.old) (D.view door.new) (M.left link.old) (M.left link.new) (M.sent link.old) (M.sent link.new) result }
     ensures fresh { IfOk result (λ welcome. IsFresh welcome.place welcome.first) }
-    ensures fault { IfErr result (λ end. end ≡ ends.LinkFault → Rose (M.faults link.old) (M.faults link.new)) }
-    ensures later { M.faults link.old ≤ M.faults link.new }
-    ensures later_dials { D.dial_faults door.old ≤ D.dial_faults door.new }
-    ensures later_starts { D.start_faults door.old ≤ D.start_faults door.new }
+    ensures faults { CountsFault (result ≡ Err ends.LinkFault) (M.faults link.old) (M.faults link.new) }
 {
     match receive(rt, alloc, link) {
         Ok(form) => open_for(rt, alloc, link, &form, door),
@@ -81,13 +77,10 @@ where
     R: Threads + Wait + Copy + Send + 'static,
     M: Messages,
     D: Door<Place = Place>,
-    ensures opened { HasAnsweredForm D.id_of (D.sessions door.old) (D.sessions door.new) (D.draws door.old) (Grants D.id_of (D.begun door.new) (D.joined door.new)) (D.asked door.old) (D.asked door.new) (D.out door.old) (D.out door.new) (D.dial_faults door.old) (D.dial_faults door.new) (D.start_faults door.old) (D.start_faults door.new) form.now (M.sent link.old) (M.sent link.new) result }
+    ensures opened { HasAnsweredForm D.id_of (Grants D.id_of (D.begun door.new) (D.joined door.new)) (D.view door.old) (D.view door.new) form.now (M.sent link.old) (M.sent link.new) result }
     ensures left { M.left link.new ≡ M.left link.old }
     ensures fresh { IfOk result (λ welcome. IsFresh welcome.place welcome.first) }
-    ensures fault { IfErr result (λ end. end ≡ ends.LinkFault → Rose (M.faults link.old) (M.faults link.new)) }
-    ensures later { M.faults link.old ≤ M.faults link.new }
-    ensures later_dials { D.dial_faults door.old ≤ D.dial_faults door.new }
-    ensures later_starts { D.start_faults door.old ≤ D.start_faults door.new }
+    ensures faults { CountsFault (result ≡ Err ends.LinkFault) (M.faults link.old) (M.faults link.new) }
 {
     match open_form(rt, alloc, form, door) {
         Ok(welcome) => Ok(welcome),

@@ -1,13 +1,14 @@
 //! A viewer over messages.
 
-ghost use Rattle.std.specs.Prelude.{◌≡◌, ◌≤◌, ℕ, List, [], ◌∷◌, IfErr, false};
+ghost use Rattle.std.specs.Prelude.{◌≡◌, ℕ, List, [], ◌∷◌, Err, false};
 ghost use Rattle.gate_model.specs.session.Delivered.{ended};
-ghost use Rattle.gate_outside.specs.Edge.{Rose};
+ghost use Rattle.gate_outside.specs.Edge.{CountsFault};
 ghost use Rattle.guac_handshake.specs.Doors.{Grants};
 ghost use Rattle.shared_desk.specs.Hosts.{IsFresh};
-ghost use Rattle.ws_tunnel.specs.Links.{came_messages, sent_messages};
-ghost use Rattle.ws_tunnel.specs.Runs.{HasRun, IsStart, NextRun, go_on};
-ghost use Rattle.ws_tunnel.specs.Served.{AsksDoor, HasAnsweredAll, HasServed, HasVisited, IsAdmitted, with_place};
+ghost use Rattle.shared_desk.specs.Members.{Stays};
+ghost use Rattle.ws_tunnel.specs.Links.{Exchanges, sent_messages};
+ghost use Rattle.ws_tunnel.specs.Runs.{HasRun, IsStart, NextRun, OfOneViewer, go_on};
+ghost use Rattle.ws_tunnel.specs.Served.{AsksDoor, HasAnsweredAll, HasServed, HasVisited, IsAdmitted};
 ghost use Rattle.ws_tunnel.specs.declared.ends.WsEnd.TheVariants as ends;
 
 use crate::answering::answer;
@@ -34,15 +35,12 @@ fn answer_message<R: Wait, M: Messages, B: Bell>(
     writer: &mut WriterPass,
     bell: &B,
 ) -> Result<(), WsEnd>
-    requires session { writer.old.session ≡ reader.old.session }
-    requires viewer { writer.old.viewer ≡ reader.old.viewer }
+    requires one { OfOneViewer reader.old writer.old }
     requires going { ended reader.old.view.seen reader.old.viewer ≡ false }
-    ensures session { (reader.new.session ≡ reader.old.session) × (writer.new.session ≡ writer.old.session) }
-    ensures viewer { (reader.new.viewer ≡ reader.old.viewer) × (writer.new.viewer ≡ writer.old.viewer) }
+    ensures stays { Stays reader.old reader.new × Stays writer.old writer.new }
     ensures ran { (sent : List (List ℕ)) × (M.sent link.new ≡ sent_messages (M.sent link.old) sent) × NextRun reader.old.viewer reader.old.view writer.old.view reader.new.view writer.new.view (M.left link.new) (message.now ∷ []) sent result }
     ensures left { M.left link.new ≡ M.left link.old }
-    ensures fault { IfErr result (λ end. end ≡ ends.LinkFault → Rose (M.faults link.old) (M.faults link.new)) }
-    ensures later { M.faults link.old ≤ M.faults link.new }
+    ensures faults { CountsFault (result ≡ Err ends.LinkFault) (M.faults link.old) (M.faults link.new) }
 {
     let mut text = Vec::new(alloc);
     match answer(rt, alloc, message, reader, writer, bell, &mut text) {
@@ -70,14 +68,11 @@ fn answer_next<R: Wait, M: Messages, B: Bell>(
     writer: &mut WriterPass,
     bell: &B,
 ) -> Result<(), WsEnd>
-    requires session { writer.old.session ≡ reader.old.session }
-    requires viewer { writer.old.viewer ≡ reader.old.viewer }
+    requires one { OfOneViewer reader.old writer.old }
     requires going { ended reader.old.view.seen reader.old.viewer ≡ false }
-    ensures session { (reader.new.session ≡ reader.old.session) × (writer.new.session ≡ writer.old.session) }
-    ensures viewer { (reader.new.viewer ≡ reader.old.viewer) × (writer.new.viewer ≡ writer.old.viewer) }
-    ensures ran { (received : List (List ℕ)) × (sent : List (List ℕ)) × (M.left link.old ≡ came_messages received (M.left link.new)) × (M.sent link.new ≡ sent_messages (M.sent link.old) sent) × NextRun reader.old.viewer reader.old.view writer.old.view reader.new.view writer.new.view (M.left link.new) received sent result }
-    ensures fault { IfErr result (λ end. end ≡ ends.LinkFault → Rose (M.faults link.old) (M.faults link.new)) }
-    ensures later { M.faults link.old ≤ M.faults link.new }
+    ensures stays { Stays reader.old reader.new × Stays writer.old writer.new }
+    ensures ran { Exchanges (M.left link.old) (M.left link.new) (M.sent link.old) (M.sent link.new) (λ received sent. NextRun reader.old.viewer reader.old.view writer.old.view reader.new.view writer.new.view (M.left link.new) received sent result) }
+    ensures faults { CountsFault (result ≡ Err ends.LinkFault) (M.faults link.old) (M.faults link.new) }
 {
     match receive(rt, alloc, link) {
         Ok(message) => answer_message(rt, alloc, link, &message, reader, writer, bell),
@@ -95,14 +90,11 @@ fn answer_all<R: Wait, M: Messages, B: Bell>(
     writer: &mut WriterPass,
     bell: &B,
 ) -> WsEnd
-    requires session { writer.old.session ≡ reader.old.session }
-    requires viewer { writer.old.viewer ≡ reader.old.viewer }
+    requires one { OfOneViewer reader.old writer.old }
     requires start { IsStart reader.old.viewer reader.old.view writer.old.view first.now }
-    ensures session { (reader.new.session ≡ reader.old.session) × (writer.new.session ≡ writer.old.session) }
-    ensures viewer { (reader.new.viewer ≡ reader.old.viewer) × (writer.new.viewer ≡ writer.old.viewer) }
-    ensures ran { (received : List (List ℕ)) × (sent : List (List ℕ)) × (M.left link.old ≡ came_messages received (M.left link.new)) × (M.sent link.new ≡ sent_messages (M.sent link.old) sent) × HasRun reader.old.viewer reader.old.view.seen reader.new.view writer.new.view first.now (M.left link.new) received sent result }
-    ensures fault { result ≡ ends.LinkFault → Rose (M.faults link.old) (M.faults link.new) }
-    ensures later { M.faults link.old ≤ M.faults link.new }
+    ensures stays { Stays reader.old reader.new × Stays writer.old writer.new }
+    ensures ran { Exchanges (M.left link.old) (M.left link.new) (M.sent link.old) (M.sent link.new) (λ received sent. HasRun reader.old.viewer reader.old.view.seen reader.new.view writer.new.view first.now (M.left link.new) received sent result) }
+    ensures faults { CountsFault (result ≡ ends.LinkFault) (M.faults link.old) (M.faults link.new) }
 {
     for _ in rt.forever() {
         match answer_next(rt, alloc, link, reader, writer, bell) {
@@ -124,14 +116,11 @@ fn serve<R: Wait, M: Messages, B: Bell>(
     writer: &mut WriterPass,
     bell: &B,
 ) -> WsEnd
-    requires session { writer.old.session ≡ reader.old.session }
-    requires viewer { writer.old.viewer ≡ reader.old.viewer }
+    requires one { OfOneViewer reader.old writer.old }
     requires start { IsStart reader.old.viewer reader.old.view writer.old.view first.now }
-    ensures session { (reader.new.session ≡ reader.old.session) × (writer.new.session ≡ writer.old.session) }
-    ensures viewer { (reader.new.viewer ≡ reader.old.viewer) × (writer.new.viewer ≡ writer.old.viewer) }
-    ensures ran { (received : List (List ℕ)) × (sent : List (List ℕ)) × (M.left link.old ≡ came_messages received (M.left link.new)) × (M.sent link.new ≡ sent_messages (M.sent link.old) sent) × HasAnsweredAll reader.old.viewer reader.old.view.seen id.now first.now reader.new.view writer.new.view (M.left link.new) received sent result }
-    ensures fault { result ≡ ends.LinkFault → Rose (M.faults link.old) (M.faults link.new) }
-    ensures later { M.faults link.old ≤ M.faults link.new }
+    ensures stays { Stays reader.old reader.new × Stays writer.old writer.new }
+    ensures ran { Exchanges (M.left link.old) (M.left link.new) (M.sent link.old) (M.sent link.new) (λ received sent. HasAnsweredAll reader.old.viewer reader.old.view.seen id.now first.now reader.new.view writer.new.view (M.left link.new) received sent result) }
+    ensures faults { CountsFault (result ≡ ends.LinkFault) (M.faults link.old) (M.faults link.new) }
 {
     let Ok(text) = ready(alloc, id, first) else {
         return WsEnd::NoMemory;
@@ -153,14 +142,11 @@ fn visit<R: Wait, M: Messages, B: Bell>(
     writer: &mut WriterPass,
     bell: &B,
 ) -> WsEnd
-    requires session { writer.old.session ≡ reader.old.session }
-    requires viewer { writer.old.viewer ≡ reader.old.viewer }
+    requires one { OfOneViewer reader.old writer.old }
     requires start { IsStart reader.old.viewer reader.old.view writer.old.view first.now }
-    ensures session { (reader.new.session ≡ reader.old.session) × (writer.new.session ≡ writer.old.session) }
-    ensures viewer { (reader.new.viewer ≡ reader.old.viewer) × (writer.new.viewer ≡ writer.old.viewer) }
-    ensures ran { (received : List (List ℕ)) × (sent : List (List ℕ)) × (M.left link.old ≡ came_messages received (M.left link.new)) × (M.sent link.new ≡ sent_messages (M.sent link.old) sent) × HasVisited reader.old.viewer reader.old.view.seen id.now first.now reader.new.view writer.new.view (M.left link.new) received sent result }
-    ensures fault { result ≡ ends.LinkFault → Rose (M.faults link.old) (M.faults link.new) }
-    ensures later { M.faults link.old ≤ M.faults link.new }
+    ensures stays { Stays reader.old reader.new × Stays writer.old writer.new }
+    ensures ran { Exchanges (M.left link.old) (M.left link.new) (M.sent link.old) (M.sent link.new) (λ received sent. HasVisited reader.old.viewer reader.old.view.seen id.now first.now reader.new.view writer.new.view (M.left link.new) received sent result) }
+    ensures faults { CountsFault (result ≡ ends.LinkFault) (M.faults link.old) (M.faults link.new) }
 {
     let end = serve(rt, alloc, link, id, first, reader, writer, bell);
     leave_at(rt, writer, end, bell);
@@ -179,9 +165,8 @@ fn admit<R: Wait, M: Messages, B: Bell>(
     bell: &B,
 ) -> WsRun
     requires fresh { IsFresh welcome.place welcome.first }
-    ensures ran { (received : List (List ℕ)) × (sent : List (List ℕ)) × (M.left link.old ≡ came_messages received (M.left link.new)) × (M.sent link.new ≡ sent_messages (M.sent link.old) sent) × IsAdmitted welcome result.place (M.left link.new) received sent result.end }
-    ensures fault { result.end ≡ ends.LinkFault → Rose (M.faults link.old) (M.faults link.new) }
-    ensures later { M.faults link.old ≤ M.faults link.new }
+    ensures ran { Exchanges (M.left link.old) (M.left link.new) (M.sent link.old) (M.sent link.new) (λ received sent. IsAdmitted welcome result.place (M.left link.new) received sent result.end) }
+    ensures faults { CountsFault (result.end ≡ ends.LinkFault) (M.faults link.old) (M.faults link.new) }
 {
     let Welcome { id, place, first } = welcome;
     let Place {
@@ -223,13 +208,9 @@ where
     M: Messages,
     D: Door<Place = Place>,
     B: Bell,
-    ensures served { (received : List (List ℕ)) × (sent : List (List ℕ)) × (M.left link.old ≡ came_messages received (M.left link.new)) × (M.sent link.new ≡ sent_messages (M.sent link.old) sent) × HasServed result (M.left link.new) received sent }
-    ensures asked { AsksDoor D.id_of (D.sessions door.old) (D.sessions door.new) (D.draws door.old) (Grants D.id_of (D.begun door.new) (D.joined door.new)) (D.asked door.old) (D.asked door.new) (D.dial_faults door.old) (D.dial_faults door.new) (D.start_faults door.old) (D.start_faults door.new) (M.left link.old) result }
-    ensures out { D.out door.new ≡ with_place result.place (D.out door.old) }
-    ensures fault { result.end ≡ ends.LinkFault → Rose (M.faults link.old) (M.faults link.new) }
-    ensures later { M.faults link.old ≤ M.faults link.new }
-    ensures later_dials { D.dial_faults door.old ≤ D.dial_faults door.new }
-    ensures later_starts { D.start_faults door.old ≤ D.start_faults door.new }
+    ensures served { Exchanges (M.left link.old) (M.left link.new) (M.sent link.old) (M.sent link.new) (λ received sent. HasServed result (M.left link.new) received sent) }
+    ensures asked { AsksDoor D.id_of (Grants D.id_of (D.begun door.new) (D.joined door.new)) (D.view door.old) (D.view door.new) (M.left link.old) result }
+    ensures faults { CountsFault (result.end ≡ ends.LinkFault) (M.faults link.old) (M.faults link.new) }
 {
     match open(rt, alloc, link, door) {
         Ok(welcome) => admit(rt, alloc, link, welcome, bell),

@@ -11,17 +11,17 @@ end_read-requires g c = (c.type_bounds.static-D-Pump, (c.type_bounds.static-D-Se
 pub returns-in-Some-clause-read : goal.returns-in-Some-clause-read
 returns-in-Some-clause-read g c =
     let r = c.read_lent-result.ensures in
-    let e = c.end_read.ensures.given in
-    (e.0, e.1, given_as g.D.Door.id_of _ _ e.0 _ _ (λ name of. of_begun c.args.id.now _ (g.T.Shelf.told c.args.tunnels.now) (g.T.Shelf.told c.begin_read.new.tunnels) name c.in-Some.ensures of) e.2, (read_done c.args.id.now c.in-Some.lent _ _ r.read.0 r.read.1 _ e.0 (g.T.Shelf.told c.args.tunnels.now) (g.T.Shelf.told c.begin_read.new.tunnels) (g.T.Shelf.told c.end_read.new.tunnels) c.requires c.in-Some.ensures e.3 r.session r.viewer r.read.2 r.read.3).0)
+    let e = c.end_read.ensures in
+    (e.0, given_as g.D.Door.id_of _ _ e.0 _ _ (λ name of. of_begun c.args.id.now _ (g.T.Shelf.told c.args.tunnels.now) (g.T.Shelf.told c.begin_read.new.tunnels) name c.in-Some.ensures of) e.1, (read_done c.args.id.now c.in-Some.lent _ _ r.read.0 r.read.1 _ e.0 (g.T.Shelf.told c.args.tunnels.now) (g.T.Shelf.told c.begin_read.new.tunnels) (g.T.Shelf.told c.end_read.new.tunnels) c.requires c.in-Some.ensures e.2 r.stays r.read.2 r.read.3).0)
 
 pub returns-in-Some-clause-home : goal.returns-in-Some-clause-home
 returns-in-Some-clause-home g c =
     let r = c.read_lent-result.ensures in
-    let e = c.end_read.ensures.given in
-    (read_done c.args.id.now c.in-Some.lent _ _ r.read.0 r.read.1 _ e.0 (g.T.Shelf.told c.args.tunnels.now) (g.T.Shelf.told c.begin_read.new.tunnels) (g.T.Shelf.told c.end_read.new.tunnels) c.requires c.in-Some.ensures e.3 r.session r.viewer r.read.2 r.read.3).1
+    let e = c.end_read.ensures in
+    (read_done c.args.id.now c.in-Some.lent _ _ r.read.0 r.read.1 _ e.0 (g.T.Shelf.told c.args.tunnels.now) (g.T.Shelf.told c.begin_read.new.tunnels) (g.T.Shelf.told c.end_read.new.tunnels) c.requires c.in-Some.ensures e.2 r.stays r.read.2 r.read.3).1
 
 pub returns-in-None-clause-read : goal.returns-in-None-clause-read
-returns-in-None-clause-read g c = (false, refl, refl, (read_absent c.args.id.now (g.T.Shelf.told c.args.tunnels.now) (g.T.Shelf.told c.begin_read.new.tunnels) c.requires c.in-None.ensures).0)
+returns-in-None-clause-read g c = (false, refl, (read_absent c.args.id.now (g.T.Shelf.told c.args.tunnels.now) (g.T.Shelf.told c.begin_read.new.tunnels) c.requires c.in-None.ensures).0)
 
 pub returns-in-None-clause-home : goal.returns-in-None-clause-home
 returns-in-None-clause-home g c = (read_absent c.args.id.now (g.T.Shelf.told c.args.tunnels.now) (g.T.Shelf.told c.begin_read.new.tunnels) c.requires c.in-None.ensures).1

@@ -11,7 +11,7 @@ returns-in-Ok-None-clause-read g c =
     let b = c.look-in-Ok-None.ensures.looked in (
       a.0 ++ b.0,
       b.1 ∙ (ap (λ (bs : List ℕ). bs ++ b.0) a.1 ∙ append_assoc _ a.0 b.0),
-      read_second_as _ _ _ _ _ a.0 b.0 _ c.look-in-Ok-None.result _ c.in-Ok-None.field-0-is c.settled.ensures c.look.ensures.viewer a.2 b.2,
+      read_second_as _ _ _ _ _ a.0 b.0 _ c.look-in-Ok-None.result _ c.in-Ok-None.field-0-is c.settled.ensures c.look.ensures.stays.viewer a.2 b.2,
     )
 
 pub returns-in-Err-clause-read : goal.returns-in-Err-clause-read

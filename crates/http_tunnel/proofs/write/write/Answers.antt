@@ -16,17 +16,17 @@ end_write-requires g c = (c.type_bounds.static-D-Pump, (c.type_bounds.static-D-S
 pub returns-in-Some-clause-wrote : goal.returns-in-Some-clause-wrote
 returns-in-Some-clause-wrote g c =
     let w = c.write_body-done.ensures in
-    let e = c.end_write.ensures.given in
-    (e.0, e.1, given_as g.D.Door.id_of _ _ e.0 _ _ (λ name so. of_lent c.args.id.now c.in-Some.lent (g.T.Shelf.told c.args.tunnels.now) (g.T.Shelf.told c.lend.new.self) name c.in-Some.ensures so) e.2, (write_done c.args.id.now c.in-Some.lent _ _ c.write_body-done.result _ e.0 c.without_value.result (g.T.Shelf.told c.args.tunnels.now) (g.T.Shelf.told c.lend.new.self) (g.T.Shelf.told c.end_write.new.tunnels) c.requires c.in-Some.ensures e.3 c.is_ended.ensures w.session w.viewer w.wrote c.without_value.ensures).0)
+    let e = c.end_write.ensures in
+    (e.0, given_as g.D.Door.id_of _ _ e.0 _ _ (λ name so. of_lent c.args.id.now c.in-Some.lent (g.T.Shelf.told c.args.tunnels.now) (g.T.Shelf.told c.lend.new.self) name c.in-Some.ensures so) e.1, (write_done c.args.id.now c.in-Some.lent _ _ c.write_body-done.result _ e.0 c.without_value.result (g.T.Shelf.told c.args.tunnels.now) (g.T.Shelf.told c.lend.new.self) (g.T.Shelf.told c.end_write.new.tunnels) c.requires c.in-Some.ensures e.2 c.is_ended.ensures w.stays w.wrote c.without_value.ensures).0)
 
 pub returns-in-Some-clause-home : goal.returns-in-Some-clause-home
 returns-in-Some-clause-home g c =
     let w = c.write_body-done.ensures in
-    let e = c.end_write.ensures.given in
-    (write_done c.args.id.now c.in-Some.lent _ _ c.write_body-done.result _ e.0 c.without_value.result (g.T.Shelf.told c.args.tunnels.now) (g.T.Shelf.told c.lend.new.self) (g.T.Shelf.told c.end_write.new.tunnels) c.requires c.in-Some.ensures e.3 c.is_ended.ensures w.session w.viewer w.wrote c.without_value.ensures).1
+    let e = c.end_write.ensures in
+    (write_done c.args.id.now c.in-Some.lent _ _ c.write_body-done.result _ e.0 c.without_value.result (g.T.Shelf.told c.args.tunnels.now) (g.T.Shelf.told c.lend.new.self) (g.T.Shelf.told c.end_write.new.tunnels) c.requires c.in-Some.ensures e.2 c.is_ended.ensures w.stays w.wrote c.without_value.ensures).1
 
 pub returns-in-None-clause-wrote : goal.returns-in-None-clause-wrote
-returns-in-None-clause-wrote g c = (false, refl, refl, (write_absent c.args.id.now c.args.body.now (g.T.Shelf.told c.args.tunnels.now) (g.T.Shelf.told c.lend.new.self) c.requires c.in-None.ensures).0)
+returns-in-None-clause-wrote g c = (false, refl, (write_absent c.args.id.now c.args.body.now (g.T.Shelf.told c.args.tunnels.now) (g.T.Shelf.told c.lend.new.self) c.requires c.in-None.ensures).0)
 
 pub returns-in-None-clause-home : goal.returns-in-None-clause-home
 returns-in-None-clause-home g c = (write_absent c.args.id.now c.args.body.now (g.T.Shelf.told c.args.tunnels.now) (g.T.Shelf.told c.lend.new.self) c.requires c.in-None.ensures).1

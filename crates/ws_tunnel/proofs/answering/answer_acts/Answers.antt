@@ -8,16 +8,16 @@ use Rattle.ws_tunnel.proofs.answering.answer_acts.Goals as goal
 pub returns-then-count-acts-clause-ran : goal.returns-then-count-acts-clause-ran
 returns-then-count-acts-clause-ran g c = λ message is.
     let asks : asks_end c.args.acts.now ≡ true = ap (λ (n : ℕ). nat_lt n (length c.args.acts.now)) (sym c.end_place-count.ensures) ∙ lt-ltb c.end_place-count.result (length c.args.acts.now) (omega (arith, c.if-count-acts.true)) in
-    put_ends_as c.args.reader.now.viewer c.args.writer.now.viewer _ _ _ message c.args.acts.now _ c.in-Ok.field-0 c.requires.viewer is asks (front_is c.args.acts.now c.end_place-count.result _ c.end_place-count.ensures refl) c.in-Ok.ensures.put
+    put_ends_as c.args.reader.now.viewer c.args.writer.now.viewer _ _ _ message c.args.acts.now _ c.in-Ok.field-0 c.requires.one.viewer is asks (front_is c.args.acts.now c.end_place-count.result _ c.end_place-count.ensures refl) c.in-Ok.ensures.put
 
 pub returns-else-count-acts-clause-ran : goal.returns-else-count-acts-clause-ran
 returns-else-count-acts-clause-ran g c = λ message is.
     let asks : asks_end c.args.acts.now ≡ false = ap (λ (n : ℕ). nat_lt n (length c.args.acts.now)) (sym c.end_place-count.ensures) ∙ le-ltb c.end_place-count.result (length c.args.acts.now) (omega (arith, c.if-count-acts.false)) in
-    answers c.args.reader.now.viewer c.args.writer.now.viewer _ _ _ _ _ message _ c.args.acts.now _ c.in-Ok.field-0 c.read_behind.result is asks (front_is c.args.acts.now c.end_place-count.result _ c.end_place-count.ensures refl) c.in-Ok.ensures.put c.requires.viewer c.read_behind.ensures.read
+    answers c.args.reader.now.viewer c.args.writer.now.viewer _ _ _ _ _ message _ c.args.acts.now _ c.in-Ok.field-0 c.read_behind.result is asks (front_is c.args.acts.now c.end_place-count.result _ c.end_place-count.ensures refl) c.in-Ok.ensures.put c.requires.one.viewer c.read_behind.ensures.read
 
 pub returns-in-Err-clause-ran : goal.returns-in-Err-clause-ran
 returns-in-Err-clause-ran g c = λ message is.
-    put_stops_as c.args.reader.now.viewer c.args.writer.now.viewer _ _ _ message c.args.acts.now _ c.in-Err.end c.requires.viewer is (front_is c.args.acts.now c.end_place-count.result _ c.end_place-count.ensures refl) c.in-Err.ensures.put
+    put_stops_as c.args.reader.now.viewer c.args.writer.now.viewer _ _ _ message c.args.acts.now _ c.in-Err.end c.requires.one.viewer is (front_is c.args.acts.now c.end_place-count.result _ c.end_place-count.ensures refl) c.in-Err.ensures.put
 
 pub returns-else-count-acts-clause-own : goal.returns-else-count-acts-clause-own
 returns-else-count-acts-clause-own g c = read_own c.args.reader.now.viewer c.put.new.writer.view c.read_behind.new.reader.view c.read_behind.new.writer.view c.read_behind.result c.read_behind.ensures.read.end

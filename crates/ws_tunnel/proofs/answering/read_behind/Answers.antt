@@ -23,9 +23,9 @@ returns-clause-read g c =
     let r = c.read-answer.result in
     let before = c.args.text.now.items in
     let after = c.read-answer.new.into.items in
-    let e1 : c.meet.new.reader.viewer ≡ viewer = c.meet.ensures.viewer.0 in
-    let e2 : c.read-answer.new.self.viewer ≡ viewer = c.read-answer.ensures.viewer ∙ e1 in
-    let ew : c.meet.new.writer.viewer ≡ viewer = c.meet.ensures.viewer.1 ∙ c.requires.viewer in
+    let e1 : c.meet.new.reader.viewer ≡ viewer = c.meet.ensures.stays.0.viewer in
+    let e2 : c.read-answer.new.self.viewer ≡ viewer = c.read-answer.ensures.stays.viewer ∙ e1 in
+    let ew : c.meet.new.writer.viewer ≡ viewer = c.meet.ensures.stays.1.viewer ∙ c.requires.one.viewer in
     let d = subst (λ (n : ℕ). (more : List Instr) × (delivered r2.seen n ≡ delivered r1.seen n ++ more) × (after ≡ before ++ texts more)) e1 c.read-answer.ensures.delivered in
     reads_behind viewer c.args.reader.now.view c.args.writer.now.view r1 w1 r2 r3 w3 r before after
     c.meet.ensures.met
@@ -33,7 +33,7 @@ returns-clause-read g c =
     c.meet-2.ensures.met
     c.meet.ensures.own
     c.meet-2.ensures.own
-    (subst (λ (n : ℕ). written_by n w1.seen ≡ written_by n (own_entries w1)) c.requires.viewer c.meet.ensures.written)
+    (subst (λ (n : ℕ). written_by n w1.seen ≡ written_by n (own_entries w1)) c.requires.one.viewer c.meet.ensures.written)
     (subst (λ (n : ℕ). written_by n w3.seen ≡ written_by n (own_entries w3)) ew c.meet-2.ensures.written)
     c.meet.ensures.marks.0
     c.requires.going

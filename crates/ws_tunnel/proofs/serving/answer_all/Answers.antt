@@ -1,17 +1,18 @@
-use Rattle.std.proofs.Common.{◌≡◌, ◌++◌, ◌∙◌, [], ap, refl, sym, subst, arith, List, Option, ℕ, false}
+use Rattle.std.proofs.Common.{◌≡◌, ◌++◌, ◌∙◌, [], ap, sym, subst, arith, List, Option, ℕ, false}
 use Rattle.gate_model.specs.session.Delivered.{ended}
 use Rattle.ws_tunnel.specs.Links.{came_messages, sent_messages}
 use Rattle.ws_tunnel.proofs.Going.{far_last, far_next, far_none}
+use Rattle.ws_tunnel.proofs.Meeting.{still_one, stayed, stays_on}
 use Rattle.ws_tunnel.proofs.Openings.{came_none, came_twice, sent_none, sent_twice}
 use Rattle.ws_tunnel.proofs.serving.answer_all.Goals as goal
 
 pub loop-init : goal.loop-init
-loop-init g c = record { session = (refl, refl); viewer = (refl, refl); so_far = ([], [], sym (came_none _), sym (sent_none _), far_none _ _ _ _ c.requires.start); later = omega arith }
+loop-init g c = record { stays = (stayed _, stayed _); so_far = ([], [], sym (came_none _), sym (sent_none _), far_none _ _ _ _ c.requires.start); later = omega arith }
 
 pub answer_next-requires : goal.answer_next-requires
 answer_next-requires g c =
     let i = c.loop.invariant in
-    record { session = i.session.1 ∙ (c.requires.session ∙ sym i.session.0); viewer = i.viewer.1 ∙ (c.requires.viewer ∙ sym i.viewer.0); going = subst (λ (n : ℕ). ended c.loop.reader.view.seen n ≡ false) (sym i.viewer.0) i.so_far.4.going }
+    record { one = still_one _ _ _ _ c.requires.one i.stays.0 i.stays.1; going = subst (λ (n : ℕ). ended c.loop.reader.view.seen n ≡ false) (sym i.stays.0.viewer) i.so_far.4.going }
 
 pub loop-preserved : goal.loop-preserved
 loop-preserved g c =
@@ -20,16 +21,15 @@ loop-preserved g c =
     let n = c.answer_next.ensures in
     let s = c.in-Ok.ensures.ran in
     record {
-      session = (n.session.0 ∙ i.session.0, n.session.1 ∙ i.session.1);
-      viewer = (n.viewer.0 ∙ i.viewer.0, n.viewer.1 ∙ i.viewer.1);
+      stays = (stays_on _ _ _ i.stays.0 n.stays.0, stays_on _ _ _ i.stays.1 n.stays.1);
       so_far = (
         p.0 ++ s.0,
         p.1 ++ s.1,
         p.2 ∙ (ap (λ (o : Option (List (List ℕ))). came_messages p.0 o) s.2 ∙ came_twice p.0 s.0 _),
         s.3 ∙ (ap (λ (o : Option (List (List ℕ))). sent_messages o s.1) p.3 ∙ sent_twice _ p.1 s.1),
-        far_next _ _ _ _ _ _ _ p.4 _ _ _ (g.M.Messages.left c.answer_next.new.link) _ _ _ i.viewer.0 s.4,
+        far_next _ _ _ _ _ _ _ p.4 _ _ _ (g.M.Messages.left c.answer_next.new.link) _ _ _ i.stays.0.viewer s.4,
       );
-      later = omega (arith, i.later, n.later);
+      later = omega (arith, i.later, n.faults.1);
     }
 
 pub returns-in-Err-clause-ran : goal.returns-in-Err-clause-ran
@@ -41,5 +41,5 @@ returns-in-Err-clause-ran g c =
       p.1 ++ s.1,
       p.2 ∙ (ap (λ (o : Option (List (List ℕ))). came_messages p.0 o) s.2 ∙ came_twice p.0 s.0 _),
       s.3 ∙ (ap (λ (o : Option (List (List ℕ))). sent_messages o s.1) p.3 ∙ sent_twice _ p.1 s.1),
-      far_last _ _ _ _ _ _ _ p.4 _ _ _ _ _ _ c.in-Err.end i.viewer.0 s.4,
+      far_last _ _ _ _ _ _ _ p.4 _ _ _ _ _ _ c.in-Err.end i.stays.0.viewer s.4,
     )

@@ -8,8 +8,8 @@ pub returns-clause-ran : goal.returns-clause-ran
 returns-clause-ran g c =
     let viewer = c.args.reader.now.viewer in
     let s = c.serve-end.ensures.ran in
-    let e : c.serve-end.new.reader.viewer ≡ viewer = c.serve-end.ensures.viewer.0 in
-    let ew : c.serve-end.new.writer.viewer ≡ viewer = c.serve-end.ensures.viewer.1 ∙ c.requires.viewer in
+    let e : c.serve-end.new.reader.viewer ≡ viewer = c.serve-end.ensures.stays.0.viewer in
+    let ew : c.serve-end.new.writer.viewer ≡ viewer = c.serve-end.ensures.stays.1.viewer ∙ c.requires.one.viewer in
     let k = s.4 in (
       s.0,
       s.1,
