@@ -6,6 +6,7 @@ use Rattle.gate_model.specs.declared.sharing.Asked.{Asked}
 use Rattle.id_table.specs.Maps.{Changed, IsLent, Same, Told, had, lent_as}
 use Rattle.guac_handshake.specs.Doors.{IsAbsent, KeepsIds, MeetsHistory, MeetsTold, SameId, at_name, logged, one_more_out}
 use Rattle.guac_handshake.specs.Names.{id_of_name}
+use Rattle.guac_handshake.specs.Views.{IsLetIn}
 use Rattle.guac_handshake.specs.declared.refused.Refused.{Refused}
 use Rattle.guac_handshake.specs.declared.refused.Refused.TheVariants.{Absent, Conflict, Dial, Busy, Closed, Forbidden, TooMany, Worn, NoMemory}
 use Rattle.guac_handshake.specs.declared.request.Request.{Request}
@@ -132,9 +133,10 @@ same_name name id (Ok welcome) is named = named ∙ is
 same_name name id (Err refused) is named = tt
 
 -- what is said of a welcome in one
-pub all_of : {P : Type 0} (Fresh Named Asked : Welcome P → Type 0) (r : Result (Welcome P) Refused) → IfOk r Fresh → IfOk r Named → IfOk r Asked → IfOk r (λ welcome. Fresh welcome × Named welcome × Asked welcome)
-all_of Fresh Named Asked (Ok welcome) fresh named asked = (fresh, named, asked)
-all_of Fresh Named Asked (Err refused) fresh named asked = tt
+pub let_in : {P : Type 0} (is_fresh : P → List ℕ → Type 0) (name : List ℕ) (says : Welcome P → Type 0) (r : Result (Welcome P) Refused) → IfOk r (λ welcome. is_fresh welcome.place welcome.first) → IfOk r (λ welcome. id_of_name welcome.id ≡ id_of_name name) → IfOk r says
+    → IfOk r (IsLetIn is_fresh id_of_name name says)
+let_in is_fresh name says (Ok welcome) fresh same joined = record { fresh = fresh; same_id = same; joined = joined }
+let_in is_fresh name says (Err refused) fresh same joined = tt
 
 -- ---- what the calls of this door alone tell
 
@@ -175,14 +177,16 @@ history_there None = refl
 history_there (Some None) = refl
 history_there (Some (Some s)) = refl
 
-abbrev pub Looks : List ℕ → Bool → Table → Table → Type 0
-Looks id b m n = (b ≡ is_some (m id)) × Same m n
+abbrev pub Finds : List ℕ → Bool → Table → Table → Type 0
+Finds id b m n = (b ≡ is_some (m id)) × Same m n
 
-pub look_unlent : (r t : Option Table) (id : List ℕ) (b : Bool) → NoneLent r → Told r t (Looks id b) → NoneLent t
-look_unlent r t id b h s = after_call r t (Looks id b) (λ m n free p k lent. free k (sym (p.1 k) ∙ lent)) h s
+pub find_unlent : (r t : Option Table) (id : List ℕ) (b : Bool) → NoneLent r → Told r t (Finds id b) → NoneLent t
+find_unlent r t id b h s = after_call r t (Finds id b) (λ m n free p k lent. free k (sym (p.1 k) ∙ lent)) h s
 
-pub looked : (r t : Option Table) (name : Option (List ℕ)) (id : List ℕ) (b : Bool) → Some id ≡ name → Told r t (Looks id b) → Told (sessions_of r) (sessions_of t) (λ m n. (b ≡ is_some (at_name name m)) × Same m n)
-looked r t name id b is s = sessions_so r t (Looks id b) (λ m n. (b ≡ is_some (at_name name m)) × Same m n) (λ m n p. (
-  p.0 ∙ (history_there (m id) ∙ ap (λ (x : Option (List ℕ)). is_some (at_name x (histories m))) is),
-  λ k. ap history_of (p.1 k),
-)) s
+pub found : (r t : Option Table) (name : Option (List ℕ)) (id : List ℕ) (b : Bool) → Some id ≡ name → Told r t (Finds id b) → IfSome (sessions_of r) (λ m. b ≡ is_some (at_name name m))
+found None t name id b is s = tt
+found (Some m) None name id b is s = absurd s
+found (Some m) (Some n) name id b is s = s.0 ∙ (history_there (m id) ∙ ap (λ (x : Option (List ℕ)). is_some (at_name x (histories m))) is)
+
+pub find_same : (r t : Option Table) (id : List ℕ) (b : Bool) → Told r t (Finds id b) → Told (sessions_of r) (sessions_of t) Same
+find_same r t id b s = sessions_so r t (Finds id b) Same (λ m n p k. ap history_of (p.1 k)) s

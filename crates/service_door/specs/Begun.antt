@@ -57,6 +57,12 @@ pub record HasPrepared (host : HostState) (s : SessionState) : Type 0 where
   pub seen : s.host.view.seen ≡ host.view.seen
   pub places : s.places ≡ 1
 
+-- a session for the table, with one place out: its owner's, and what that is given first
+pub record IsMade (wanted : Bool) (faces : Faces) (ask : Ask) (session : SessionState) (place : Place) (given : List ℕ) : Type 0 where
+  pub started : HasStarted wanted faces ask place session.host
+  pub places : session.places ≡ 1
+  pub fresh : IsFresh place given
+
 -- a session of this name is in the table, so begun; one place of it is out, and a recorder's isn't counted
 pub record IsBegunAt (wanted : Bool) (faces : Faces) (m : Shelved SessionState) (ask : Ask) (welcome : Welcome Place) : Type 0 where
   pub id : List ℕ

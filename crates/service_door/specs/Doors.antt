@@ -4,6 +4,7 @@ use Rattle.gate_model.specs.Sequences.{IsLater}
 use Rattle.gate_model.specs.session.History.{is_closed}
 use Rattle.gate_model.specs.session.Rights.{is_live}
 use Rattle.gate_model.specs.declared.answer.Answer.TheVariants.{Close as closed, Leave as left}
+use Rattle.gate_model.specs.declared.cause.Cause.{Cause}
 use Rattle.gate_model.specs.declared.cause.Cause.TheVariants.{Stopped}
 use Rattle.gate_model.specs.declared.closed.Closed.{Closed}
 use Rattle.gate_model.specs.declared.entry.Entry.{Entry}
@@ -60,13 +61,15 @@ IsCounted s t = t ≡ record s { places = one_less s.places }
 abbrev pub GiveChanges : Option (List ℕ) → Table → Table → Type 0
 GiveChanges name m n = ((id : List ℕ) → name ≡ Some id → Both IsCounted (m id) (n id)) × OthersStay name m n
 
--- the session was closed with Stopped, or was closed before
-pub record IsStopped (s t : SessionState) : Type 0 where
+-- the session was closed for this cause, or was closed before
+pub record IsClosed (cause : Cause) (result : Result (Unit {0}) Closed) (s t : SessionState) : Type 0 where
   pub goes_on : GoesOn s t
-  pub result : Result (Unit {0}) Closed
-  pub called : Called s.host.view (Close Stopped) (Ok (closed result)) t.host.view
+  pub called : Called s.host.view (Close cause) (Ok (closed result)) t.host.view
   pub shut : is_closed t.host.view.seen ≡ true
   pub places : t.places ≡ s.places
+
+abbrev pub IsStopped : SessionState → SessionState → Type 0
+IsStopped s t = (result : Result (Unit {0}) Closed) × IsClosed Stopped result s t
 
 -- the session that was under this name was stopped
 abbrev pub StopsUnder : Option (List ℕ) → Table → Type 0

@@ -1,7 +1,9 @@
 -- A session in the table, as contracts see it (this project's own).
-use Rattle.std.specs.Prelude.{◌≡◌, ℕ, ◌+◌, ◌-◌, ◌^◌, ◌==◌, min, nat_lt, List, Bool, true, ◌&&◌, if◌then◌else◌, Option, Some, None}
+use Rattle.std.specs.Prelude.{◌≡◌, ℕ, ◌+◌, ◌-◌, ◌^◌, ◌==◌, min, nat_lt, List, Bool, true, false, refl, ◌&&◌, if◌then◌else◌, Option, Some, None}
 use Rattle.gate_model.specs.session.History.{History}
+use Rattle.gate_outside.specs.Helpers.{HelperView}
 use Rattle.guac_handshake.specs.Doors.{Sessions}
+use Rattle.guac_handshake.specs.Views.{DoorView}
 use Rattle.id_table.specs.Maps.{IsLent, Shelved}
 use Rattle.shared_desk.specs.Hosts.{HostState}
 use Rattle.service_door.specs.declared.marks.Ended.{Ended}
@@ -27,6 +29,9 @@ have_both_ended ended = ended.pump && ended.sender
 abbrev pub may_leave : Ended → ℕ → Bool
 may_leave ended places = places == 0 && have_both_ended ended
 
+leaves_once_both_ended : (may_leave (record { pump = true; sender = true }) 0 ≡ true) × (may_leave (record { pump = true; sender = false }) 0 ≡ false) × (may_leave (record { pump = true; sender = true }) 1 ≡ false)
+leaves_once_both_ended = (refl, refl, refl)
+
 -- .. as somebody told of its jobs
 abbrev pub IsOver : (SessionState → Ended → Type 0) → SessionState → Type 0
 IsOver tells session = (ended : Ended) × tells session ended × (may_leave ended session.places ≡ true)
@@ -38,6 +43,9 @@ is_passed_over deserted most = nat_lt (if deserted.joinable then most else 0) de
 -- .. and no place of it is out
 abbrev pub is_deserted : Deserted → ℕ → ℕ → Bool
 is_deserted deserted most places = places == 0 && is_passed_over deserted most
+
+deserted_past_the_last_look : (is_deserted (record { looks = 3; joinable = true }) 2 0 ≡ true) × (is_deserted (record { looks = 2; joinable = true }) 2 0 ≡ false) × (is_deserted (record { looks = 1; joinable = false }) 2 0 ≡ true)
+deserted_past_the_last_look = (refl, refl, refl)
 
 -- .. as somebody told
 abbrev pub HasNobody : (SessionState → Deserted → Type 0) → ℕ → SessionState → Type 0
@@ -56,6 +64,10 @@ histories m id = history_of (m id)
 abbrev pub sessions_of : Option (Shelved SessionState) → Option Sessions
 sessions_of None = None
 sessions_of (Some m) = Some (histories m)
+
+-- what a door over a table tells, and by a helper: neither its places nor what it was asked
+abbrev pub door_view : Option (Shelved SessionState) → HelperView → DoorView
+door_view told helper = record { sessions = sessions_of told; out = None; asked = None; helper = helper }
 
 -- no session is lent, where the shelf tells
 abbrev pub NoneLent : {V : Type 0} → Option (Shelved V) → Type 0

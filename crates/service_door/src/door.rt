@@ -13,7 +13,7 @@ use crate::recorder::RecorderJob;
 use crate::refusals::refused_of;
 use crate::session::Session;
 use gate_model::{Asked, Bytes, Faces, Text};
-use gate_outside::{Bell, Counted, DialFault, Helper, Way};
+use gate_outside::{Bell, DialFault, Helper, Way};
 use guac_handshake::{Ask, Begun, Door, NAME_BYTES, Refused, Welcome, id_named, name_in, name_of};
 use id_table::{AddRefusal, Shelf};
 use shared_desk::Place;
@@ -59,25 +59,16 @@ impl<'a, T: Shelf<Session>, H: Helper, B: Bell> ServiceDoor<'a, T, H, B> {
     }
 }
 
-impl<'a, T: Shelf<Session>, H: Helper, B: Bell + Send + 'static> Counted
-    for ServiceDoor<'a, T, H, B> {
-    ghost dial_faults = { λ d. H.dial_faults d.helper.now };
-
-    ghost start_faults = { λ d. H.start_faults d.helper.now };
-
-    ghost draws = { λ d. H.draws d.helper.now };
-}
-
 impl<'a, T: Shelf<Session>, H: Helper, B: Bell + Send + 'static> Door for ServiceDoor<'a, T, H, B> {
-    ghost use Rattle.std.specs.Prelude.{◌≡◌, None, IfErr, IfOk, IfSome, is_some};
-    ghost use Rattle.guac_handshake.specs.Doors.{IsAbsent, IsJoinRefusal, KeepsIds, MeetsHistory, RemovedOne, at_name, logged, one_more_out, option_less};
-    ghost use Rattle.guac_handshake.specs.declared.request.Request.TheVariants.{Join as join_request};
+    ghost use Rattle.std.specs.Prelude.{IfErr, IfOk, IfSome, is_some};
+    ghost use Rattle.guac_handshake.specs.Doors.{IsJoinRefusal};
     ghost use Rattle.guac_handshake.specs.Names.{id_of_name};
+    ghost use Rattle.guac_handshake.specs.Views.{Gives, IsLetIn, Joins, Undoes};
     ghost use Rattle.id_table.specs.Maps.{Told};
     ghost use Rattle.shared_desk.specs.Hosts.{IsFresh};
     ghost use Rattle.service_door.specs.Begun.{IsBegun, IsJoined};
     ghost use Rattle.service_door.specs.Doors.{GiveChanges, HasLeft, JoinChanges, StopsUnder};
-    ghost use Rattle.service_door.specs.Sessions.{sessions_of};
+    ghost use Rattle.service_door.specs.Sessions.{door_view};
 
     type Place = Place;
 
@@ -89,11 +80,7 @@ impl<'a, T: Shelf<Session>, H: Helper, B: Bell + Send + 'static> Door for Servic
 
     ghost id_of = { λ name. id_of_name name };
 
-    ghost sessions = { λ d. sessions_of (T.told d.sessions.now) };
-
-    ghost out = { λ _. None };
-
-    ghost asked = { λ _. None };
+    ghost view = { λ d. door_view (T.told d.sessions.now) (H.helper d.helper.now) };
 
     ghost begun = { λ d ask welcome. IsBegun (is_some d.recorder) d.faces (T.told d.sessions.now) ask welcome };
 
@@ -176,10 +163,7 @@ impl<'a, T: Shelf<Session>, H: Helper, B: Bell + Send + 'static> Door for Servic
     }
 
     fn undo<R: Wait>(&mut self, rt: &R, id: &Text)
-        ensures dials { H.dial_faults self.new.helper.now ≡ H.dial_faults self.old.helper.now }
-        ensures starts { H.start_faults self.new.helper.now ≡ H.start_faults self.old.helper.now }
-        ensures gone { Told (sessions_of (T.told self.old.sessions.now)) (sessions_of (T.told self.new.sessions.now)) (RemovedOne (id_of_name id.now)) }
-        ensures out { None ≡ option_less None }
+        ensures undoes { Undoes (id_of_name id.now) (door_view (T.told self.old.sessions.now) (H.helper self.old.helper.now)) (door_view (T.told self.new.sessions.now) (H.helper self.new.helper.now)) }
 
         // Of this door alone.
         ensures stopped { IfSome (T.told self.old.sessions.now) (StopsUnder (id_of_name id.now)) }
@@ -200,13 +184,8 @@ impl<'a, T: Shelf<Session>, H: Helper, B: Bell + Send + 'static> Door for Servic
         role: Asked,
     ) -> Result<Welcome<Place>, Refused>
         ensures kind { IfErr result IsJoinRefusal }
-        ensures counts { (H.dial_faults self.new.helper.now ≡ H.dial_faults self.old.helper.now) × (H.start_faults self.new.helper.now ≡ H.start_faults self.old.helper.now) }
-        ensures welcome { IfOk result (λ welcome. (IsFresh welcome.place welcome.first) × (id_of_name welcome.id ≡ id_of_name name.now) × (IsJoined (T.told self.new.sessions.now) role welcome)) }
-        ensures absent { Told (sessions_of (T.told self.old.sessions.now)) (sessions_of (T.told self.new.sessions.now)) (λ m n. IsAbsent result (is_some (at_name (id_of_name name.now) m))) }
-        ensures ids { Told (sessions_of (T.told self.old.sessions.now)) (sessions_of (T.told self.new.sessions.now)) (KeepsIds (id_of_name name.now)) }
-        ensures history { IfSome (sessions_of (T.told self.new.sessions.now)) (λ n. MeetsHistory (at_name (id_of_name name.now) n) role result) }
-        ensures out { None ≡ one_more_out result None }
-        ensures asked { None ≡ logged None (join_request name.now role) result }
+        ensures joins { Joins (id_of_name name.now) name.now role result (door_view (T.told self.old.sessions.now) (H.helper self.old.helper.now)) (door_view (T.told self.new.sessions.now) (H.helper self.new.helper.now)) }
+        ensures welcome { IfOk result (IsLetIn IsFresh id_of_name name.now (IsJoined (T.told self.new.sessions.now) role)) }
 
         // Of this door alone.
         ensures joined { Told (T.told self.old.sessions.now) (T.told self.new.sessions.now) (JoinChanges (id_of_name name.now) role result) }
@@ -223,10 +202,7 @@ impl<'a, T: Shelf<Session>, H: Helper, B: Bell + Send + 'static> Door for Servic
     }
 
     fn give<R: Wait>(&mut self, rt: &R, id: &str, place: Place)
-        ensures dials { H.dial_faults self.new.helper.now ≡ H.dial_faults self.old.helper.now }
-        ensures starts { H.start_faults self.new.helper.now ≡ H.start_faults self.old.helper.now }
-        ensures ids { Told (sessions_of (T.told self.old.sessions.now)) (sessions_of (T.told self.new.sessions.now)) (KeepsIds (id_of_name id.now)) }
-        ensures out { None ≡ option_less None }
+        ensures gives { Gives (id_of_name id.now) (door_view (T.told self.old.sessions.now) (H.helper self.old.helper.now)) (door_view (T.told self.new.sessions.now) (H.helper self.new.helper.now)) }
 
         // Of this door alone.
         ensures left { HasLeft place.reader.viewer place.reader.view }

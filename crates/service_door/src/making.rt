@@ -1,8 +1,7 @@
 //! A session as it is made for the table.
 
-ghost use Rattle.std.specs.Prelude.{◌≡◌, IfOk};
-ghost use Rattle.shared_desk.specs.Hosts.{IsFresh};
-ghost use Rattle.service_door.specs.Begun.{HasStarted};
+ghost use Rattle.std.specs.Prelude.{IfOk};
+ghost use Rattle.service_door.specs.Begun.{IsMade};
 
 use crate::jobs::{PumpJob, SenderJob};
 use crate::marks::SharedMarks;
@@ -48,9 +47,7 @@ pub(crate) fn make<R: Wait, S: Drop, K: Drop, C: Drop, B: Bell>(
     parts: Parts<S, K, C>,
     bell: &B,
 ) -> Result<Made<S, K, C, B>, NoMemory>
-    ensures started { IfOk result (λ made. HasStarted parts.wanted parts.faces ask.now made.place made.session.host) }
-    ensures places { IfOk result (λ made. made.session.places ≡ 1) }
-    ensures fresh { IfOk result (λ made. IsFresh made.place made.first) }
+    ensures { IfOk result (λ made. IsMade parts.wanted parts.faces ask.now made.session made.place made.first) }
 {
     let Parts {
         now,

@@ -1,6 +1,6 @@
 //! A session in the table.
 
-ghost use Rattle.std.specs.Prelude.{◌≡◌, ◌≤◌, ℕ, List, Err, IfOk, IfSome, OnErr, length};
+ghost use Rattle.std.specs.Prelude.{◌≡◌, ◌≤◌, ℕ, List, Err, IfOk, IfSome, length};
 ghost use Rattle.service_door.specs.Sessions.{HasNobody, IsOver};
 
 use crate::marks::{Deserted, Ended, SharedMarks};
@@ -35,13 +35,9 @@ impl Model for Session {
 }
 
 impl Session {
-    ghost use Rattle.std.specs.Prelude.{Ok, true};
-    ghost use Rattle.gate_model.specs.session.History.{is_closed};
-    ghost use Rattle.gate_model.specs.declared.answer.Answer.TheVariants.{Close as closed};
-    ghost use Rattle.gate_model.specs.declared.event.Event.TheVariants.{Close};
-    ghost use Rattle.shared_desk.specs.Called.{Called};
+    ghost use Rattle.std.specs.Prelude.{if◌then◌else◌, is_ok};
     ghost use Rattle.shared_desk.specs.Hosts.{JoinEnds};
-    ghost use Rattle.service_door.specs.Doors.{GoesOn, IsStopped};
+    ghost use Rattle.service_door.specs.Doors.{IsClosed, IsStopped};
     ghost use Rattle.service_door.specs.Sessions.{is_deserted, may_leave, one_less, one_more};
 
     /// Lets a viewer join, by `HostPass::join`. Its place is then out.
@@ -54,8 +50,7 @@ impl Session {
         ensures step { JoinEnds self.old.host.view role result self.new.host.view into.old.items into.new.items }
         ensures place { IfOk result (λ place. (place.reader.session ≡ self.old.host.session) × (place.writer.session ≡ self.old.host.session)) }
         ensures session { self.new.host.session ≡ self.old.host.session }
-        ensures out { IfOk result (λ _. self.new.places ≡ one_more self.old.places) }
-        ensures unchanged { OnErr result (self.new.places ≡ self.old.places) }
+        ensures out { self.new.places ≡ (if is_ok result then one_more self.old.places else self.old.places) }
     {
         let place = self.host.join(rt, role, into)?;
         self.places = self.places.saturating_add(1);
@@ -80,10 +75,7 @@ impl Session {
 
     /// Closes the session where it is open.
     pub(crate) fn close<R: Wait>(&mut self, rt: &R, cause: Cause) -> Result<(), Closed>
-        ensures called { Called self.old.host.view (Close cause) (Ok (closed result)) self.new.host.view }
-        ensures goes_on { GoesOn self.old self.new }
-        ensures shut { is_closed self.new.host.view.seen ≡ true }
-        ensures places { self.new.places ≡ self.old.places }
+        ensures { IsClosed cause result self.old self.new }
     {
         let closed = self.host.close(rt, cause);
         if closed.is_ok() {

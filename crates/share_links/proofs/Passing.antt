@@ -4,10 +4,12 @@ use Rattle.std.specs.Prelude.{◌⊎◌, ◌&&◌, ◌||◌, if◌then◌else◌
 use Rattle.gate_model.specs.session.History.{History}
 use Rattle.gate_model.specs.declared.sharing.Asked.{Asked}
 use Rattle.gate_model.specs.declared.sharing.Asked.TheVariants.{Owner, Control, View, Keep}
-use Rattle.guac_handshake.specs.Doors.{KeepsIds, MeetsHistory, SameId, Sessions, at_name}
+use Rattle.guac_handshake.specs.Doors.{IsAbsent, KeepsIds, MeetsHistory, SameId, Sessions, at_name, logged, one_more_out, option_less}
 use Rattle.guac_handshake.specs.Names.{id_of_name}
+use Rattle.guac_handshake.specs.Views.{DoorView, Gives, Joins, Looks}
 use Rattle.guac_handshake.specs.declared.refused.Refused.{Refused}
 use Rattle.guac_handshake.specs.declared.request.Request.{Request}
+use Rattle.guac_handshake.specs.declared.request.Request.TheVariants.{Join}
 use Rattle.guac_handshake.specs.declared.welcome.Welcome.{Welcome}
 use Rattle.id_table.specs.Maps.{Map, Same, Told}
 use Rattle.share_links.specs.Doors.{Answers, HasName, Through, Uses, at_link, given_as, is_known_at, leads_there, role_through, session_of}
@@ -15,13 +17,12 @@ use Rattle.share_links.specs.Links.{Leads, Spends, is_usable}
 use Rattle.share_links.specs.declared.link.Link.{Link}
 use Rattle.share_links.specs.declared.table.Spent.{Spent}
 
--- what is told of the sessions before and after, and what follows from it
-told_as : (o p : Option Sessions) (P Q : Sessions → Sessions → Type 0) → ((m n : Sessions) → P m n → Q m n) → Told o p P → Told o p Q
-told_as None None P Q f t = tt
-told_as None (Some n) P Q f t = absurd t
-told_as (Some m) None P Q f t = absurd t
-told_as (Some m) (Some n) P Q f t = f m n t
+-- what is told of the sessions, and what follows from it
+if_so : (o : Option Sessions) (P Q : Sessions → Type 0) → ((m : Sessions) → P m → Q m) → IfSome o P → IfSome o Q
+if_so None P Q f t = tt
+if_so (Some m) P Q f t = f m t
 
+-- .. of the sessions before, between and after two calls
 told_on : (o p q : Option Sessions) (P Q R : Sessions → Sessions → Type 0) → ((m n l : Sessions) → P m n → Q n l → R m l) → Told o p P → Told p q Q → Told o q R
 told_on None None None P Q R f t u = tt
 told_on None None (Some l) P Q R f t u = absurd u
@@ -35,86 +36,113 @@ same_at : {V : Type 0} (name : Option (List ℕ)) (m n : Map V) → Same m n →
 same_at None m n h = refl
 same_at (Some id) m n h = h id
 
+-- ---- a call of the inner door, behind one that looked
+
+kept_after : (to : Option (List ℕ)) (m n l : Sessions) → Same m n → KeepsIds to n l → KeepsIds to m l
+kept_after to m n l h g = λ k. (subst (λ (o : Option (Option History)). SameId o (l k)) (h k) (g k).0, λ ne. (g k).1 ne ∙ h k)
+
+module _ (a b c : DoorView) (l : Looks a b) where
+  pub looks_on : Looks b c → Looks a c
+  looks_on k = record {
+    sessions = told_on a.sessions b.sessions c.sessions Same Same Same (λ m n o h i x. i x ∙ h x) l.sessions k.sessions;
+    out = k.out ∙ l.out;
+    asked = k.asked ∙ l.asked;
+    helper = k.helper ∙ l.helper;
+  }
+
+  pub gives_on : (to : Option (List ℕ)) → Gives to b c → Gives to a c
+  gives_on to g = record {
+    ids = told_on a.sessions b.sessions c.sessions Same (KeepsIds to) (KeepsIds to) (kept_after to) l.sessions g.ids;
+    out = g.out ∙ ap option_less l.out;
+    asked = g.asked ∙ l.asked;
+    helper = g.helper ∙ l.helper;
+  }
+
+  pub joins_on : {A : Type 0} (id : Option (List ℕ)) (name : List ℕ) (role : Asked) (r : Result A Refused) → Joins id name role r b c → Joins id name role r a c
+  joins_on id name role r j = record {
+    absent = told_on a.sessions b.sessions c.sessions Same (λ m n. IsAbsent r (is_some (at_name id m))) (λ m n. IsAbsent r (is_some (at_name id m))) (λ m n o h g. subst (λ (x : Bool). IsAbsent r x) (ap is_some (same_at id m n h)) g) l.sessions j.absent;
+    ids = told_on a.sessions b.sessions c.sessions Same (KeepsIds id) (KeepsIds id) (kept_after id) l.sessions j.ids;
+    history = j.history;
+    out = j.out ∙ ap (one_more_out r) l.out;
+    asked = j.asked ∙ ap (λ (log : Option (List Request)). logged log (Join name role) r) l.asked;
+    helper = j.helper ∙ l.helper;
+  }
+
 -- ---- which link a name is
 
 module _ (links : Map Link) (name : List ℕ) where
   pub link_at : (named : Option (List ℕ)) (id : List ℕ) → named ≡ id_of_name name → named ≡ Some id → at_link name links ≡ links id
   link_at named id is some = ap (λ (o : Option (List ℕ)). at_name o links) (sym is ∙ some)
 
-  module _ (id_of : List ℕ → Option (List ℕ)) (has : Bool) (is : has ≡ false) where
-    abbrev Looks : Sessions → Sessions → Type 0
-    Looks m n = (has ≡ is_some (at_name (id_of name) m)) × Same m n
+  pub no_link : (named : Option (List ℕ)) → named ≡ id_of_name name → named ≡ None → at_link name links ≡ None
+  no_link named is none = ap (λ (o : Option (List ℕ)). at_name o links) (sym is ∙ none)
 
-    absent : (m n : Sessions) → Looks m n → is_some (at_name (id_of name) m) ≡ false
-    absent m n h = sym h.0 ∙ is
+  -- what the inner door says of the name
+  module _ (id_of : List ℕ → Option (List ℕ)) (has : Bool) where
+    abbrev Has : Sessions → Type 0
+    Has m = has ≡ is_some (at_name (id_of name) m)
 
-    -- ---- known
+    -- ---- it knows it
 
-    known_by : (m n : Sessions) (l : Option Link) → at_link name links ≡ l → Looks m n → is_known_at id_of m links name ≡ leads_there id_of m l
-    known_by m n l at h = ap (λ (b : Bool). b || leads_there id_of m (at_link name links)) (absent m n h) ∙ ap (λ (o : Option Link). leads_there id_of m o) at
+    pub given_itself : has ≡ true → (o : Option Sessions) → IfSome o Has → IfSome o (λ m. name ≡ given_as id_of m links name)
+    given_itself is o t = if_so o Has (λ m. name ≡ given_as id_of m links name) (λ m h. ap (λ (b : Bool). if b then name else session_of name (at_link name links)) (sym is ∙ h)) t
 
-    leads_usable : (m : Sessions) (l : Option Link) (spent : Spent) → Leads (Some spent) l → is_usable l ≡ true → leads_there id_of m l ≡ is_some (at_name (id_of spent.id.now) m)
-    leads_usable m None spent leads usable = absurd leads
-    leads_usable m (Some link) spent leads usable = ap (λ (b : Bool). b && is_some (at_name (id_of link.id) m)) usable ∙ ap (λ (i : List ℕ). is_some (at_name (id_of i) m)) (sym leads.0)
+    -- ---- it doesn't
 
-    leads_unusable : (m : Sessions) (l : Option Link) → is_usable l ≡ false → leads_there id_of m l ≡ false
-    leads_unusable m None usable = refl
-    leads_unusable m (Some link) usable = ap (λ (b : Bool). b && is_some (at_name (id_of link.id) m)) usable
+    module _ (is : has ≡ false) where
+      absent : (m : Sessions) → Has m → is_some (at_name (id_of name) m) ≡ false
+      absent m h = sym h ∙ is
 
-    leads_nowhere : (m : Sessions) (l : Option Link) → Leads None l → leads_there id_of m l ≡ false
-    leads_nowhere m None leads = refl
-    leads_nowhere m (Some link) leads = absurd leads
+      pub has_none : (o : Option Sessions) → IfSome o Has → HasName id_of o name false
+      has_none o t = if_so o Has (λ m. false ≡ is_some (at_name (id_of name) m)) (λ m h. sym is ∙ h) t
 
-    pub known_link : (o p q : Option Sessions) (l : Option Link) (spent : Spent) (r : Bool) → at_link name links ≡ l → Leads (Some spent) l → is_usable l ≡ true → Told o p Looks
-        → Told p q (λ m n. (r ≡ is_some (at_name (id_of spent.id.now) m)) × Same m n) → Told o q (λ m n. (r ≡ is_known_at id_of m links name) × Same m n)
-    known_link o p q l spent r at leads usable t u =
-        told_on o p q Looks (λ m n. (r ≡ is_some (at_name (id_of spent.id.now) m)) × Same m n) (λ m n. (r ≡ is_known_at id_of m links name) × Same m n)
-        (λ m n k h g. (
-          g.0 ∙ (ap is_some (same_at (id_of spent.id.now) m n h.1) ∙ sym (known_by m n l at h ∙ leads_usable m l spent leads usable)),
-          λ i. g.1 i ∙ h.1 i,
-        )) t u
+      known_by : (m : Sessions) (l : Option Link) → at_link name links ≡ l → Has m → is_known_at id_of m links name ≡ leads_there id_of m l
+      known_by m l at h = ap (λ (b : Bool). b || leads_there id_of m (at_link name links)) (absent m h) ∙ ap (λ (o : Option Link). leads_there id_of m o) at
 
-    pub known_unusable : (o p : Option Sessions) (l : Option Link) (r : Bool) → at_link name links ≡ l → is_usable l ≡ false → r ≡ false → Told o p Looks → Told o p (λ m n. (r ≡ is_known_at id_of m links name) × Same m n)
-    known_unusable o p l r at usable e t =
-        told_as o p Looks (λ m n. (r ≡ is_known_at id_of m links name) × Same m n) (λ m n h. (e ∙ sym (known_by m n l at h ∙ leads_unusable m l usable), h.1)) t
+      leads_usable : (m : Sessions) (l : Option Link) (spent : Spent) → Leads (Some spent) l → is_usable l ≡ true → leads_there id_of m l ≡ is_some (at_name (id_of spent.id.now) m)
+      leads_usable m None spent leads usable = absurd leads
+      leads_usable m (Some link) spent leads usable = ap (λ (b : Bool). b && is_some (at_name (id_of link.id) m)) usable ∙ ap (λ (i : List ℕ). is_some (at_name (id_of i) m)) (sym leads.0)
 
-    pub known_nowhere : (o p : Option Sessions) (l : Option Link) → at_link name links ≡ l → Leads None l → Told o p Looks → Told o p (λ m n. (false ≡ is_known_at id_of m links name) × Same m n)
-    known_nowhere o p l at leads t =
-        told_as o p Looks (λ m n. (false ≡ is_known_at id_of m links name) × Same m n) (λ m n h. (sym (known_by m n l at h ∙ leads_nowhere m l leads), h.1)) t
+      leads_unusable : (m : Sessions) (l : Option Link) → is_usable l ≡ false → leads_there id_of m l ≡ false
+      leads_unusable m None usable = refl
+      leads_unusable m (Some link) usable = ap (λ (b : Bool). b && is_some (at_name (id_of link.id) m)) usable
 
-    -- ---- give
+      leads_nowhere : (m : Sessions) (l : Option Link) → Leads None l → leads_there id_of m l ≡ false
+      leads_nowhere m None leads = refl
+      leads_nowhere m (Some link) leads = absurd leads
 
-    kept_after : (to : Option (List ℕ)) (m n l : Sessions) → Same m n → KeepsIds to n l → KeepsIds to m l
-    kept_after to m n l h g = λ k. (subst (λ (o : Option (Option History)). SameId o (l k)) (h k) (g k).0, λ ne. (g k).1 ne ∙ h k)
+      pub known_link : (o p : Option Sessions) (l : Option Link) (spent : Spent) (r : Bool) → at_link name links ≡ l → Leads (Some spent) l → is_usable l ≡ true → IfSome o Has → Told o p Same
+          → IfSome p (λ m. r ≡ is_some (at_name (id_of spent.id.now) m)) → IfSome o (λ m. r ≡ is_known_at id_of m links name)
+      known_link None p l spent r at leads usable h t u = tt
+      known_link (Some m) None l spent r at leads usable h t u = absurd t
+      known_link (Some m) (Some n) l spent r at leads usable h t u =
+          u ∙ (ap is_some (same_at (id_of spent.id.now) m n t) ∙ sym (known_by m l at h ∙ leads_usable m l spent leads usable))
 
-    given_by : (m n : Sessions) (l : Option Link) → at_link name links ≡ l → Looks m n → given_as id_of m links name ≡ session_of name l
-    given_by m n l at h = ap (λ (b : Bool). if b then name else session_of name (at_link name links)) (absent m n h) ∙ ap (λ (o : Option Link). session_of name o) at
+      pub known_unusable : (o : Option Sessions) (l : Option Link) (r : Bool) → at_link name links ≡ l → is_usable l ≡ false → r ≡ false → IfSome o Has → IfSome o (λ m. r ≡ is_known_at id_of m links name)
+      known_unusable o l r at usable e t = if_so o Has (λ m. r ≡ is_known_at id_of m links name) (λ m h. e ∙ sym (known_by m l at h ∙ leads_unusable m l usable)) t
 
-    session_led : (l : Option Link) (spent : Spent) → Leads (Some spent) l → session_of name l ≡ spent.id.now
-    session_led None spent leads = absurd leads
-    session_led (Some link) spent leads = sym leads.0
+      pub known_nowhere : (o : Option Sessions) (l : Option Link) → at_link name links ≡ l → Leads None l → IfSome o Has → IfSome o (λ m. false ≡ is_known_at id_of m links name)
+      known_nowhere o l at leads t = if_so o Has (λ m. false ≡ is_known_at id_of m links name) (λ m h. sym (known_by m l at h ∙ leads_nowhere m l leads)) t
 
-    session_none : (l : Option Link) → Leads None l → session_of name l ≡ name
-    session_none None leads = refl
-    session_none (Some link) leads = absurd leads
+      given_by : (m : Sessions) (l : Option Link) → at_link name links ≡ l → Has m → given_as id_of m links name ≡ session_of name l
+      given_by m l at h = ap (λ (b : Bool). if b then name else session_of name (at_link name links)) (absent m h) ∙ ap (λ (o : Option Link). session_of name o) at
 
-    given_to : (o p q : Option Sessions) (l : Option Link) (to : List ℕ) → at_link name links ≡ l → session_of name l ≡ to → Told o p Looks → Told p q (KeepsIds (id_of to)) → Told o q (λ m n. KeepsIds (id_of (given_as id_of m links name)) m n)
-    given_to o p q l to at is t u =
-        told_on o p q Looks (KeepsIds (id_of to)) (λ m n. KeepsIds (id_of (given_as id_of m links name)) m n)
-        (λ m n k h g. subst (λ (i : List ℕ). KeepsIds (id_of i) m k) (sym (given_by m n l at h ∙ is)) (kept_after (id_of to) m n k h.1 g)) t u
+      session_led : (l : Option Link) (spent : Spent) → Leads (Some spent) l → session_of name l ≡ spent.id.now
+      session_led None spent leads = absurd leads
+      session_led (Some link) spent leads = sym leads.0
 
-    pub given_link : (o p q : Option Sessions) (l : Option Link) (spent : Spent) → at_link name links ≡ l → Leads (Some spent) l → Told o p Looks → Told p q (KeepsIds (id_of spent.id.now)) → Told o q (λ m n. KeepsIds (id_of (given_as id_of m links name)) m n)
-    given_link o p q l spent at leads t u = given_to o p q l spent.id.now at (session_led l spent leads) t u
+      session_none : (l : Option Link) → Leads None l → session_of name l ≡ name
+      session_none None leads = refl
+      session_none (Some link) leads = absurd leads
 
-    pub given_name : (o p q : Option Sessions) (l : Option Link) → at_link name links ≡ l → Leads None l → Told o p Looks → Told p q (KeepsIds (id_of name)) → Told o q (λ m n. KeepsIds (id_of (given_as id_of m links name)) m n)
-    given_name o p q l at leads t u = given_to o p q l name at (session_none l leads) t u
+      given_to : (o : Option Sessions) (l : Option Link) (to : List ℕ) → at_link name links ≡ l → session_of name l ≡ to → IfSome o Has → IfSome o (λ m. to ≡ given_as id_of m links name)
+      given_to o l to at led t = if_so o Has (λ m. to ≡ given_as id_of m links name) (λ m h. sym (given_by m l at h ∙ led)) t
 
-    -- the inner door was asked, and doesn't have the name
-    pub has_none : (o p : Option Sessions) → Told o p Looks → HasName id_of o name false
-    has_none None None t = tt
-    has_none None (Some n) t = tt
-    has_none (Some m) None t = absurd t
-    has_none (Some m) (Some n) t = sym is ∙ t.0
+      pub given_link : (o : Option Sessions) (l : Option Link) (spent : Spent) → at_link name links ≡ l → Leads (Some spent) l → IfSome o Has → IfSome o (λ m. spent.id.now ≡ given_as id_of m links name)
+      given_link o l spent at leads t = given_to o l spent.id.now at (session_led l spent leads) t
+
+      pub given_name : (o : Option Sessions) (l : Option Link) → at_link name links ≡ l → Leads None l → IfSome o Has → IfSome o (λ m. name ≡ given_as id_of m links name)
+      given_name o l at leads t = given_to o l name at (session_none l leads) t
 
 -- ---- join
 
@@ -134,11 +162,22 @@ meets_at None role v w h = tt
 meets_at (Some None) role v w h = tt
 meets_at (Some (Some past)) role v w h = h
 
-pub met : (P : Type 0) (name : Option (List ℕ)) (o : Option Sessions) (role : Asked) (v w : Welcome P) → IfSome o (λ now. MeetsHistory {A = Welcome P} (at_name name now) role (Ok v)) → IfSome o (λ now. MeetsHistory {A = Welcome P} (at_name name now) role (Ok w))
+met : (P : Type 0) (name : Option (List ℕ)) (o : Option Sessions) (role : Asked) (v w : Welcome P) → IfSome o (λ now. MeetsHistory {A = Welcome P} (at_name name now) role (Ok v)) → IfSome o (λ now. MeetsHistory {A = Welcome P} (at_name name now) role (Ok w))
 met P name None role v w h = tt
 met P name (Some m) role v w h = meets_at (at_name name m) role v w h
 
-module _ (P : Type 0) (id_of : List ℕ → Option (List ℕ)) (name : List ℕ) (role : Asked) (id : List ℕ) (m n : Map Link) (spent : Spent) (given : Asked) (asked before : Option (List Request)) (named : id_of_name name ≡ Some id) (s : Spends id true m n) (leads : Leads (Some spent) (n id)) (is : given ≡ role_through spent.control role) (still : before ≡ asked) where
+-- .. and is a join as well
+pub joins_as : (P : Type 0) (id : Option (List ℕ)) (name : List ℕ) (role : Asked) (v w : Welcome P) (a b : DoorView) → Joins {A = Welcome P} id name role (Ok v) a b → Joins {A = Welcome P} id name role (Ok w) a b
+joins_as P id name role v w a b j = record {
+  absent = j.absent;
+  ids = j.ids;
+  history = met P id b.sessions role v w j.history;
+  out = j.out;
+  asked = j.asked;
+  helper = j.helper;
+}
+
+module _ (P : Type 0) (id_of : List ℕ → Option (List ℕ)) (name : List ℕ) (role : Asked) (id : List ℕ) (m n : Map Link) (spent : Spent) (given : Asked) (named : id_of_name name ≡ Some id) (s : Spends id true m n) (leads : Leads (Some spent) (n id)) (is : given ≡ role_through spent.control role) where
   abbrev pub link_before : Link
   link_before = s.1.0
 
@@ -151,13 +190,11 @@ module _ (P : Type 0) (id_of : List ℕ → Option (List ℕ)) (name : List ℕ)
   same_role : given ≡ role_through link_before.control role
   same_role = is ∙ ap (λ (b : Bool). role_through b role) (led.1 ∙ s.1.3.control)
 
-  pub through : (o : Option Sessions) (after : Map Link) (now : Option (List Request)) (result : Result (Welcome P) Refused) → Uses id result m after → Answers id_of o spent.id.now name given before now result
-      → Through id_of o name role id link_before m after asked now result
-  through o after now result used answers = record {
+  pub through : (after : Map Link) (result : Result (Welcome P) Refused) (a b : DoorView) → Uses id result m after → Answers id_of spent.id.now name given result a b → Through id_of name role id link_before m after result a b
+  through after result a b used answers = record {
     named = named;
     found = s.1.2;
     uses = used;
-    answers = subst (λ (l : Option (List Request)). Answers id_of o link_before.id name (role_through link_before.control role) l now result) still
-        (subst (λ (r : Asked). Answers id_of o link_before.id name r before now result) same_role
-        (subst (λ (i : List ℕ). Answers id_of o i name given before now result) same_session answers));
+    answers = subst (λ (r : Asked). Answers id_of link_before.id name r result a b) same_role
+        (subst (λ (i : List ℕ). Answers id_of i name given result a b) same_session answers);
   }

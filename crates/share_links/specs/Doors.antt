@@ -3,14 +3,13 @@
 use Rattle.std.specs.Prelude.{◌≡◌, ◌⊎◌, ℕ, List, Bool, true, false, ◌&&◌, ◌||◌, if◌then◌else◌, Option, Some, None, IfSome, IfOk, Result, Ok, Err, is_some, refl}
 use Rattle.gate_model.specs.declared.sharing.Asked.{Asked}
 use Rattle.gate_model.specs.declared.sharing.Asked.TheVariants.{Owner, Control, View, Keep}
-use Rattle.guac_handshake.specs.Doors.{KeepsIds, MeetsHistory, Sessions, at_name, logged}
+use Rattle.guac_handshake.specs.Doors.{Sessions, at_name}
 use Rattle.guac_handshake.specs.Names.{id_of_name}
+use Rattle.guac_handshake.specs.Views.{DoorView, Gives, Joins, Looks}
 use Rattle.guac_handshake.specs.declared.refused.Refused.{Refused}
 use Rattle.guac_handshake.specs.declared.refused.Refused.TheVariants.{Absent, NoMemory}
-use Rattle.guac_handshake.specs.declared.request.Request.{Request}
-use Rattle.guac_handshake.specs.declared.request.Request.TheVariants.{Join}
 use Rattle.guac_handshake.specs.declared.welcome.Welcome.{Welcome}
-use Rattle.id_table.specs.Maps.{Map, Told}
+use Rattle.id_table.specs.Maps.{Map}
 use Rattle.share_links.specs.Links.{GivesBack, Spends, is_usable}
 use Rattle.share_links.specs.declared.door.LinkDoor.{LinkDoor}
 use Rattle.share_links.specs.declared.link.Link.{Link}
@@ -22,6 +21,14 @@ module _ {D : Type 0} where
 
   abbrev pub table_of : LinkDoor D → LinkTable
   table_of d = d.links.now
+
+  -- it holds the same loans of the two
+  abbrev pub HasLoansOf : LinkDoor D → LinkDoor D → Type 0
+  HasLoansOf old new = (new.inner.ghost_name ≡ old.inner.ghost_name) × (new.links.ghost_name ≡ old.links.ghost_name)
+
+-- what it tells: neither sessions nor what it was asked, and else what the door inside it tells
+abbrev pub told_through : DoorView → DoorView
+told_through inner = record inner { sessions = None; asked = None }
 
 -- Control where the link has it and the joiner asks for it; else View
 abbrev pub role_through : Bool → Asked → Asked
@@ -64,28 +71,28 @@ abbrev pub Uses : {A : Type 0} → List ℕ → Result A Refused → Map Link �
 Uses link (Ok a) m n = Spends link true m n
 Uses link (Err refused) m n = (mid : Map Link) × Spends link true m mid × GivesBack link mid n
 
--- a join of a session under its own name, of which the joiner is told another: what the door answers, or, where it let the
--- viewer in, want of memory for that other name, which is told last: the place went back to the door
-pub data Answers {P : Type 0} (id_of : List ℕ → Option (List ℕ)) (sessions_new : Option Sessions) (id name : List ℕ) (role : Asked) (asked asked_new : Option (List Request)) (result : Result (Welcome P) Refused) : Type 0 where
-  Answered : asked_new ≡ logged asked (Join id role) result → IfSome sessions_new (λ now. MeetsHistory (at_name (id_of id) now) role result) → IfOk result (λ welcome. welcome.id ≡ name) → Answers id_of sessions_new id name role asked asked_new result
-  Returned : result ≡ Err NoMemory → (at_join : Option Sessions) (welcome : Welcome P) → asked_new ≡ logged asked (Join id role) (Ok welcome) → IfSome at_join (λ now. MeetsHistory {A = Welcome P} (at_name (id_of id) now) role (Ok welcome)) → Told at_join sessions_new (KeepsIds (id_of id))
-      → Answers id_of sessions_new id name role asked asked_new result
+-- a join of a session under its own name, of which the joiner is told another: what the inner door answers, or, where it
+-- let the viewer in, want of memory for that other name, which is told last: the place went back to the door
+pub data Answers {P : Type 0} (id_of : List ℕ → Option (List ℕ)) (id name : List ℕ) (role : Asked) (result : Result (Welcome P) Refused) (before after : DoorView) : Type 0 where
+  Answered : Joins (id_of id) id role result before after → IfOk result (λ welcome. welcome.id ≡ name) → Answers id_of id name role result before after
+  Returned : result ≡ Err NoMemory → (at_join : DoorView) (welcome : Welcome P) → Joins (id_of id) id role (Ok welcome) before at_join → Gives (id_of id) at_join after → Answers id_of id name role result before after
 
 -- a join through a link: the inner door was asked for the link's session, with the right that both the link has and the
 -- joiner asks, and answers; the joiner is told the name that it gave
-pub record Through {P : Type 0} (id_of : List ℕ → Option (List ℕ)) (sessions_new : Option Sessions) (name : List ℕ) (role : Asked) (id : List ℕ) (link : Link) (m n : Map Link) (asked asked_new : Option (List Request)) (result : Result (Welcome P) Refused) : Type 0 where
+pub record Through {P : Type 0} (id_of : List ℕ → Option (List ℕ)) (name : List ℕ) (role : Asked) (id : List ℕ) (link : Link) (m n : Map Link) (result : Result (Welcome P) Refused) (before after : DoorView) : Type 0 where
   pub named : id_of_name name ≡ Some id
   pub found : m id ≡ Some link
   pub uses : Uses id result m n
-  pub answers : Answers id_of sessions_new link.id name (role_through link.control role) asked asked_new result
+  pub answers : Answers id_of link.id name (role_through link.control role) result before after
 
--- what a join does, by whether the inner door knows the name. Want of memory is told only where the rules refuse nothing
-pub data Joins {P : Type 0} (has : Bool) (id_of : List ℕ → Option (List ℕ)) (sessions_new : Option Sessions) (name : List ℕ) (role : Asked) (m n : Map Link) (asked asked_new : Option (List Request)) (result : Result (Welcome P) Refused) : Type 0 where
+-- what a join does of the links and of the inner door, by whether that knows the name. Want of memory is told only where the
+-- rules refuse nothing
+pub data JoinsThrough {P : Type 0} (id_of : List ℕ → Option (List ℕ)) (name : List ℕ) (role : Asked) (m n : Map Link) (result : Result (Welcome P) Refused) (before after : DoorView) : Type 0 where
   -- it does: it is asked for that
-  Inside : has ≡ true → m ≡ n → asked_new ≡ logged asked (Join name role) result → IfSome sessions_new (λ now. MeetsHistory (at_name (id_of name) now) role result) → Joins has id_of sessions_new name role m n asked asked_new result
+  Inside : HasName id_of before.sessions name true → n ≡ m → Joins (id_of name) name role result before after → JoinsThrough id_of name role m n result before after
   -- there is no such link, or nobody may join by it
-  Unusable : has ≡ false → is_usable (at_link name m) ≡ false → result ≡ Err Absent → m ≡ n → asked_new ≡ asked → Joins has id_of sessions_new name role m n asked asked_new result
-  ByLink : has ≡ false → (id : List ℕ) (link : Link) → Through id_of sessions_new name role id link m n asked asked_new result → Joins has id_of sessions_new name role m n asked asked_new result
+  Unusable : HasName id_of before.sessions name false → is_usable (at_link name m) ≡ false → result ≡ Err Absent → n ≡ m → Looks before after → JoinsThrough id_of name role m n result before after
+  ByLink : HasName id_of before.sessions name false → (id : List ℕ) (link : Link) → Through id_of name role id link m n result before after → JoinsThrough id_of name role m n result before after
 
 -- the inner door says so of a place: its viewer joined as it asked, or to look on, and was told some ID
 abbrev pub IsJoinedAs : {P : Type 0} → (Asked → Welcome P → Type 0) → Asked → Welcome P → Type 0
@@ -101,3 +108,9 @@ session_of name (Some link) = link.id
 -- the name under which the inner door takes a place back
 abbrev pub given_as : (List ℕ → Option (List ℕ)) → Sessions → Map Link → List ℕ → List ℕ
 given_as id_of m links name = if is_some (at_name (id_of name) m) then name else session_of name (at_link name links)
+
+-- a place was given back to the inner door, under that name
+pub record GivesThrough (id_of : List ℕ → Option (List ℕ)) (links : Map Link) (name : List ℕ) (before after : DoorView) : Type 0 where
+  pub given : List ℕ
+  pub as_given : IfSome before.sessions (λ m. given ≡ given_as id_of m links name)
+  pub gives : Gives (id_of given) before after

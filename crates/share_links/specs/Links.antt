@@ -1,6 +1,7 @@
 -- Links that let people join a session, and what each call does to them (this project's own). A link is found by its
 -- ID, the list of its 16 bytes.
-use Rattle.std.specs.Prelude.{◌≡◌, ℕ, ◌+◌, ◌-◌, ◌&&◌, List, Bool, true, false, not, nat_lt, Option, Some, None}
+use Rattle.std.specs.Prelude.{◌≡◌, ℕ, ◌+◌, ◌-◌, ◌&&◌, List, Bool, true, false, not, nat_lt, Option, Some, None, IfSome}
+use Rattle.id_table.specs.Draws.{AreNext, AreThere}
 use Rattle.id_table.specs.Maps.{Changed, Map, Same}
 use Rattle.id_table.specs.Tables.{held}
 use Rattle.share_links.specs.declared.link.Link.{Link}
@@ -75,3 +76,7 @@ Leads (Some spent) (Some link) = (spent.id.now ≡ link.id) × (spent.control �
 abbrev pub IfConflict : LinkRefusal → (List (List ℕ) → Type 0) → Type 0
 IfConflict (Conflict drawn) P = P drawn
 IfConflict NoMemory P = Unit {0}
+
+-- four IDs are there, which are those of the next four draws, where the dice tell them
+abbrev pub AreDrawnThere : Option (ℕ → List ℕ) → Map Link → List (List ℕ) → Type 0
+AreDrawnThere drawn m ids = AreThere m 4 ids × IfSome drawn (λ draws. AreNext draws 4 ids)

@@ -3,12 +3,12 @@ use Rattle.std.specs.Prelude.{◌≡◌, ℕ, List, [], ◌∷◌, true, false, 
 use Rattle.guac_handshake.specs.Doors.{Sessions}
 use Rattle.guac_handshake.specs.declared.form_refusal.FormRefusal.{FormRefusal}
 use Rattle.guac_handshake.specs.declared.form_refusal.FormRefusal.TheVariants as form
-use Rattle.id_table.specs.Draws.{AreNext, AreThere, IsFirstAbsent}
+use Rattle.id_table.specs.Draws.{IsFirstAbsent}
 use Rattle.id_table.specs.Maps.{Map, Same}
 use Rattle.uuid.specs.Text.{hyphenated_text, lower}
 use Rattle.share_links.specs.Doors.{HasName}
 use Rattle.share_links.specs.Forms.{IsForm, IsNoForm}
-use Rattle.share_links.specs.Links.{Makes, Revokes}
+use Rattle.share_links.specs.Links.{AreDrawnThere, Makes, Revokes}
 use Rattle.share_links.specs.declared.form.Wanted.{Wanted}
 use Rattle.share_links.specs.declared.link.Link.{Link}
 use Rattle.http_front.specs.declared.refusal.Refusal.{Refusal}
@@ -43,7 +43,7 @@ pub record IsUnknown (id_of : List ℕ → Option (List ℕ)) (sessions : Option
 
 -- four IDs are there: those of the next four draws, where the dice tell them
 abbrev pub FourAreThere : Option (ℕ → List ℕ) → Map Link → Type 0
-FourAreThere drawn m = (ids : List (List ℕ)) × AreThere m 4 ids × IfSome drawn (λ draws. AreNext draws 4 ids)
+FourAreThere drawn m = (ids : List (List ℕ)) × AreDrawnThere drawn m ids
 
 -- the link that a form wants was made, under the first of the next IDs that is absent, and its name is the answer; or
 -- none was, for the first cause that holds

@@ -1,7 +1,7 @@
 //! One request, answered.
 
 ghost use Rattle.std.specs.Prelude.{◌≡◌, ◌≤◌, ℕ, List, [], Result, vec_capacity};
-ghost use Rattle.id_table.specs.Maps.{Same, Told};
+ghost use Rattle.guac_handshake.specs.Views.{Looks};
 ghost use Rattle.share_links.specs.Links.{links_of};
 ghost use Rattle.http_front.specs.Refusals.{IsResponse};
 ghost use Rattle.share_links.specs.Requests.{MakeOf, RevokeOf, Serves, name_of_link, refused_form, refused_make};
@@ -60,12 +60,8 @@ fn make<R: Wait, D: Door, X: Dice>(
     door: &mut D,
     dice: &mut X,
 ) -> Result<Bytes, Refusal>
-    ensures made { MakeOf D.id_of (D.sessions door.old) (X.draws dice.old) body.now (links_of links.old) (links_of links.new) result }
-    ensures sessions { Told (D.sessions door.old) (D.sessions door.new) Same }
-    ensures asked { D.asked door.new ≡ D.asked door.old }
-    ensures out { D.out door.new ≡ D.out door.old }
-    ensures dials { D.dial_faults door.new ≡ D.dial_faults door.old }
-    ensures starts { D.start_faults door.new ≡ D.start_faults door.old }
+    ensures made { MakeOf D.id_of (D.view door.old).sessions (X.helper dice.old).draws body.now (links_of links.old) (links_of links.new) result }
+    ensures looks { Looks (D.view door.old) (D.view door.new) }
 {
     let Ok(room) = Vec::with_capacity(alloc, NAME_BYTES) else {
         return Err(Refusal::NoMemory);
@@ -108,12 +104,8 @@ pub fn link_request<R: Wait, D: Door, X: Dice>(
     door: &mut D,
     dice: &mut X,
 ) -> Response
-    ensures answered { (answered : Result (List ℕ) Refusal) × IsResponse answered result × Serves D.id_of (D.sessions door.old) (X.draws dice.old) request.now.body.now (links_of links.old) (links_of links.new) answered (route_of request.now.method request.now.target.now) }
-    ensures sessions { Told (D.sessions door.old) (D.sessions door.new) Same }
-    ensures asked { D.asked door.new ≡ D.asked door.old }
-    ensures out { D.out door.new ≡ D.out door.old }
-    ensures dials { D.dial_faults door.new ≡ D.dial_faults door.old }
-    ensures starts { D.start_faults door.new ≡ D.start_faults door.old }
+    ensures answered { (answered : Result (List ℕ) Refusal) × IsResponse answered result × Serves D.id_of (D.view door.old).sessions (X.helper dice.old).draws request.now.body.now (links_of links.old) (links_of links.new) answered (route_of request.now.method request.now.target.now) }
+    ensures looks { Looks (D.view door.old) (D.view door.new) }
 {
     let route = find_route(
         request.method.as_str().as_bytes(),

@@ -6,7 +6,7 @@ ghost use Rattle.guac_handshake.specs.declared.refused.Refused.TheVariants.{NoMe
 
 use crate::table::LinkTable;
 use gate_model::{Asked, Text};
-use gate_outside::{Counted, Way};
+use gate_outside::Way;
 use guac_handshake::{Ask, Begun, Door, Refused, Welcome, id_named};
 use std::alloc::Global;
 use std::sync::Wait;
@@ -34,14 +34,6 @@ impl<'a, D> LinkDoor<'a, D> {
     }
 }
 
-impl<'a, D: Door> Counted for LinkDoor<'a, D> {
-    ghost dial_faults = { λ d. D.dial_faults d.inner.now };
-
-    ghost start_faults = { λ d. D.start_faults d.inner.now };
-
-    ghost draws = { λ d. D.draws d.inner.now };
-}
-
 // A name as a text of its own.
 fn copied(alloc: Global, name: &str) -> Result<Text, Refused>
     ensures text { IfOk result (λ text. text ≡ name.now) }
@@ -64,11 +56,10 @@ fn role_through(control: bool, role: Asked) -> Asked
 }
 
 impl<'a, D: Door> Door for LinkDoor<'a, D> {
-    ghost use Rattle.std.specs.Prelude.{◌≡◌, Bool, None, IfOk, IfErr};
-    ghost use Rattle.guac_handshake.specs.Doors.{IsJoinRefusal, KeepsIds, logged, one_more_out, option_less};
-    ghost use Rattle.guac_handshake.specs.declared.request.Request.TheVariants.{Join as join_request};
-    ghost use Rattle.id_table.specs.Maps.{Same, Told};
-    ghost use Rattle.share_links.specs.Doors.{HasName, IsJoinedAs, Joins, given_as, inner_of, is_known_at, table_of};
+    ghost use Rattle.std.specs.Prelude.{◌≡◌, IfErr, IfOk, IfSome};
+    ghost use Rattle.guac_handshake.specs.Doors.{IsJoinRefusal};
+    ghost use Rattle.guac_handshake.specs.Views.{IsLetIn, Joins, Looks};
+    ghost use Rattle.share_links.specs.Doors.{GivesThrough, HasLoansOf, IsJoinedAs, JoinsThrough, inner_of, is_known_at, table_of, told_through};
     ghost use Rattle.share_links.specs.Links.{links_of};
 
     type Place = D::Place;
@@ -81,25 +72,17 @@ impl<'a, D: Door> Door for LinkDoor<'a, D> {
 
     ghost id_of = { λ name. D.id_of name };
 
-    ghost sessions = { λ _. None };
-
-    ghost out = { λ d. D.out d.inner.now };
-
-    ghost asked = { λ _. None };
+    ghost view = { λ d. told_through (D.view d.inner.now) };
 
     ghost begun = { λ d ask welcome. D.begun d.inner.now ask welcome };
 
     ghost joined = { λ d role welcome. IsJoinedAs (D.joined d.inner.now) role welcome };
 
     fn known<R: Wait>(&mut self, rt: &R, name: &str) -> bool
-        ensures known { Told (D.sessions (inner_of self.old)) (D.sessions (inner_of self.new)) (λ m n. (result ≡ is_known_at D.id_of m (links_of (table_of self.old)) name.now) × Same m n) }
+        ensures known { IfSome (D.view (inner_of self.old)).sessions (λ m. result ≡ is_known_at D.id_of m (links_of (table_of self.old)) name.now) }
+        ensures looks { Looks (D.view (inner_of self.old)) (D.view (inner_of self.new)) }
         ensures links { table_of self.new ≡ table_of self.old }
-        ensures asked { D.asked (inner_of self.new) ≡ D.asked (inner_of self.old) }
-        ensures dials { D.dial_faults (inner_of self.new) ≡ D.dial_faults (inner_of self.old) }
-        ensures starts { D.start_faults (inner_of self.new) ≡ D.start_faults (inner_of self.old) }
-        ensures draws { D.draws (inner_of self.new) ≡ D.draws (inner_of self.old) }
-        ensures out { D.out (inner_of self.new) ≡ D.out (inner_of self.old) }
-        ensures lent { (self.new.inner.ghost_name ≡ self.old.inner.ghost_name) × (self.new.links.ghost_name ≡ self.old.links.ghost_name) }
+        ensures lent { HasLoansOf self.old self.new }
     {
         if self.inner.known(rt, name) {
             return true;
@@ -142,14 +125,11 @@ impl<'a, D: Door> Door for LinkDoor<'a, D> {
         name: &str,
         role: Asked,
     ) -> Result<Welcome<D::Place>, Refused>
-        ensures joins { (has : Bool) × HasName D.id_of (D.sessions (inner_of self.old)) name.now has × Joins has D.id_of (D.sessions (inner_of self.new)) name.now role (links_of (table_of self.old)) (links_of (table_of self.new)) (D.asked (inner_of self.old)) (D.asked (inner_of self.new)) result }
-        ensures welcome { IfOk result (λ welcome. (D.Place.fresh welcome.place welcome.first) × (D.id_of welcome.id ≡ D.id_of name.now) × IsJoinedAs (D.joined (inner_of self.new)) role welcome) }
         ensures kind { IfErr result IsJoinRefusal }
-        ensures dials { D.dial_faults (inner_of self.new) ≡ D.dial_faults (inner_of self.old) }
-        ensures starts { D.start_faults (inner_of self.new) ≡ D.start_faults (inner_of self.old) }
-        ensures out { D.out (inner_of self.new) ≡ one_more_out result (D.out (inner_of self.old)) }
-        ensures asked { logged None (join_request name.now role) result ≡ None }
-        ensures lent { (self.new.inner.ghost_name ≡ self.old.inner.ghost_name) × (self.new.links.ghost_name ≡ self.old.links.ghost_name) }
+        ensures joins { Joins (D.id_of name.now) name.now role result (told_through (D.view (inner_of self.old))) (told_through (D.view (inner_of self.new))) }
+        ensures welcome { IfOk result (IsLetIn D.Place.fresh D.id_of name.now (IsJoinedAs (D.joined (inner_of self.new)) role)) }
+        ensures through { JoinsThrough D.id_of name.now role (links_of (table_of self.old)) (links_of (table_of self.new)) result (D.view (inner_of self.old)) (D.view (inner_of self.new)) }
+        ensures lent { HasLoansOf self.old self.new }
     {
         if self.inner.known(rt, name) {
             return self.inner.join(rt, alloc, name, role);
@@ -186,13 +166,9 @@ impl<'a, D: Door> Door for LinkDoor<'a, D> {
     }
 
     fn give<R: Wait>(&mut self, rt: &R, id: &str, place: D::Place)
-        ensures given { Told (D.sessions (inner_of self.old)) (D.sessions (inner_of self.new)) (λ m n. KeepsIds (D.id_of (given_as D.id_of m (links_of (table_of self.old)) id.now)) m n) }
+        ensures gives { GivesThrough D.id_of (links_of (table_of self.old)) id.now (D.view (inner_of self.old)) (D.view (inner_of self.new)) }
         ensures links { table_of self.new ≡ table_of self.old }
-        ensures asked { D.asked (inner_of self.new) ≡ D.asked (inner_of self.old) }
-        ensures dials { D.dial_faults (inner_of self.new) ≡ D.dial_faults (inner_of self.old) }
-        ensures starts { D.start_faults (inner_of self.new) ≡ D.start_faults (inner_of self.old) }
-        ensures out { D.out (inner_of self.new) ≡ option_less (D.out (inner_of self.old)) }
-        ensures lent { (self.new.inner.ghost_name ≡ self.old.inner.ghost_name) × (self.new.links.ghost_name ≡ self.old.links.ghost_name) }
+        ensures lent { HasLoansOf self.old self.new }
     {
         if self.inner.known(rt, id) {
             return self.inner.give(rt, id, place);

@@ -7,7 +7,7 @@ ghost use Rattle.share_links.specs.Forms.{IsForm, IsNoForm, control_of, fields_o
 
 use gate_model::Text;
 use guac_handshake::{FormRefusal, read_pairs};
-use guac_instr::number_within;
+use numerals::number_within;
 use std::alloc::Global;
 
 /// The most uses of a link (this project's own).

@@ -1,7 +1,7 @@
 //! Links that let people join a session: each with a right, and with so many uses (this project's own).
 //!
 //! A [`LinkTable`] has them. What a list of its calls leaves is `Leave` of `specs/Histories.antt`, and each call does what
-//! `Does` says there. At a [`LinkDoor`] a link's name is a name too (`Joins` of `specs/Doors.antt`), and [`Linked`] is
+//! `Does` says there. At a [`LinkDoor`] a link's name is a name too (`JoinsThrough` of `specs/Doors.antt`), and [`Linked`] is
 //! such a door over a table that threads share. [`link_request`] makes and revokes links (`Serves` of
 //! `specs/Requests.antt`).
 #![tactic(auto)]

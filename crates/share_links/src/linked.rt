@@ -3,7 +3,7 @@
 use crate::door::LinkDoor;
 use crate::table::LinkTable;
 use gate_model::{Asked, Text};
-use gate_outside::{Counted, Way};
+use gate_outside::Way;
 use guac_handshake::{Ask, Begun, Door, Refused, Welcome};
 use std::alloc::Global;
 use std::sync::{Mutex, Wait};
@@ -19,17 +19,8 @@ pub struct Linked<'a, D> {
     pub links: &'a Mutex<LinkTable>,
 }
 
-impl<'a, D: Door> Counted for Linked<'a, D> {
-    ghost dial_faults = { λ d. D.dial_faults d.door };
-
-    ghost start_faults = { λ d. D.start_faults d.door };
-
-    ghost draws = { λ d. D.draws d.door };
-}
-
 impl<'a, D: Door> Door for Linked<'a, D> {
-    ghost use Rattle.std.specs.Prelude.{None};
-    ghost use Rattle.share_links.specs.Doors.{IsJoinedAs};
+    ghost use Rattle.share_links.specs.Doors.{IsJoinedAs, told_through};
 
     type Place = D::Place;
 
@@ -41,11 +32,7 @@ impl<'a, D: Door> Door for Linked<'a, D> {
 
     ghost id_of = { λ name. D.id_of name };
 
-    ghost sessions = { λ _. None };
-
-    ghost out = { λ d. D.out d.door };
-
-    ghost asked = { λ _. None };
+    ghost view = { λ d. told_through (D.view d.door) };
 
     ghost begun = { λ d ask welcome. D.begun d.door ask welcome };
 

@@ -33,9 +33,10 @@ pub struct Spent<'a> {
 
 impl LinkTable {
     ghost use Rattle.std.specs.Prelude.{◌≡◌, ◌<◌, ◌≤◌, ◌-◌, ℕ, List, None, Some, true, false, is_some, IfOk, IfErr, IfSome, OnErr};
-    ghost use Rattle.id_table.specs.Draws.{AreNext, AreThere, IsFirstAbsent};
+    ghost use Rattle.gate_outside.specs.Helpers.{KeepsCounts};
+    ghost use Rattle.id_table.specs.Draws.{IsFirstAbsent};
     ghost use Rattle.id_table.specs.Maps.{Same};
-    ghost use Rattle.share_links.specs.Links.{ChangedTo, GivesBack, HasLeft, IfConflict, IsSpent, Leads, Makes, Revokes, Spends, is_usable, links_of};
+    ghost use Rattle.share_links.specs.Links.{AreDrawnThere, ChangedTo, GivesBack, HasLeft, IfConflict, IsSpent, Leads, Makes, Revokes, Spends, is_usable, links_of};
     ghost use Rattle.share_links.specs.declared.link.Link.{Link};
 
     /// A table without links.
@@ -60,12 +61,10 @@ impl LinkTable {
         requires some { 1 ≤ uses }
         requires few { uses ≤ 1000000 }
         ensures made { IfOk result (λ link. Makes link id.now control uses (links_of self.old) (links_of self.new)) }
-        ensures first { IfOk result (λ link. IfSome (X.draws dice.old) (λ draws. IsFirstAbsent (links_of self.old) draws link)) }
+        ensures first { IfOk result (λ link. IfSome (X.helper dice.old).draws (λ draws. IsFirstAbsent (links_of self.old) draws link)) }
         ensures same { OnErr result (Same (links_of self.old) (links_of self.new)) }
-        ensures conflict { IfErr result (λ refusal. IfConflict refusal (AreThere (links_of self.old) 4)) }
-        ensures drawn { IfErr result (λ refusal. IfConflict refusal (λ ids. IfSome (X.draws dice.old) (λ draws. AreNext draws 4 ids))) }
-        ensures dials { X.dial_faults dice.new ≡ X.dial_faults dice.old }
-        ensures starts { X.start_faults dice.new ≡ X.start_faults dice.old }
+        ensures conflict { IfErr result (λ refusal. IfConflict refusal (AreDrawnThere (X.helper dice.old).draws (links_of self.old))) }
+        ensures counts { KeepsCounts (X.helper dice.old) (X.helper dice.new) }
     {
         let Ok(id) = String::from_str(alloc, id) else {
             return Err(LinkRefusal::NoMemory);

@@ -35,5 +35,5 @@ returns-in-Err-clause-history g c = meets_refusal (Welcome Place) _ _ _ c.in-Err
 pub returns-in-Err-clause-leaves : goal.returns-in-Err-clause-leaves
 returns-in-Err-clause-leaves g c = (
   record { session = c.join.ensures.session; seen = refused_later _ _ _ c.in-Err.refusal _ _ c.in-Err.ensures.step },
-  c.in-Err.ensures.unchanged,
+  c.in-Err.ensures.out,
 )

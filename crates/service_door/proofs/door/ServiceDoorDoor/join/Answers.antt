@@ -7,7 +7,7 @@ use Rattle.guac_handshake.specs.declared.welcome.Welcome.{Welcome}
 use Rattle.shared_desk.specs.declared.place.Place.{Place}
 use Rattle.service_door.specs.Doors.{JoinLeaves}
 use Rattle.service_door.proofs.Tables.{not_lent}
-use Rattle.service_door.proofs.Lending.{all_of, lent, miss_both, miss_history, miss_keeps, miss_there, miss_unlent, misses, swap_both, swap_history, swap_joined, swap_keeps, swap_there, swap_unlent, swaps, same_name, untold_asked, untold_out}
+use Rattle.service_door.proofs.Lending.{lent, let_in, miss_both, miss_history, miss_keeps, miss_there, miss_unlent, misses, swap_both, swap_history, swap_joined, swap_keeps, swap_there, swap_unlent, swaps, same_name, untold_asked, untold_out}
 use Rattle.service_door.proofs.door.ServiceDoorDoor.join.Goals as goal
 
 pub lend-requires : goal.lend-requires
@@ -16,14 +16,15 @@ lend-requires g c = not_lent (g.T.Shelf.told c.args.self.now.sessions.now) c.in-
 pub invariant_of-self : goal.invariant_of-self
 invariant_of-self g c = record { unlent = miss_unlent (g.T.Shelf.told c.args.self.now.sessions.now) (g.T.Shelf.told c.lend.new.self) c.in-Some.key c.args.self.now.unlent (misses (g.T.Shelf.told c.args.self.now.sessions.now) (g.T.Shelf.told c.lend.new.self) c.in-Some.key c.in_default-lend.ensures) }
 
-pub returns-in_default-lend-clause-absent : goal.returns-in_default-lend-clause-absent
-returns-in_default-lend-clause-absent g c = miss_there {A = Welcome Place} (g.T.Shelf.told c.args.self.now.sessions.now) (g.T.Shelf.told c.lend.new.self) (id_of_name c.args.name.now) c.in-Some.key (Err Absent) (sym c.in-Some.ensures) (misses (g.T.Shelf.told c.args.self.now.sessions.now) (g.T.Shelf.told c.lend.new.self) c.in-Some.key c.in_default-lend.ensures) refl
-
-pub returns-in_default-lend-clause-ids : goal.returns-in_default-lend-clause-ids
-returns-in_default-lend-clause-ids g c = miss_keeps (g.T.Shelf.told c.args.self.now.sessions.now) (g.T.Shelf.told c.lend.new.self) (id_of_name c.args.name.now) c.in-Some.key (misses (g.T.Shelf.told c.args.self.now.sessions.now) (g.T.Shelf.told c.lend.new.self) c.in-Some.key c.in_default-lend.ensures)
-
-pub returns-in_default-lend-clause-history : goal.returns-in_default-lend-clause-history
-returns-in_default-lend-clause-history g c = miss_history {A = Welcome Place} (g.T.Shelf.told c.args.self.now.sessions.now) (g.T.Shelf.told c.lend.new.self) (id_of_name c.args.name.now) c.in-Some.key c.args.role (Err Absent) (sym c.in-Some.ensures) (misses (g.T.Shelf.told c.args.self.now.sessions.now) (g.T.Shelf.told c.lend.new.self) c.in-Some.key c.in_default-lend.ensures)
+pub returns-in_default-lend-clause-joins : goal.returns-in_default-lend-clause-joins
+returns-in_default-lend-clause-joins g c = record {
+  absent = miss_there {A = Welcome Place} (g.T.Shelf.told c.args.self.now.sessions.now) (g.T.Shelf.told c.lend.new.self) (id_of_name c.args.name.now) c.in-Some.key (Err Absent) (sym c.in-Some.ensures) (misses (g.T.Shelf.told c.args.self.now.sessions.now) (g.T.Shelf.told c.lend.new.self) c.in-Some.key c.in_default-lend.ensures) refl;
+  ids = miss_keeps (g.T.Shelf.told c.args.self.now.sessions.now) (g.T.Shelf.told c.lend.new.self) (id_of_name c.args.name.now) c.in-Some.key (misses (g.T.Shelf.told c.args.self.now.sessions.now) (g.T.Shelf.told c.lend.new.self) c.in-Some.key c.in_default-lend.ensures);
+  history = miss_history {A = Welcome Place} (g.T.Shelf.told c.args.self.now.sessions.now) (g.T.Shelf.told c.lend.new.self) (id_of_name c.args.name.now) c.in-Some.key c.args.role (Err Absent) (sym c.in-Some.ensures) (misses (g.T.Shelf.told c.args.self.now.sessions.now) (g.T.Shelf.told c.lend.new.self) c.in-Some.key c.in_default-lend.ensures);
+  out = refl;
+  asked = refl;
+  helper = refl;
+}
 
 pub returns-in_default-lend-clause-joined : goal.returns-in_default-lend-clause-joined
 returns-in_default-lend-clause-joined g c = miss_both (g.T.Shelf.told c.args.self.now.sessions.now) (g.T.Shelf.told c.lend.new.self) (id_of_name c.args.name.now) c.in-Some.key (JoinLeaves c.args.role (Err Absent)) (sym c.in-Some.ensures) (misses (g.T.Shelf.told c.args.self.now.sessions.now) (g.T.Shelf.told c.lend.new.self) c.in-Some.key c.in_default-lend.ensures)
@@ -34,23 +35,18 @@ back-requires g c = lent (g.T.Shelf.told c.args.self.now.sessions.now) (g.T.Shel
 pub invariant_of-self-2 : goal.invariant_of-self-2
 invariant_of-self-2 g c = record { unlent = swap_unlent (g.T.Shelf.told c.args.self.now.sessions.now) (g.T.Shelf.told c.back.new.self) c.in-Some.key c.in-Some-lend.session c.welcome-joined.new.session c.args.self.now.unlent (swaps (g.T.Shelf.told c.args.self.now.sessions.now) (g.T.Shelf.told c.lend.new.self) (g.T.Shelf.told c.back.new.self) c.in-Some.key c.in-Some-lend.session c.welcome-joined.new.session c.in-Some-lend.ensures c.back.ensures) }
 
-pub returns-clause-absent : goal.returns-clause-absent
-returns-clause-absent g c = swap_there (g.T.Shelf.told c.args.self.now.sessions.now) (g.T.Shelf.told c.back.new.self) (id_of_name c.args.name.now) c.in-Some.key c.in-Some-lend.session c.welcome-joined.new.session c.welcome-joined.result (sym c.in-Some.ensures) (swaps (g.T.Shelf.told c.args.self.now.sessions.now) (g.T.Shelf.told c.lend.new.self) (g.T.Shelf.told c.back.new.self) c.in-Some.key c.in-Some-lend.session c.welcome-joined.new.session c.in-Some-lend.ensures c.back.ensures) c.welcome-joined.ensures.there
-
-pub returns-clause-ids : goal.returns-clause-ids
-returns-clause-ids g c = swap_keeps (g.T.Shelf.told c.args.self.now.sessions.now) (g.T.Shelf.told c.back.new.self) (id_of_name c.args.name.now) c.in-Some.key c.in-Some-lend.session c.welcome-joined.new.session (sym c.in-Some.ensures) (swaps (g.T.Shelf.told c.args.self.now.sessions.now) (g.T.Shelf.told c.lend.new.self) (g.T.Shelf.told c.back.new.self) c.in-Some.key c.in-Some-lend.session c.welcome-joined.new.session c.in-Some-lend.ensures c.back.ensures)
-
-pub returns-clause-history : goal.returns-clause-history
-returns-clause-history g c = swap_history (g.T.Shelf.told c.args.self.now.sessions.now) (g.T.Shelf.told c.back.new.self) (id_of_name c.args.name.now) c.in-Some.key c.in-Some-lend.session c.welcome-joined.new.session c.args.role c.welcome-joined.result (sym c.in-Some.ensures) (swaps (g.T.Shelf.told c.args.self.now.sessions.now) (g.T.Shelf.told c.lend.new.self) (g.T.Shelf.told c.back.new.self) c.in-Some.key c.in-Some-lend.session c.welcome-joined.new.session c.in-Some-lend.ensures c.back.ensures) c.welcome-joined.ensures.history
+pub returns-clause-joins : goal.returns-clause-joins
+returns-clause-joins g c = record {
+  absent = swap_there (g.T.Shelf.told c.args.self.now.sessions.now) (g.T.Shelf.told c.back.new.self) (id_of_name c.args.name.now) c.in-Some.key c.in-Some-lend.session c.welcome-joined.new.session c.welcome-joined.result (sym c.in-Some.ensures) (swaps (g.T.Shelf.told c.args.self.now.sessions.now) (g.T.Shelf.told c.lend.new.self) (g.T.Shelf.told c.back.new.self) c.in-Some.key c.in-Some-lend.session c.welcome-joined.new.session c.in-Some-lend.ensures c.back.ensures) c.welcome-joined.ensures.there;
+  ids = swap_keeps (g.T.Shelf.told c.args.self.now.sessions.now) (g.T.Shelf.told c.back.new.self) (id_of_name c.args.name.now) c.in-Some.key c.in-Some-lend.session c.welcome-joined.new.session (sym c.in-Some.ensures) (swaps (g.T.Shelf.told c.args.self.now.sessions.now) (g.T.Shelf.told c.lend.new.self) (g.T.Shelf.told c.back.new.self) c.in-Some.key c.in-Some-lend.session c.welcome-joined.new.session c.in-Some-lend.ensures c.back.ensures);
+  history = swap_history (g.T.Shelf.told c.args.self.now.sessions.now) (g.T.Shelf.told c.back.new.self) (id_of_name c.args.name.now) c.in-Some.key c.in-Some-lend.session c.welcome-joined.new.session c.args.role c.welcome-joined.result (sym c.in-Some.ensures) (swaps (g.T.Shelf.told c.args.self.now.sessions.now) (g.T.Shelf.told c.lend.new.self) (g.T.Shelf.told c.back.new.self) c.in-Some.key c.in-Some-lend.session c.welcome-joined.new.session c.in-Some-lend.ensures c.back.ensures) c.welcome-joined.ensures.history;
+  out = untold_out c.welcome-joined.result;
+  asked = untold_asked (join_request c.args.name.now c.args.role) c.welcome-joined.result;
+  helper = refl;
+}
 
 pub returns-clause-joined : goal.returns-clause-joined
 returns-clause-joined g c = swap_both (g.T.Shelf.told c.args.self.now.sessions.now) (g.T.Shelf.told c.back.new.self) (id_of_name c.args.name.now) c.in-Some.key c.in-Some-lend.session c.welcome-joined.new.session (JoinLeaves c.args.role c.welcome-joined.result) (sym c.in-Some.ensures) (swaps (g.T.Shelf.told c.args.self.now.sessions.now) (g.T.Shelf.told c.lend.new.self) (g.T.Shelf.told c.back.new.self) c.in-Some.key c.in-Some-lend.session c.welcome-joined.new.session c.in-Some-lend.ensures c.back.ensures) c.welcome-joined.ensures.leaves
 
-pub returns-clause-out : goal.returns-clause-out
-returns-clause-out g c = untold_out c.welcome-joined.result
-
-pub returns-clause-asked : goal.returns-clause-asked
-returns-clause-asked g c = untold_asked (join_request c.args.name.now c.args.role) c.welcome-joined.result
-
 pub returns-clause-welcome : goal.returns-clause-welcome
-returns-clause-welcome g c = all_of _ _ _ c.welcome-joined.result c.welcome-joined.ensures.fresh (same_name _ c.in-Some.key c.welcome-joined.result c.in-Some.ensures c.welcome-joined.ensures.id) (swap_joined (g.T.Shelf.told c.args.self.now.sessions.now) (g.T.Shelf.told c.back.new.self) c.in-Some.key c.in-Some-lend.session c.welcome-joined.new.session c.args.role c.welcome-joined.result (swaps (g.T.Shelf.told c.args.self.now.sessions.now) (g.T.Shelf.told c.lend.new.self) (g.T.Shelf.told c.back.new.self) c.in-Some.key c.in-Some-lend.session c.welcome-joined.new.session c.in-Some-lend.ensures c.back.ensures) c.welcome-joined.ensures.id c.welcome-joined.ensures.leaves)
+returns-clause-welcome g c = let_in _ _ _ c.welcome-joined.result c.welcome-joined.ensures.fresh (same_name _ c.in-Some.key c.welcome-joined.result c.in-Some.ensures c.welcome-joined.ensures.id) (swap_joined (g.T.Shelf.told c.args.self.now.sessions.now) (g.T.Shelf.told c.back.new.self) c.in-Some.key c.in-Some-lend.session c.welcome-joined.new.session c.args.role c.welcome-joined.result (swaps (g.T.Shelf.told c.args.self.now.sessions.now) (g.T.Shelf.told c.lend.new.self) (g.T.Shelf.told c.back.new.self) c.in-Some.key c.in-Some-lend.session c.welcome-joined.new.session c.in-Some-lend.ensures c.back.ensures) c.welcome-joined.ensures.id c.welcome-joined.ensures.leaves)
