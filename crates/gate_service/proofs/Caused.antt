@@ -1,49 +1,43 @@
 -- Why a connection ended, by why what served it did.
-use Rattle.std.proofs.Common.{◌≡◌, inl, inr, ℕ, List, refl, sym, subst}
-use Rattle.http_front.specs.Requests.{OnEnded, OnReadFault}
+use Rattle.std.proofs.Common.{◌≡◌, ◌⊎◌, inl, inr, ℕ, List, [], Option, sym, subst, arith}
+use Rattle.gate_outside.specs.Helpers.{NeverFell}
+use Rattle.guac_handshake.specs.Views.{DoorView}
+use Rattle.guac_handshake.specs.declared.request.Request.{Request}
+use Rattle.guac_handshake.specs.declared.welcome.Welcome.{Welcome}
+use Rattle.http_front.specs.Requests.{OnEnded}
 use Rattle.http_front.specs.declared.request.Incoming.{Incoming}
 use Rattle.http_front.specs.declared.request.Incoming.TheVariants as incoming
 use Rattle.http_front.specs.declared.response.Response.{Response}
-use Rattle.gate_service.specs.Requests.{IsHttpCaused, IsSilent, Wrote}
+use Rattle.gate_service.specs.Requests.{IsSilent, Wrote}
 use Rattle.gate_service.specs.declared.requests.HttpEnd.{HttpEnd}
-use Rattle.gate_service.specs.declared.requests.HttpEnd.TheVariants.{Answered, Ended, ReadFault, WriteFault, NoMemory}
-use Rattle.user_serve.specs.Users.{IsCaused}
-use Rattle.user_serve.specs.declared.ends.UserEnd.{UserEnd}
-use Rattle.user_serve.specs.declared.ends.UserEnd.TheVariants as user
+use Rattle.gate_service.specs.declared.requests.HttpEnd.TheVariants.{Ended, ReadFault}
+use Rattle.shared_desk.specs.declared.place.Place.{Place}
+use Rattle.ws_tunnel.specs.Served.{AsksDoor}
+use Rattle.ws_tunnel.specs.declared.ends.WsRun.{WsRun}
 
--- the count of reads rose before the viewer was served, or then
-pub user_caused : (R Q W : Type 0) (refuses : ℕ → Type 0) (end : UserEnd) → (R → Q) → IsCaused R W refuses end → IsCaused Q W refuses end
-user_caused R Q W refuses (user.Served visit) f c = (λ e. f (c.0 e), c.1)
-user_caused R Q W refuses (user.Refused code) f c = c
-user_caused R Q W refuses user.Ended f c = c
-user_caused R Q W refuses user.ReadFault f c = f c
-user_caused R Q W refuses user.WriteFault f c = c
-user_caused R Q W refuses user.NoMemory f c = c
+-- where a response is due, the bytes didn't end, and no read failed
+silent_ended : (came : Incoming) (end : HttpEnd) → IsSilent came end → end ≡ Ended → came ≡ incoming.Ended
+silent_ended came end (inl s) is = s.0
+silent_ended came end (inr s) is = absurd (let f = s.1 in cc)
 
--- a request that came so, by why it did
-pub http_caused : (F R W E A : Type 0) (end : HttpEnd) → (F → R) → (E → A) → IsHttpCaused F W E end → IsHttpCaused R W A end
-http_caused F R W E A (Answered status) f e c = tt
-http_caused F R W E A WriteFault f e c = c
-http_caused F R W E A NoMemory f e c = tt
-http_caused F R W E A Ended f e c = e c
-http_caused F R W E A ReadFault f e c = f c
+silent_fault : (came : Incoming) (end : HttpEnd) → IsSilent came end → end ≡ ReadFault → came ≡ incoming.ReadFault
+silent_fault came end (inl s) is = absurd (let f = s.1 in cc)
+silent_fault came end (inr s) is = s.0
 
--- where a response is due, a write failed
-pub wrote_caused : (response : Response) (written : List ℕ) (F W E : Type 0) (end : HttpEnd) → Wrote response end written → (end ≡ WriteFault → W) → IsHttpCaused F W E end
-wrote_caused response written F W E (Answered status) wrote w = tt
-wrote_caused response written F W E WriteFault wrote w = w refl
-wrote_caused response written F W E NoMemory wrote w = tt
-wrote_caused response written F W E Ended wrote w = absurd wrote
-wrote_caused response written F W E ReadFault wrote w = absurd wrote
+module _ (is_due : Response → Type 0) (came : Incoming) (end : HttpEnd) (written : List ℕ) where
+  pub came_ended : ((response : Response) × is_due response × Wrote response end written) ⊎ (IsSilent came end × (written ≡ [])) → end ≡ Ended → came ≡ incoming.Ended
+  came_ended (inl a) is = absurd (subst (λ (e : HttpEnd). Wrote a.0 e written) is a.2)
+  came_ended (inr s) is = silent_ended came end s.0 is
 
--- .. and where none is, the bytes ended, or a read failed
-pub silent_caused : (came : Incoming) (W : Type 0) (end : HttpEnd) → IsSilent came end → IsHttpCaused (came ≡ incoming.ReadFault) W (came ≡ incoming.Ended) end
-silent_caused came W end (inl is) = subst (λ (e : HttpEnd). IsHttpCaused (came ≡ incoming.ReadFault) W (came ≡ incoming.Ended) e) (sym is.1) is.0
-silent_caused came W end (inr is) = subst (λ (e : HttpEnd). IsHttpCaused (came ≡ incoming.ReadFault) W (came ≡ incoming.Ended) e) (sym is.1) is.0
+  pub came_fault : ((response : Response) × is_due response × Wrote response end written) ⊎ (IsSilent came end × (written ≡ [])) → end ≡ ReadFault → came ≡ incoming.ReadFault
+  came_fault (inl a) is = absurd (subst (λ (e : HttpEnd). Wrote a.0 e written) is a.2)
+  came_fault (inr s) is = silent_fault came end s.0 is
 
--- what is known of bytes that ended, and of a read that failed
+-- what is known of bytes that ended
 pub ended_so : (came : Incoming) (P : Type 0) → came ≡ incoming.Ended → OnEnded came P → P
 ended_so came P is on = subst (λ (c : Incoming). OnEnded c P) is on
 
-pub failed_so : (came : Incoming) (P : Type 0) → came ≡ incoming.ReadFault → OnReadFault came P → P
-failed_so came P is on = subst (λ (c : Incoming). OnReadFault c P) is on
+-- no count falls while a door is asked for a viewer over messages
+pub asked_later : (id_of : List ℕ → Option (List ℕ)) (gives : Request → Welcome Place → Type 0) (before after : DoorView) (left : Option (List (List ℕ))) (run : WsRun) → AsksDoor id_of gives before after left run → NeverFell before.helper after.helper
+asked_later id_of gives before after left run (inl none) = subst (λ (v : DoorView). NeverFell before.helper v.helper) (sym none.same) (record { dials = omega arith; starts = omega arith })
+asked_later id_of gives before after left run (inr asked) = let faults = asked.door.faults in record { dials = faults.dials.1; starts = faults.starts.1 }

@@ -3,17 +3,24 @@ use Rattle.std.specs.Prelude.{◌≡◌, ℕ, List, [], ◌∷◌, Option, None,
 use Rattle.gate_model.specs.text.Spelling.{IsDigit}
 use Rattle.gate_model.specs.Sequences.{BeginsWith}
 use Rattle.gate_outside.specs.Edge.{AtEnd, came}
+use Rattle.guac_handshake.specs.Causes.{HasCause}
 use Rattle.guac_handshake.specs.Texts.{error_text}
+use Rattle.guac_handshake.specs.Views.{DoorView}
+use Rattle.guac_handshake.specs.declared.request.Request.{Request as DoorRequest}
+use Rattle.guac_handshake.specs.declared.welcome.Welcome.{Welcome}
 use Rattle.http_front.specs.declared.request.Incoming.{Incoming}
 use Rattle.http_front.specs.declared.response.Response.{Response}
 use Rattle.user_serve.specs.Users.{UserRun}
 use Rattle.user_serve.specs.Users as user
 use Rattle.user_serve.specs.declared.ends.UserEnd.{UserEnd}
 use Rattle.gate_service.specs.Messages.{AsksMessages}
-use Rattle.gate_service.specs.Requests.{HttpRun, IsHttpCaused, OnSilent}
+use Rattle.gate_service.specs.Requests.{HttpRun, OnSilent}
+use Rattle.share_links.specs.Doors.{told_through}
+use Rattle.gate_service.specs.declared.requests.HttpEnd.TheVariants as http
 use Rattle.gate_service.specs.declared.routing.ConnEnd.{ConnEnd}
 use Rattle.gate_service.specs.declared.routing.ConnEnd.TheVariants.{User, Http, Ws, Ended, ReadFault, NoMemory}
-use Rattle.ws_tunnel.specs.Served.{HasServed, with_place}
+use Rattle.shared_desk.specs.declared.place.Place.{Place}
+use Rattle.ws_tunnel.specs.Served.{AsksDoor, HasServed}
 use Rattle.ws_tunnel.specs.declared.ends.WsRun.{WsRun}
 
 -- the first byte, where the source tells what is left
@@ -33,14 +40,28 @@ ConnRun due before typed left Ended read written = AtEnd before × (before ≡ l
 ConnRun due before typed left ReadFault read written = (before ≡ left) × (read ≡ []) × (written ≡ [])
 ConnRun due before typed left NoMemory read written = Begins IsDigit before × (before ≡ left) × (read ≡ []) × BeginsWith (error_text 512) written
 
--- why it ended so: for a viewer as `serve_user` says, and for HTTP the source's end, or a read or a write that failed
-abbrev pub IsCaused : Type 0 → Type 0 → Type 0 → (ℕ → Type 0) → ConnEnd → Type 0
-IsCaused read_failed write_failed at_end refuses (User end) = user.IsCaused read_failed write_failed refuses end
-IsCaused read_failed write_failed at_end refuses (Http end) = IsHttpCaused read_failed write_failed at_end end
-IsCaused read_failed write_failed at_end refuses (Ws run) = Unit {0}
-IsCaused read_failed write_failed at_end refuses Ended = Unit {0}
-IsCaused read_failed write_failed at_end refuses ReadFault = read_failed
-IsCaused read_failed write_failed at_end refuses NoMemory = Unit {0}
+-- a read failed: a viewer's, a request's, or that of the first byte; and the same of a write
+abbrev pub HasReadFault : ConnEnd → Type 0
+HasReadFault (User end) = user.HasReadFault end
+HasReadFault (Http end) = end ≡ http.ReadFault
+HasReadFault (Ws run) = ⊥
+HasReadFault Ended = ⊥
+HasReadFault ReadFault = Unit {0}
+HasReadFault NoMemory = ⊥
+
+abbrev pub HasWriteFault : ConnEnd → Type 0
+HasWriteFault (User end) = user.HasWriteFault end
+HasWriteFault (Http end) = end ≡ http.WriteFault
+HasWriteFault (Ws run) = ⊥
+HasWriteFault Ended = ⊥
+HasWriteFault ReadFault = ⊥
+HasWriteFault NoMemory = ⊥
+
+-- the door and both ends of a viewer's connection, as `serve_user` has them
+pub record ServesViewer (id_of : List ℕ → Option (List ℕ)) (gives : DoorRequest → Welcome Place → Type 0) (before after : DoorView) (typed left written written_new : Option (List ℕ)) (end : UserEnd) : Type 0 where
+  pub greeting : user.HasGreeted id_of gives (told_through before) (told_through after) typed left written written_new end
+  pub door : user.LeavesDoor id_of (told_through before) (told_through after) end
+  pub refused : user.IfRefused end (HasCause (told_through before) (told_through after))
 
 -- a fact of a viewer's end
 abbrev pub IfUser : ConnEnd → (UserEnd → Type 0) → Type 0
@@ -62,12 +83,11 @@ IfMessages NoMemory F = Unit {0}
 
 -- the connection begins with another byte than a digit, its request asks for messages, and a viewer was served over them
 -- as the door was asked; the place that it has is out
-pub record HasMessages (left : Option (List ℕ)) (out_old out_new : Option ℕ) (asks_door : WsRun → Type 0) (run : WsRun) : Type 0 where
+pub record HasMessages (id_of : List ℕ → Option (List ℕ)) (gives : DoorRequest → Welcome Place → Type 0) (before after : DoorView) (left : Option (List ℕ)) (run : WsRun) : Type 0 where
   pub begins : Begins (λ first. IsDigit first → ⊥) left
   pub asks : AsksMessages left
   pub served : (received : List (List ℕ)) × (sent : List (List ℕ)) × HasServed run None received sent
-  pub door : asks_door run
-  pub out : out_new ≡ with_place run.place out_old
+  pub door : AsksDoor id_of gives (told_through before) (told_through after) None run
 
 -- a fact of every other end
 abbrev pub UnlessMessages : ConnEnd → Type 0 → Type 0

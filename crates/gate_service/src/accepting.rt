@@ -1,7 +1,7 @@
 //! Connections that come, and sessions that go.
 
-ghost use Rattle.std.specs.Prelude.{◌≡◌, ◌≤◌, ◌⊎◌, IfErr};
-ghost use Rattle.gate_outside.specs.Edge.{Rose};
+ghost use Rattle.std.specs.Prelude.{◌≡◌, ◌⊎◌, IfErr, IsErr};
+ghost use Rattle.gate_outside.specs.Edge.{CountsFault, Rose};
 
 use crate::jobs::{ConnectionJob, Ends, Links, Pair, RecorderAddress, Tally};
 use crate::notes::{note_end, note_recorder_failed, note_refused, note_untidied};
@@ -62,8 +62,7 @@ where
         R: Threads + Wait + Copy + Send + Sync + 'static,
         N: Net<Help = H>,
         ensures fault { IfErr result (λ status. status ≡ 8) }
-        ensures cause { IfErr result (λ _. Rose (N.net_faults net.old) (N.net_faults net.new)) }
-        ensures later { N.net_faults net.old ≤ N.net_faults net.new }
+        ensures faults { CountsFault (IsErr result) (N.net_faults net.old) (N.net_faults net.new) }
     {
         let Ok((source, sink)) = net.accept(rt) else {
             return Err(8);
@@ -162,7 +161,7 @@ where
     fn hand_on<R>(&mut self, rt: &R, ends: &Ends<H::Input, H::Output>) -> Result<(), u16>
     where
         R: Threads + Wait + Copy + Send + Sync + 'static,
-        ensures status { IfErr result (λ status. (status ≡ 512) ⊎ ((status ≡ 513) × Rose (H.start_faults self.old.helper) (H.start_faults self.new.helper))) }
+        ensures status { IfErr result (λ status. (status ≡ 512) ⊎ ((status ≡ 513) × Rose (H.helper self.old.helper).start_faults (H.helper self.new.helper).start_faults)) }
     {
         let Ok(job) = self.job(ends) else {
             return Err(NO_MEMORY);
@@ -195,7 +194,7 @@ where
         &mut self,
         ends: &Ends<H::Input, H::Output>,
     ) -> Result<ConnectionJob<H::Input, H::Output, H, B, L>, NoMemory>
-        ensures starts { H.start_faults self.new.helper ≡ H.start_faults self.old.helper }
+        ensures helper { H.helper self.new.helper ≡ H.helper self.old.helper }
     {
         Ok(ConnectionJob {
             alloc: self.alloc,

@@ -3,8 +3,7 @@
 //! `connection` is all that it does for one connection: it is a viewer's where its first byte is a digit, and HTTP
 //! where it is another. Its contract says what was read and written (`ConnRun` of `specs/Connections.antt`, and of
 //! HTTP `HttpRun` of `specs/Requests.antt`), and has what `user_serve::serve_user` says of a viewer's, and
-//! `ws_tunnel::ws_serve` of one that comes over a WebSocket. `top` does `serve` and gives every other list of words to
-//! `gate_script::command`.
+//! `ws_tunnel::ws_serve` of one that comes over a WebSocket. `serve` listens, and serves every connection.
 #![tactic(auto)]
 
 mod accepting;
@@ -14,7 +13,6 @@ mod messages;
 mod notes;
 mod noting;
 mod paging;
-mod program;
 mod refused;
 mod refusing;
 mod requests;
@@ -26,6 +24,6 @@ mod typing;
 mod worker;
 
 pub use lookahead::Lookahead;
-pub use program::{Host, top};
 pub use requests::HttpEnd;
 pub use routing::{ConnEnd, connection};
+pub use service::serve;

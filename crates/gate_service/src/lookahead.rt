@@ -1,7 +1,7 @@
 //! A source whose first byte can be looked at, and whose pastes can be typed.
 
-ghost use Rattle.std.specs.Prelude.{◌≡◌, ◌≤◌, IfOk, OnErr, OnOk};
-ghost use Rattle.gate_outside.specs.Edge.{Rose, came};
+ghost use Rattle.std.specs.Prelude.{◌≡◌, IfOk, IsErr, OnErr, OnOk};
+ghost use Rattle.gate_outside.specs.Edge.{CountsFault, came};
 ghost use Rattle.gate_service.specs.Lookaheads.{IsFirst, faults_of, has_begun, left_of, looked, source_of, typed_of};
 ghost use Rattle.gate_service.specs.Typings as typing;
 
@@ -37,8 +37,7 @@ impl<S: Source> Lookahead<S> {
         ensures same { left_of S.left self.new ≡ left_of S.left self.old }
         ensures first { IfOk result (IsFirst (left_of S.left self.old)) }
         ensures begun { has_begun self.new ≡ has_begun self.old }
-        ensures cause { OnErr result (Rose (faults_of S.faults self.old) (faults_of S.faults self.new)) }
-        ensures later { faults_of S.faults self.old ≤ faults_of S.faults self.new }
+        ensures faults { CountsFault (IsErr result) (faults_of S.faults self.old) (faults_of S.faults self.new) }
     {
         if self.byte.is_none() {
             self.byte = next(&mut self.source)?;
@@ -72,8 +71,7 @@ fn next<S: Source>(source: &mut Typing<S>) -> Result<Option<u8>, Failed>
     ensures first { IfOk result (IsFirst (typing.left_of S.left source.old)) }
     ensures unchanged { OnErr result (typing.left_of S.left source.new ≡ typing.left_of S.left source.old) }
     ensures begun { typing.has_begun source.new ≡ typing.has_begun source.old }
-    ensures cause { OnErr result (Rose (typing.faults_of S.faults source.old) (typing.faults_of S.faults source.new)) }
-    ensures later { typing.faults_of S.faults source.old ≤ typing.faults_of S.faults source.new }
+    ensures faults { CountsFault (IsErr result) (typing.faults_of S.faults source.old) (typing.faults_of S.faults source.new) }
 {
     let mut into = [0u8; 1];
     let count = source.read(&mut into)?;

@@ -1,9 +1,9 @@
 //! A viewer over messages, on a connection whose request asks for them.
 
-ghost use Rattle.std.specs.Prelude.{◌≡◌, ◌≤◌, ℕ, List, None, option_copied};
+ghost use Rattle.std.specs.Prelude.{◌≡◌, ℕ, List, None, option_copied};
 ghost use Rattle.guac_handshake.specs.Doors.{Grants};
 ghost use Rattle.gate_service.specs.Messages.{asks_messages, query_of};
-ghost use Rattle.ws_tunnel.specs.Served.{AsksDoor, HasServed, with_place};
+ghost use Rattle.ws_tunnel.specs.Served.{AsksDoor, HasServed};
 
 use gate_outside::{Bell, Sink, Source, write_all};
 use guac_handshake::Door;
@@ -55,10 +55,7 @@ where
     D: Door<Place = Place>,
     B: Bell,
     ensures served { (received : List (List ℕ)) × (sent : List (List ℕ)) × HasServed result.0 None received sent }
-    ensures asked { AsksDoor D.id_of (D.sessions door.old) (D.sessions door.new) (D.draws door.old) (Grants D.id_of (D.begun door.new) (D.joined door.new)) (D.asked door.old) (D.asked door.new) (D.dial_faults door.old) (D.dial_faults door.new) (D.start_faults door.old) (D.start_faults door.new) None result.0 }
-    ensures out { D.out door.new ≡ with_place result.0.place (D.out door.old) }
-    ensures later_dials { D.dial_faults door.old ≤ D.dial_faults door.new }
-    ensures later_starts { D.start_faults door.old ≤ D.start_faults door.new }
+    ensures asked { AsksDoor D.id_of (Grants D.id_of (D.begun door.new) (D.joined door.new)) (D.view door.old) (D.view door.new) None result.0 }
 {
     let run = ws_serve(rt, alloc, link, door, bell);
     link.close();
@@ -85,10 +82,7 @@ where
     D: Door<Place = Place>,
     B: Bell,
     ensures served { (received : List (List ℕ)) × (sent : List (List ℕ)) × HasServed result None received sent }
-    ensures asked { AsksDoor D.id_of (D.sessions door.old) (D.sessions door.new) (D.draws door.old) (Grants D.id_of (D.begun door.new) (D.joined door.new)) (D.asked door.old) (D.asked door.new) (D.dial_faults door.old) (D.dial_faults door.new) (D.start_faults door.old) (D.start_faults door.new) None result }
-    ensures out { D.out door.new ≡ with_place result.place (D.out door.old) }
-    ensures later_dials { D.dial_faults door.old ≤ D.dial_faults door.new }
-    ensures later_starts { D.start_faults door.old ≤ D.start_faults door.new }
+    ensures asked { AsksDoor D.id_of (Grants D.id_of (D.begun door.new) (D.joined door.new)) (D.view door.old) (D.view door.new) None result }
 {
     let mut link = WsLink::new(alloc, first, source, sink);
     let (run, silent) = serve_over(rt, alloc, &mut link, door, bell);

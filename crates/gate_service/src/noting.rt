@@ -7,7 +7,7 @@ use crate::notes::{
     note_undone, note_unrecorded, note_unstarted, note_visit,
 };
 use gate_model::{Asked, Text};
-use gate_outside::{Counted, Way};
+use gate_outside::Way;
 use guac_handshake::{Ask, Begun, Door, Recorder, Refused, Welcome, status_of};
 use log::Log;
 use session_list::{Fault, SessionList, Traffic};
@@ -69,14 +69,6 @@ impl<D, L: Log> NotingDoor<D, L> {
     }
 }
 
-impl<D: Door, L: Log + Drop> Counted for NotingDoor<D, L> {
-    ghost dial_faults = { λ d. D.dial_faults d.door };
-
-    ghost start_faults = { λ d. D.start_faults d.door };
-
-    ghost draws = { λ d. D.draws d.door };
-}
-
 impl<D: Door<Place = Place>, L: Log + Drop> Door for NotingDoor<D, L> {
     type Place = D::Place;
 
@@ -88,11 +80,7 @@ impl<D: Door<Place = Place>, L: Log + Drop> Door for NotingDoor<D, L> {
 
     ghost id_of = { λ name. D.id_of name };
 
-    ghost sessions = { λ d. D.sessions d.door };
-
-    ghost out = { λ d. D.out d.door };
-
-    ghost asked = { λ d. D.asked d.door };
+    ghost view = { λ d. D.view d.door };
 
     ghost begun = { λ d ask welcome. D.begun d.door ask welcome };
 

@@ -1,12 +1,13 @@
 //! The response to one request over plain HTTP.
 
-ghost use Rattle.std.specs.Prelude.{◌≡◌, ◌≤◌, ℕ, List, None, IfErr, IfOk, OnErr};
-ghost use Rattle.gate_outside.specs.Edge.{Rose, gained};
+ghost use Rattle.std.specs.Prelude.{◌≡◌, ℕ, List, None, IfErr, IfOk, OnErr};
+ghost use Rattle.gate_outside.specs.Edge.{CountsFault, gained};
+ghost use Rattle.gate_outside.specs.Helpers.{NeverFell};
 ghost use Rattle.guac_handshake.specs.Doors.{Grants};
-ghost use Rattle.http_front.specs.declared.request.Incoming.TheVariants as incomings;
 ghost use Rattle.http_tunnel.specs.Tunnels.{AreHome};
 ghost use Rattle.share_links.specs.Doors.{IsJoinedAs};
-ghost use Rattle.gate_service.specs.Requests.{HasAnswered, IsAnswer, IsDue, IsHttpCaused, IsLinkAnswer, IsRefusal, IsSilent, OnSilent, Wrote};
+ghost use Rattle.gate_service.specs.Requests.{HasAnswered, IsDue, IsLinkAnswer, IsRefusal, IsSilent, OnSilent, Wrote};
+ghost use Rattle.gate_service.specs.Views.{gate_view};
 
 use gate_model::Bytes;
 use gate_model::statuses::{BAD_REQUEST, NO_MEMORY};
@@ -58,13 +59,10 @@ where
     B: Bell,
     requires { AreHome (T.told tunnels.old) }
     ensures home { AreHome (T.told tunnels.new) }
-    ensures ran { (written : List ℕ) × (K.written sink.new ≡ gained (K.written sink.old) written) ×
-        HasAnswered (IsDue (IsLinkAnswer D.id_of (D.sessions door.old.door) (X.draws dice.old)) (IsAnswer D.id_of None None (D.draws door.old.door) (Grants D.id_of (D.begun door.new.door) (IsJoinedAs (D.joined door.new.door))) None None (D.out door.old.door) (D.out door.new.door) (X.draws dice.old) (T.told tunnels.old) (T.told tunnels.new) (Rose (D.dial_faults door.old.door) (D.dial_faults door.new.door)) (Rose (D.start_faults door.old.door) (D.start_faults door.new.door))) ((door.new ≡ door.old) × (tunnels.new ≡ tunnels.old) × (dice.new ≡ dice.old))) incoming.entry result written }
+    ensures ran { (written : List ℕ) × (K.written sink.new ≡ gained (K.written sink.old) written) × HasAnswered (IsDue D.id_of (Grants D.id_of (D.begun door.new.door) (IsJoinedAs (D.joined door.new.door))) (gate_view (D.view door.old.door) (T.told tunnels.old) (X.helper dice.old)) (gate_view (D.view door.new.door) (T.told tunnels.new) (X.helper dice.new)) ((door.new ≡ door.old) × (tunnels.new ≡ tunnels.old) × (dice.new ≡ dice.old))) incoming.entry result written }
     ensures silent { OnSilent result ((sink.new ≡ sink.old) × (door.new ≡ door.old) × (tunnels.new ≡ tunnels.old) × (dice.new ≡ dice.old)) }
-    ensures cause { IsHttpCaused (incoming.entry ≡ incomings.ReadFault) (Rose (K.faults sink.old) (K.faults sink.new)) (incoming.entry ≡ incomings.Ended) result }
-    ensures later_dials { D.dial_faults door.old.door ≤ D.dial_faults door.new.door }
-    ensures later_starts { D.start_faults door.old.door ≤ D.start_faults door.new.door }
-    ensures later_writes { K.faults sink.old ≤ K.faults sink.new }
+    ensures later { NeverFell (D.view door.old.door).helper (D.view door.new.door).helper }
+    ensures writes { CountsFault (result ≡ HttpEnd.WriteFault) (K.faults sink.old) (K.faults sink.new) }
 {
     match respond(rt, alloc, incoming, door, tunnels, dice, bell) {
         Ok(response) => write(alloc, sink, &response),
@@ -90,11 +88,10 @@ where
     B: Bell,
     requires { AreHome (T.told tunnels.old) }
     ensures home { AreHome (T.told tunnels.new) }
-    ensures due { IfOk result (IsDue (IsLinkAnswer D.id_of (D.sessions door.old.door) (X.draws dice.old)) (IsAnswer D.id_of None None (D.draws door.old.door) (Grants D.id_of (D.begun door.new.door) (IsJoinedAs (D.joined door.new.door))) None None (D.out door.old.door) (D.out door.new.door) (X.draws dice.old) (T.told tunnels.old) (T.told tunnels.new) (Rose (D.dial_faults door.old.door) (D.dial_faults door.new.door)) (Rose (D.start_faults door.old.door) (D.start_faults door.new.door))) ((door.new ≡ door.old) × (tunnels.new ≡ tunnels.old) × (dice.new ≡ dice.old)) incoming.entry) }
+    ensures due { IfOk result (IsDue D.id_of (Grants D.id_of (D.begun door.new.door) (IsJoinedAs (D.joined door.new.door))) (gate_view (D.view door.old.door) (T.told tunnels.old) (X.helper dice.old)) (gate_view (D.view door.new.door) (T.told tunnels.new) (X.helper dice.new)) ((door.new ≡ door.old) × (tunnels.new ≡ tunnels.old) × (dice.new ≡ dice.old)) incoming.entry) }
     ensures silent { IfErr result (IsSilent incoming.entry) }
     ensures nothing { OnErr result ((door.new ≡ door.old) × (tunnels.new ≡ tunnels.old) × (dice.new ≡ dice.old)) }
-    ensures later_dials { D.dial_faults door.old.door ≤ D.dial_faults door.new.door }
-    ensures later_starts { D.start_faults door.old.door ≤ D.start_faults door.new.door }
+    ensures later { NeverFell (D.view door.old.door).helper (D.view door.new.door).helper }
 {
     match incoming {
         Incoming::Whole(request) => {
@@ -123,9 +120,8 @@ where
     R: Wait,
     D: Door,
     X: Dice,
-    ensures shared { IsLinkAnswer D.id_of (D.sessions door.old.door) (X.draws dice.old) request.now result }
-    ensures dials { D.dial_faults door.new.door ≡ D.dial_faults door.old.door }
-    ensures starts { D.start_faults door.new.door ≡ D.start_faults door.old.door }
+    ensures shared { IsLinkAnswer D.id_of (gate_view (D.view door.old.door) None (X.helper dice.old)) request.now result }
+    ensures helper { (D.view door.new.door).helper ≡ (D.view door.old.door).helper }
 {
     let links = door.links;
     let mut links = links.lock(rt);
@@ -146,8 +142,7 @@ fn refusal(alloc: Global, status: u16, code: u16) -> Response
 // Writes the response, and says how that ended.
 fn write<K: Sink>(alloc: Global, sink: &mut K, response: &Response) -> HttpEnd
     ensures wrote { (written : List ℕ) × (K.written sink.new ≡ gained (K.written sink.old) written) × Wrote response.now result written }
-    ensures fault { result ≡ HttpEnd.WriteFault → Rose (K.faults sink.old) (K.faults sink.new) }
-    ensures later { K.faults sink.old ≤ K.faults sink.new }
+    ensures faults { CountsFault (result ≡ HttpEnd.WriteFault) (K.faults sink.old) (K.faults sink.new) }
 {
     match write_response(alloc, sink, response) {
         Ok(()) => HttpEnd::Answered(response.status),

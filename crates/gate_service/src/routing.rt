@@ -1,16 +1,16 @@
 //! By its first byte a connection is a viewer's, or HTTP.
 
-ghost use Rattle.std.specs.Prelude.{◌≡◌, ◌≤◌, ℕ, List, None};
-ghost use Rattle.gate_outside.specs.Edge.{AtEnd, Rose, gained};
-ghost use Rattle.guac_handshake.specs.Causes.{HasCause};
+ghost use Rattle.std.specs.Prelude.{◌≡◌, ℕ, List};
+ghost use Rattle.gate_outside.specs.Edge.{AtEnd, CountsFault, gained};
+ghost use Rattle.gate_outside.specs.Helpers.{NeverFell};
 ghost use Rattle.guac_handshake.specs.Doors.{Grants};
 ghost use Rattle.http_tunnel.specs.Tunnels.{AreHome};
-ghost use Rattle.user_serve.specs.Users.{HasGreeted, LeavesDoor};
-ghost use Rattle.gate_service.specs.Connections.{ConnRun, HasMessages, IfMessages, IfUser, IsCaused, LeavesAlone, UnlessMessages};
+ghost use Rattle.gate_service.specs.Connections.{ConnRun, HasMessages, HasReadFault, HasWriteFault, IfMessages, IfUser, LeavesAlone, ServesViewer, UnlessMessages};
 ghost use Rattle.gate_service.specs.Lookaheads.{faults_of, left_of, typed_of};
+ghost use Rattle.gate_service.specs.Requests.{IsDue};
+ghost use Rattle.gate_service.specs.Views.{gate_view};
+ghost use Rattle.gate_service.specs.declared.requests.HttpEnd.TheVariants as ends;
 ghost use Rattle.share_links.specs.Doors.{IsJoinedAs};
-ghost use Rattle.gate_service.specs.Requests.{IsAnswer, IsDue, IsLinkAnswer};
-ghost use Rattle.ws_tunnel.specs.Served.{AsksDoor};
 
 use crate::Lookahead;
 use crate::messages::{asks_messages, serve_messages};
@@ -77,15 +77,13 @@ where
     B: Bell + Send,
     requires { AreHome (T.told tunnels.old) }
     ensures home { AreHome (T.told tunnels.new) }
-    ensures ran { UnlessMessages result ((read : List ℕ) × (written : List ℕ) × (K.written sink.new ≡ gained (K.written sink.old) written) ×
-        ConnRun (IsDue (IsLinkAnswer D.id_of (D.sessions door.old.door) (X.draws dice.old)) (IsAnswer D.id_of None None (D.draws door.old.door) (Grants D.id_of (D.begun door.new.door) (IsJoinedAs (D.joined door.new.door))) None None (D.out door.old.door) (D.out door.new.door) (X.draws dice.old) (T.told tunnels.old) (T.told tunnels.new) (Rose (D.dial_faults door.old.door) (D.dial_faults door.new.door)) (Rose (D.start_faults door.old.door) (D.start_faults door.new.door))) ((door.new ≡ door.old) × (tunnels.new ≡ tunnels.old) × (dice.new ≡ dice.old)))
-        (left_of S.left source.old) (typed_of S.left source.old) (left_of S.left source.new) result read written) }
+    ensures ran { UnlessMessages result ((read : List ℕ) × (written : List ℕ) × (K.written sink.new ≡ gained (K.written sink.old) written) × ConnRun (IsDue D.id_of (Grants D.id_of (D.begun door.new.door) (IsJoinedAs (D.joined door.new.door))) (gate_view (D.view door.old.door) (T.told tunnels.old) (X.helper dice.old)) (gate_view (D.view door.new.door) (T.told tunnels.new) (X.helper dice.new)) ((door.new ≡ door.old) × (tunnels.new ≡ tunnels.old) × (dice.new ≡ dice.old))) (left_of S.left source.old) (typed_of S.left source.old) (left_of S.left source.new) result read written) }
     ensures untouched { LeavesAlone (sink.new ≡ sink.old) (door.new ≡ door.old) ((tunnels.new ≡ tunnels.old) × (dice.new ≡ dice.old)) result }
-    ensures cause { IsCaused (Rose (faults_of S.faults source.old) (faults_of S.faults source.new)) (Rose (K.faults sink.old) (K.faults sink.new)) (AtEnd (left_of S.left source.new)) (HasCause None None (D.draws door.old.door) (Rose (D.dial_faults door.old.door) (D.dial_faults door.new.door)) (Rose (D.start_faults door.old.door) (D.start_faults door.new.door))) result }
-    ensures viewer { IfUser result (λ end. HasGreeted D.id_of None None (D.draws door.old.door) (Grants D.id_of (D.begun door.new.door) (IsJoinedAs (D.joined door.new.door))) (typed_of S.left source.old) (left_of S.left source.new) (K.written sink.old) (K.written sink.new) None None end × LeavesDoor D.id_of (D.out door.old.door) (D.out door.new.door) None None end) }
-    ensures messages { IfMessages result (HasMessages (left_of S.left source.old) (D.out door.old.door) (D.out door.new.door) (AsksDoor D.id_of None None (D.draws door.old.door) (Grants D.id_of (D.begun door.new.door) (IsJoinedAs (D.joined door.new.door))) None None (D.dial_faults door.old.door) (D.dial_faults door.new.door) (D.start_faults door.old.door) (D.start_faults door.new.door) None)) }
-    ensures later { (D.dial_faults door.old.door ≤ D.dial_faults door.new.door) × (D.start_faults door.old.door ≤ D.start_faults door.new.door) }
-    ensures later_ends { UnlessMessages result ((faults_of S.faults source.old ≤ faults_of S.faults source.new) × (K.faults sink.old ≤ K.faults sink.new)) }
+    ensures ended { result ≡ ConnEnd.Http ends.Ended → AtEnd (left_of S.left source.new) }
+    ensures viewer { IfUser result (ServesViewer D.id_of (Grants D.id_of (D.begun door.new.door) (IsJoinedAs (D.joined door.new.door))) (D.view door.old.door) (D.view door.new.door) (typed_of S.left source.old) (left_of S.left source.new) (K.written sink.old) (K.written sink.new)) }
+    ensures messages { IfMessages result (HasMessages D.id_of (Grants D.id_of (D.begun door.new.door) (IsJoinedAs (D.joined door.new.door))) (D.view door.old.door) (D.view door.new.door) (left_of S.left source.old)) }
+    ensures later { NeverFell (D.view door.old.door).helper (D.view door.new.door).helper }
+    ensures faults { UnlessMessages result (CountsFault (HasReadFault result) (faults_of S.faults source.old) (faults_of S.faults source.new) × CountsFault (HasWriteFault result) (K.faults sink.old) (K.faults sink.new)) }
 {
     let byte = match source.peek() {
         Ok(Some(byte)) => byte,

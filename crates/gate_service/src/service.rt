@@ -1,8 +1,8 @@
 //! What `serve` does.
 
-ghost use Rattle.std.specs.Prelude.{◌≡◌, ◌≤◌, ◌⊎◌, map, string_bytes};
-ghost use Rattle.gate_outside.specs.Edge.{Rose};
-ghost use Rattle.gate_service.specs.Program.{IsServeStatus};
+ghost use Rattle.std.specs.Prelude.{◌≡◌, ◌⊎◌, map, string_bytes};
+ghost use Rattle.gate_outside.specs.Edge.{CountsFault};
+ghost use Rattle.gate_service.specs.Serving.{IsServeStatus};
 
 use crate::accepting::Service;
 use crate::jobs::Links;
@@ -31,7 +31,7 @@ const PATIENCE: u64 = 10;
 /// memory, and then the net isn't called; 6, want of memory before the first connection; 8, the net failed at
 /// `listen` or `accept`. The files are those of the page, what the words want noted is noted to the log, and what runs
 /// stands in the list.
-pub(crate) fn serve<R, N, L>(
+pub fn serve<R, N, L>(
     rt: &R,
     alloc: Global,
     words: &[String],
@@ -45,8 +45,7 @@ where
     N: Net,
     L: Log + Copy + Send + Drop + 'static,
     ensures served { IsServeStatus (map string_bytes words.now) (net.new ≡ net.old) result }
-    ensures net_fault { result ≡ 8 → Rose (N.net_faults net.old) (N.net_faults net.new) }
-    ensures later { N.net_faults net.old ≤ N.net_faults net.new }
+    ensures faults { CountsFault (result ≡ 8) (N.net_faults net.old) (N.net_faults net.new) }
 {
     match options_of(alloc, words) {
         Ok(options) => listen(rt, alloc, options, net, files, log, list),
@@ -70,8 +69,7 @@ where
     N: Net,
     L: Log + Copy + Send + Drop + 'static,
     ensures statuses { (result ≡ 6) ⊎ (result ≡ 8) }
-    ensures net_fault { result ≡ 8 → Rose (N.net_faults net.old) (N.net_faults net.new) }
-    ensures later { N.net_faults net.old ≤ N.net_faults net.new }
+    ensures faults { CountsFault (result ≡ 8) (N.net_faults net.old) (N.net_faults net.new) }
 {
     match net.listen(alloc, options.port, options.seed) {
         Ok(()) => {}
@@ -150,8 +148,7 @@ where
     N: Net,
     L: Log + Copy + Send + Drop + 'static,
     ensures status { result ≡ 8 }
-    ensures net_fault { Rose (N.net_faults net.old) (N.net_faults net.new) }
-    ensures later { N.net_faults net.old ≤ N.net_faults net.new }
+    ensures faults { CountsFault (Unit {0}) (N.net_faults net.old) (N.net_faults net.new) }
 {
     for _ in rt.forever() {
         if let Err(status) = service.accept_next(rt, net) {

@@ -50,8 +50,8 @@ impl<S: Source> Typing<S> {
 }
 
 impl<S: Source> Source for Typing<S> {
-    ghost use Rattle.std.specs.Prelude.{◌≡◌, ◌<◌, ◌≤◌, [], Some, length, take, IfOk, IfSome, OnErr};
-    ghost use Rattle.gate_outside.specs.Edge.{AtEnd, Rose, came, most_faults};
+    ghost use Rattle.std.specs.Prelude.{◌≡◌, ◌<◌, ◌≤◌, [], Some, length, take, IfOk, IfSome, IsErr, OnErr};
+    ghost use Rattle.gate_outside.specs.Edge.{AtEnd, CountsFault, came, most_faults};
     ghost use Rattle.gate_service.specs.Typings.{faults_of, has_begun, left_of};
 
     ghost left = { λ s. left_of S.left s };
@@ -69,9 +69,8 @@ impl<S: Source> Source for Typing<S> {
         ensures empty { IfOk result (λ n. left_of S.left self.old ≡ Some [] → n ≡ 0) }
         ensures unchanged { OnErr result (left_of S.left self.new ≡ left_of S.left self.old) }
         ensures untouched { OnErr result (IfSome (left_of S.left self.old) (λ _. into.new ≡ into.old)) }
-        ensures later { faults_of S.faults self.old ≤ faults_of S.faults self.new }
         ensures few { faults_of S.faults self.old ≤ most_faults → faults_of S.faults self.new ≤ most_faults }
-        ensures cause { OnErr result (Rose (faults_of S.faults self.old) (faults_of S.faults self.new)) }
+        ensures faults { CountsFault (IsErr result) (faults_of S.faults self.old) (faults_of S.faults self.new) }
     {
         let Some(pastes) = &mut self.pastes else {
             return self.source.read(into);

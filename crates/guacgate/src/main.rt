@@ -2,7 +2,7 @@
 //! protocol that a viewer is given, does scripts and loads, tells of recordings, types what is pasted, and serves
 //! viewers over the network.
 //!
-//! All that it says of its input and its outputs is the contract of `gate_service::top`. What stands
+//! All that it says of its input and its outputs is the contract of `gate_top::top`. What stands
 //! here is only the friendly edge: the words of the command line, `--help` and `--version`, and the ends of the
 //! system.
 #![tactic(auto)]
@@ -12,7 +12,7 @@ ghost use Rattle.std.specs.Prelude.{◌≡◌, ◌≢◌, ◌⊎◌, IfErr};
 use ending::ended;
 use ends::{Ends, ends_of};
 use gate_outside::{Sink, StdSink, StdSource};
-use gate_service::{Host, top};
+use gate_top::{Host, top};
 use help::tell;
 use limits::behind_serve;
 use saying::say_unprepared;

@@ -4,7 +4,7 @@ ghost use Rattle.std.specs.Prelude.{None};
 
 use anyhow::{Context, Result};
 use gate_outside::{Failed, Net, Sink, Source};
-use gate_service::{Host, top};
+use gate_top::{Host, top};
 use log::sink::Console;
 use session_list::SessionList;
 use std::alloc::Global;

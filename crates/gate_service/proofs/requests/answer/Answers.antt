@@ -1,6 +1,5 @@
 use Rattle.std.proofs.Common.{inl, inr, refl, sym, []}
 use Rattle.gate_outside.proofs.Moved.{gained-none}
-use Rattle.gate_service.proofs.Caused.{silent_caused, wrote_caused}
 use Rattle.gate_service.proofs.requests.answer.Goals as goal
 
 -- the response that is due is written
@@ -9,14 +8,6 @@ returns-in-Ok-clause-ran g c =
     let w = c.write.ensures.wrote in
     (w.0, w.1, inl (c.in-Ok.response, c.in-Ok.ensures.due, w.2))
 
-pub returns-in-Ok-clause-cause : goal.returns-in-Ok-clause-cause
-returns-in-Ok-clause-cause g c =
-    let w = c.write.ensures.wrote in
-    wrote_caused _ _ _ _ _ c.write.result w.2 c.write.ensures.fault
-
 -- none is due
 pub returns-in-Err-clause-ran : goal.returns-in-Err-clause-ran
 returns-in-Err-clause-ran g c = ([], sym (gained-none _), inr (c.in-Err.ensures.silent, refl))
-
-pub returns-in-Err-clause-cause : goal.returns-in-Err-clause-cause
-returns-in-Err-clause-cause g c = silent_caused _ _ c.in-Err.end c.in-Err.ensures.silent

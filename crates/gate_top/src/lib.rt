@@ -1,14 +1,19 @@
-//! What the program does.
+//! What the program does, by its words: `top` does `serve`, and gives every other list of words to `gate_script::command`.
+//!
+//! Its contract says of `serve` how it may end (`IsServeStatus` of gate_service), and of all other words what was read,
+//! what was written, and the status (`IsCommandStatus` of `specs/Program.antt`, with `Outcome` of gate_script).
+#![tactic(auto)]
 
 ghost use Rattle.std.specs.Prelude.{◌≡◌, ◌≤◌, ◌⊎◌, IfSome, None, map, option_map, string_bytes};
 ghost use Rattle.gate_outside.specs.Edge.{Rose};
 ghost use Rattle.gate_script.specs.Outcomes.{Outcome, Ran};
-ghost use Rattle.gate_service.specs.Program.{IsCommandStatus, IsServeStatus, IsStatusCaused};
-ghost use Rattle.gate_service.specs.Words.{behind_serve};
+ghost use Rattle.gate_service.specs.Serving.{IsServeStatus};
+ghost use Rattle.gate_top.specs.Program.{IsCommandStatus, IsStatusCaused};
+ghost use Rattle.gate_top.specs.Words.{behind_serve};
 
-use crate::service::serve;
 use gate_outside::{Net, Sink, Source};
 use gate_script::command;
+use gate_service::serve;
 use log::Log;
 use page_files::PageFile;
 use session_list::SessionList;
