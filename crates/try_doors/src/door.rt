@@ -7,7 +7,7 @@ ghost use Rattle.shared_desk.specs.Hosts.{IsFresh};
 use crate::session::Session;
 use anyhow::{Context, Result};
 use gate_model::{Asked, Text};
-use gate_outside::{Counted, Way};
+use gate_outside::Way;
 use guac_handshake::{Ask, Begun, Door, Job, Recorder, Refused, Welcome};
 use shared_desk::{JoinRefusal, Place};
 use std::alloc::Global;
@@ -92,14 +92,6 @@ impl OneDoor {
     }
 }
 
-impl Counted for OneDoor {
-    ghost dial_faults = { λ d. d.dial_faults };
-
-    ghost start_faults = { λ d. d.start_faults };
-
-    ghost draws = { λ d. None };
-}
-
 impl Door for OneDoor {
     type Place = Place;
 
@@ -111,11 +103,7 @@ impl Door for OneDoor {
 
     ghost id_of = { λ name. None };
 
-    ghost sessions = { λ d. None };
-
-    ghost out = { λ d. None };
-
-    ghost asked = { λ d. None };
+    ghost view = { λ d. record { sessions = None; out = None; asked = None; helper = record { dial_faults = d.dial_faults; start_faults = d.start_faults; draws = None } } };
 
     ghost begun = { λ d ask welcome. Unit {0} };
 

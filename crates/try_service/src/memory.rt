@@ -311,11 +311,7 @@ impl<R: Copy> RowHelper<R> {
 }
 
 impl<R: Drop> Counted for RowHelper<R> {
-    ghost dial_faults = { λ s. s.undialed };
-
-    ghost start_faults = { λ s. s.refused };
-
-    ghost draws = { λ _. None };
+    ghost helper = { λ s. record { dial_faults = s.undialed; start_faults = s.refused; draws = None } };
 }
 
 impl<R: Moments + Wait + Copy + Send + Drop + 'static> Dialer for RowHelper<R> {
