@@ -1,9 +1,10 @@
 -- What instructions of a handshake ask, computed from the definitions.
+use Rattle.std.proofs.Common.{arith}
 use Rattle.std.specs.Prelude.{◌≡◌, ℕ, List, [], ◌∷◌, ◌++◌, replicate, Some, None, true, false, codes, refl}
 use Rattle.gate_model.specs.declared.sharing.Share.TheVariants as share
 use Rattle.gate_model.specs.declared.sharing.Asked.TheVariants as role
 use Rattle.guac_handshake.specs.declared.request.Request.TheVariants.{Begin, Join}
-use Rattle.guac_handshake.specs.Asks.{Unfinished, Wants, Refuses, asks, cols_of, is_term, mode_of, port_of, rows_of}
+use Rattle.guac_handshake.specs.Asks.{IsAskable, Unfinished, Wants, Refuses, asks, cols_of, is_term, mode_of, port_of, rows_of}
 
 abbrev telnet : List (List ℕ)
 telnet = codes "select" ∷ codes "telnet" ∷ []
@@ -65,3 +66,13 @@ terms = (refl, refl, refl)
 
 modes : (mode_of [] ≡ Some share.Nobody) × (mode_of (codes "view") ≡ Some share.View) × (mode_of (codes "View") ≡ None)
 modes = (refl, refl, refl)
+
+-- what is asked by default may be asked, and a terminal type of 41 characters may not
+smallest_asked : IsAskable (record { host = []; port = 23; term = codes "a"; mode = share.Nobody; read_only = false; cols = 1; rows = 1 })
+smallest_asked = record { size = record { some_columns = omega arith; few_columns = omega arith; some_rows = omega arith; few_rows = omega arith }; term = record { some = omega arith; few = omega arith; marks = refl } }
+
+too_wide : IsAskable (record { host = []; port = 23; term = codes "a"; mode = share.Nobody; read_only = false; cols = 513; rows = 1 }) → ⊥
+too_wide is = omega (arith, is.size.few_columns)
+
+too_long : IsAskable (record { host = []; port = 23; term = replicate 41 120; mode = share.Nobody; read_only = false; cols = 80; rows = 24 }) → ⊥
+too_long is = omega (arith, is.term.few)

@@ -4,6 +4,7 @@ use Rattle.std.specs.Prelude.{Result}
 use Rattle.std.proofs.Math.Seq.{take-append-add}
 use Rattle.gate_outside.specs.Edge.{GainedFront, gained}
 use Rattle.gate_outside.proofs.Moved.{gained-gained}
+use Rattle.id_table.specs.Maps.{Same, Told}
 use Rattle.guac_handshake.specs.declared.greeted.Greeted.{Greeted}
 use Rattle.guac_handshake.specs.declared.greeted.Greeted.TheVariants as greeted
 use Rattle.guac_handshake.specs.declared.refused.Refused.{Refused}
@@ -14,7 +15,7 @@ use Rattle.guac_handshake.specs.declared.stop.Stop.TheVariants as stop
 use Rattle.guac_handshake.specs.declared.welcome.Welcome.{Welcome}
 use Rattle.guac_handshake.specs.Asks.{Wish, Refuses, Unfinished, Wants, asks, selected}
 use Rattle.guac_handshake.specs.Doors.{MayRefuse, Names, Sessions, asked_more, logged_for}
-use Rattle.guac_handshake.specs.Greetings.{AskedAsWished, AskedAtMost, AskedOnce, Broken, ByDoor, ByForm, EarlyReply, Ends, HasAsked, IsGreeting, IsReplyTo, IsServed, IsToldError, IsToldReady, NoReply, NotAsked, OnReady, OutOfForm, ReadyReply, RefusalReply, RefusedEarly, Unasked, Wished}
+use Rattle.guac_handshake.specs.Greetings.{AskedAsWished, AskedAtMost, AskedOnce, Broken, ByDoor, ByForm, EarlyReply, Ends, HasAsked, IsGreeting, IsReplyTo, IsServed, IsToldError, IsToldReady, NoReply, NotAsked, OnReady, OutOfForm, ReadyReply, RefusalReply, RefusedEarly, Unasked, UnlessWanted, Wished}
 use Rattle.guac_handshake.specs.Statuses.{status_of}
 use Rattle.guac_handshake.specs.Splits.{Splits}
 use Rattle.guac_handshake.specs.Texts.{args_for, error_text, ready_text}
@@ -95,9 +96,18 @@ ends_refused May Named Gives wish args rest left w m v a b status greeted.NoMemo
 no_reply : (w m v : Option (List ℕ)) (args : List ℕ) → v ≡ m → GainedFront w m args → GainedFront w v (args ++ [])
 no_reply w m v args written f = subst (λ (l : List ℕ). GainedFront w v l) (sym (append-nil args)) (f.0, f.1, written ∙ f.2)
 
+-- what is wanted asks the door
+wants_so : (wish : Wish) (request : Request) (F : Type 0) → wish ≡ Wants request → UnlessWanted wish F
+wants_so wish request F is = subst (λ (w : Wish). UnlessWanted w F) (sym is) tt
+
+whatever : (wish : Wish) (F : Type 0) → F → UnlessWanted wish F
+whatever Unfinished F f = f
+whatever (Refuses status) F f = f
+whatever (Wants request) F f = tt
+
 module _ {P : Type 0} (id_of : List ℕ → Option (List ℕ)) (sessions sessions_new : Option Sessions) (draws : Option (ℕ → List ℕ)) (gives : Request → Welcome P → Type 0) (a b w m v : Option (List ℕ)) (asked_old asked_mid asked_new : Option (List Request)) (unread rest : List ℕ) (empty : unread ≡ []) (same : asked_mid ≡ asked_old) where
-  made : (result : Result Request Stop) (greeted : Greeted P) (h : HasAsked id_of sessions a b w m unread rest result) → Ends (MayRefuse id_of sessions draws sessions_new) (Names id_of) gives (asks h.known h.instructions) (args_for (selected h.known h.instructions)) rest b w v asked_old asked_new greeted → IsGreeting id_of sessions sessions_new draws gives a b w v asked_old asked_new rest greeted
-  made result greeted h ends = record {
+  made : (result : Result Request Stop) (greeted : Greeted P) (h : HasAsked id_of sessions a b w m unread rest result) → UnlessWanted (asks h.known h.instructions) (Told sessions sessions_new Same) → Ends (MayRefuse id_of sessions draws sessions_new) (Names id_of) gives (asks h.known h.instructions) (args_for (selected h.known h.instructions)) rest b w v asked_old asked_new greeted → IsGreeting id_of sessions sessions_new draws gives a b w v asked_old asked_new rest greeted
+  made result greeted h unasked ends = record {
     bytes = h.bytes;
     instructions = h.instructions;
     known = h.known;
@@ -105,40 +115,41 @@ module _ {P : Type 0} (id_of : List ℕ → Option (List ℕ)) (sessions session
     split = subst (λ (l : List ℕ). Splits (l ++ h.bytes) h.instructions rest) empty h.split;
     no_further = h.no_further;
     looked = h.looked;
+    unasked = unasked;
     ends = ends;
   }
 
   pub greeted_ok : (request : Request) (greeted : Greeted P) → HasAsked id_of sessions a b w m unread rest (Ok request) → IsServed (MayRefuse id_of sessions draws sessions_new) (Names id_of) gives request m v asked_mid asked_new greeted → IsGreeting id_of sessions sessions_new draws gives a b w v asked_old asked_new rest greeted
-  greeted_ok request greeted h s = made (Ok request) greeted h
+  greeted_ok request greeted h s = made (Ok request) greeted h (wants_so _ request _ h.answers)
       (ends_served _ _ _ _ _ rest b w m v asked_old asked_new request greeted h.answers h.wrote
       (subst (λ (x : Option (List Request)). IsServed (MayRefuse id_of sessions draws sessions_new) (Names id_of) gives request m v x asked_new greeted) same s))
 
-  pub greeted_refused : (status : ℕ) (s : Stop) (greeted : Greeted P) → asked_new ≡ asked_mid → HasAsked id_of sessions a b w m unread rest (Err s) → s ≡ stop.Refused status → IsToldError status m v greeted → IsGreeting id_of sessions sessions_new draws gives a b w v asked_old asked_new rest greeted
-  greeted_refused status s greeted kept h0 is t =
+  pub greeted_refused : (status : ℕ) (s : Stop) (greeted : Greeted P) → Told sessions sessions_new Same → asked_new ≡ asked_mid → HasAsked id_of sessions a b w m unread rest (Err s) → s ≡ stop.Refused status → IsToldError status m v greeted → IsGreeting id_of sessions sessions_new draws gives a b w v asked_old asked_new rest greeted
+  greeted_refused status s greeted still kept h0 is t =
       let h = subst (λ (x : Stop). HasAsked id_of sessions a b w m unread rest (Err x)) is h0 in
-      made (Err (stop.Refused status)) greeted h
+      made (Err (stop.Refused status)) greeted h (whatever (asks h.known h.instructions) _ still)
       (ends_refused _ _ _ _ _ rest b w m v asked_old asked_new status greeted h.answers h.wrote (kept ∙ same) t)
 
-  module _ (kept : asked_new ≡ asked_mid) (written : v ≡ m) (s : Stop) (h0 : HasAsked id_of sessions a b w m unread rest (Err s)) where
+  module _ (still : Told sessions sessions_new Same) (kept : asked_new ≡ asked_mid) (written : v ≡ m) (s : Stop) (h0 : HasAsked id_of sessions a b w m unread rest (Err s)) where
     pub greeted_ended : s ≡ stop.Ended → IsGreeting {P = P} id_of sessions sessions_new draws gives a b w v asked_old asked_new rest greeted.Ended
     greeted_ended is =
         let h = subst (λ (x : Stop). HasAsked id_of sessions a b w m unread rest (Err x)) is h0 in
-        made (Err stop.Ended) greeted.Ended h (h.answers.0, h.answers.1, h.answers.2, written ∙ h.wrote, kept ∙ same)
+        made (Err stop.Ended) greeted.Ended h (whatever (asks h.known h.instructions) _ still) (h.answers.0, h.answers.1, h.answers.2, written ∙ h.wrote, kept ∙ same)
 
     pub greeted_unread : s ≡ stop.ReadFault → IsGreeting {P = P} id_of sessions sessions_new draws gives a b w v asked_old asked_new rest greeted.ReadFault
     greeted_unread is =
         let h = subst (λ (x : Stop). HasAsked id_of sessions a b w m unread rest (Err x)) is h0 in
-        made (Err stop.ReadFault) greeted.ReadFault h (h.answers, written ∙ h.wrote, kept ∙ same)
+        made (Err stop.ReadFault) greeted.ReadFault h (whatever (asks h.known h.instructions) _ still) (h.answers, written ∙ h.wrote, kept ∙ same)
 
     pub greeted_unwritten : s ≡ stop.WriteFault → IsGreeting {P = P} id_of sessions sessions_new draws gives a b w v asked_old asked_new rest greeted.WriteFault
     greeted_unwritten is =
         let h = subst (λ (x : Stop). HasAsked id_of sessions a b w m unread rest (Err x)) is h0 in
-        made (Err stop.WriteFault) greeted.WriteFault h ([], NoReply h.answers refl, no_reply w m v _ written h.wrote, Unasked (kept ∙ same))
+        made (Err stop.WriteFault) greeted.WriteFault h (whatever (asks h.known h.instructions) _ still) ([], NoReply h.answers refl, no_reply w m v _ written h.wrote, Unasked (kept ∙ same))
 
     pub greeted_short : s ≡ stop.NoMemory → IsGreeting {P = P} id_of sessions sessions_new draws gives a b w v asked_old asked_new rest greeted.NoMemory
     greeted_short is =
         let h = subst (λ (x : Stop). HasAsked id_of sessions a b w m unread rest (Err x)) is h0 in
-        made (Err stop.NoMemory) greeted.NoMemory h ([], NoReply h.answers refl, no_reply w m v _ written h.wrote, Unasked (kept ∙ same))
+        made (Err stop.NoMemory) greeted.NoMemory h (whatever (asks h.known h.instructions) _ still) ([], NoReply h.answers refl, no_reply w m v _ written h.wrote, Unasked (kept ∙ same))
 
 -- the rest under another name
 pub with_rest : {P : Type 0} (id_of : List ℕ → Option (List ℕ)) (sessions sessions_new : Option Sessions) (draws : Option (ℕ → List ℕ)) (gives : Request → Welcome P → Type 0) (a b w v : Option (List ℕ)) (p q : Option (List Request)) (rest now : List ℕ) (result : Greeted P)

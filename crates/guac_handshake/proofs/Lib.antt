@@ -9,6 +9,7 @@ pub mod Refusing
 pub mod Touching
 pub mod Telling
 pub mod InMemory
+mod Askable
 mod AskFacts
 mod Undone
 pub mod PairLaws

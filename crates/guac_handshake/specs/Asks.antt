@@ -1,8 +1,10 @@
 -- What the instructions of a handshake ask (the Guacamole manual, "The Guacamole protocol"; the parameters, their
 -- forms and the limits are this project's own).
 use Rattle.std.specs.Prelude.{◌≡◌, ℕ, ◌/◌, min, max, List, [], ◌∷◌, ◌++◌, length, drop, take_while, find, fold, Bool, true, false, not, ◌&&◌, nat_le, nat_lt, if◌then◌else◌, Option, Some, None, bytes_eq, codes}
-use Rattle.std.specs.Int.{is_in_range}
 use Rattle.std.specs.List.{list_all}
+use Rattle.gate_model.specs.Limits.{most_term}
+use Rattle.gate_model.specs.session.Steps.{IsTerminalType, is_mark}
+use Rattle.gate_model.specs.terminal.Sizes.{IsScreenSize}
 use Rattle.gate_model.specs.text.HelloMeaning.{Greeting, Selects, HasSize, Connects, SaysOther, greeting_of}
 use Rattle.gate_model.specs.text.Numerals.{number_within}
 use Rattle.gate_model.specs.declared.sharing.Share.{Share}
@@ -32,7 +34,7 @@ port_of [] = Some 23
 port_of (b ∷ bs) = number_within 1 65535 (b ∷ bs)
 
 abbrev pub is_term : List ℕ → Bool
-is_term value = nat_le (length value) 40 && list_all (is_in_range 0x21 0x7E) value
+is_term value = nat_le (length value) most_term && list_all is_mark value
 
 abbrev pub term_of : List ℕ → Option (List ℕ)
 term_of [] = Some (codes "linux")
@@ -62,6 +64,16 @@ abbrev pub ask_of : List ℕ → Option ℕ → Option (List ℕ) → Option Sha
 ask_of host (Some port) (Some term) (Some mode) read_only size =
     Some (record { host = host; port = port; term = term; mode = mode; read_only = read_only; cols = cols_of size; rows = rows_of size })
 ask_of host port term mode read_only size = None
+
+-- a session can be opened as it is asked: its screen has a size, and its terminal type is one
+pub record IsAskable (ask : Ask) : Type 0 where
+  pub size : IsScreenSize ask.cols ask.rows
+  pub term : IsTerminalType ask.term
+
+-- what a door may be asked
+abbrev pub MayAsk : Request → Type 0
+MayAsk (Begin ask) = IsAskable ask
+MayAsk (Join name role) = Unit {0}
 
 -- the values of `connect` for a session that is to begin: the version, host, port, terminal type, read-only, sharing
 abbrev pub beginning : List (List ℕ) → Option (ℕ × ℕ) → Option Ask

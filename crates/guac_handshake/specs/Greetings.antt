@@ -242,8 +242,8 @@ pub data AskedAsWished (wish : Wish) (asked_before asked_now : Option (List Requ
   Unasked : asked_now ≡ asked_before → AskedAsWished wish asked_before asked_now
   Wished : (request : Request) → wish ≡ Wants request → asked_now ≡ asked_more asked_before request → AskedAsWished wish asked_before asked_now
 
--- how a greeting ended, by what a door may refuse and what it says where it gives, and what was wished, left unread, written
--- and asked
+-- how a greeting ended, by what a door may refuse and what it says where it gives, and what was wished, left unread,
+-- written and asked
 abbrev pub Ends : {P : Type 0} → (Request → Refused → Type 0) → (Request → List ℕ → Type 0) → (Request → Welcome P → Type 0) → Wish → List ℕ → List ℕ → Option (List ℕ) → Option (List ℕ) → Option (List ℕ) → Option (List Request) → Option (List Request) → Greeted P → Type 0
 Ends May Named Gives wish args rest left before now asked_before asked_now (greeted.Ready welcome) = (request : Request) × (wish ≡ Wants request) × (now ≡ gained before (args ++ ready_text welcome.id)) × (asked_now ≡ asked_more asked_before request) × Gives request welcome
 Ends May Named Gives wish args rest left before now asked_before asked_now (greeted.Refused status) = (now ≡ gained before (args ++ error_text status)) × RefusedFor May wish rest status asked_before asked_now
@@ -251,6 +251,12 @@ Ends May Named Gives wish args rest left before now asked_before asked_now greet
 Ends May Named Gives wish args rest left before now asked_before asked_now greeted.ReadFault = (wish ≡ Unfinished) × (now ≡ gained before args) × (asked_now ≡ asked_before)
 Ends May Named Gives wish args rest left before now asked_before asked_now greeted.WriteFault = (text : List ℕ) × IsReplyTo May Named wish rest text × GainedFront before now (args ++ text) × AskedAsWished wish asked_before asked_now
 Ends May Named Gives wish args rest left before now asked_before asked_now greeted.NoMemory = (text : List ℕ) × IsReplyTo May Named wish rest text × GainedFront before now (args ++ text) × AskedAsWished wish asked_before asked_now
+
+-- a fact of a greeting that asked the door nothing, since its instructions ask for nothing or are out of form
+abbrev pub UnlessWanted : Wish → Type 0 → Type 0
+UnlessWanted Unfinished F = F
+UnlessWanted (Refuses status) F = F
+UnlessWanted (Wants request) F = Unit {0}
 
 -- a greeting: the bytes that it read are these instructions, none behind those that settle what is asked, and then the
 -- rest; and it asked, wrote and ended by them
@@ -262,6 +268,7 @@ pub record IsGreeting {P : Type 0} (id_of : List ℕ → Option (List ℕ)) (ses
   pub split : Splits bytes instructions rest
   pub no_further : ReadsNoFurther (asks known) instructions
   pub looked : IsLook id_of sessions known instructions
+  pub unasked : UnlessWanted (asks known instructions) (Told sessions sessions_new Same)
   pub ends : Ends (MayRefuse id_of sessions draws sessions_new) (Names id_of) gives (asks known instructions) (args_for (selected known instructions)) rest left_new written_old written_new asked_old asked_new result
 
 -- the same of a door by what it tells before and after

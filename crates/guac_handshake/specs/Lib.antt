@@ -1,4 +1,5 @@
--- In reading order: statuses, instructions and what they ask, the form of a connection, what a door answers and tells, what is written, how a greeting ends and why, what a form leads to, the IDs of names, a door in memory.
+-- In reading order: statuses, instructions and what they ask, the form of a connection, what a door answers and tells,
+-- what is written, how a greeting ends and why, what a form leads to, the IDs of names, a door in memory.
 pub mod Statuses
 pub mod Splits
 pub mod Asks

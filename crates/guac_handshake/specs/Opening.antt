@@ -1,6 +1,7 @@
 -- What a door was asked by a form, and what it answered (this project's own).
 use Rattle.std.specs.Prelude.{◌≡◌, ◌⊎◌, ◌+◌, ℕ, List, Bool, true, false, Option, IfSome, Result, Ok, Err, is_some}
 use Rattle.std.specs.Option.{option_map}
+use Rattle.gate_outside.specs.Helpers.{CountsFaults}
 use Rattle.id_table.specs.Maps.{Same, Told}
 use Rattle.guac_handshake.specs.Doors.{KeepsIds, MayRefuse, Sessions, TouchesOne, asked_more, at_name, logged_for}
 use Rattle.guac_handshake.specs.Views.{DoorView}
@@ -8,7 +9,7 @@ use Rattle.guac_handshake.specs.Forms.{IsForm, IsNoForm}
 use Rattle.guac_handshake.specs.declared.form_refusal.FormRefusal.{FormRefusal}
 use Rattle.guac_handshake.specs.declared.form_refusal.FormRefusal.TheVariants as refusal
 use Rattle.guac_handshake.specs.declared.refused.Refused.{Refused}
-use Rattle.guac_handshake.specs.declared.refused.Refused.TheVariants.{Absent}
+use Rattle.guac_handshake.specs.declared.refused.Refused.TheVariants.{Absent, Busy, Dial}
 use Rattle.guac_handshake.specs.declared.request.Request.{Request}
 use Rattle.guac_handshake.specs.declared.request.Request.TheVariants.{Begin, Join}
 use Rattle.guac_handshake.specs.declared.welcome.Welcome.{Welcome}
@@ -19,9 +20,9 @@ IsThere id_of sessions (Begin ask) there = there ≡ true
 IsThere id_of sessions (Join name role) there = IfSome sessions (λ m. there ≡ is_some (at_name (id_of name) m))
 
 -- why the door gave no place: it doesn't have the session of that ID, and wasn't asked; or it was asked and refused
-abbrev pub IsRefusedBy : (List ℕ → Option (List ℕ)) → Option Sessions → (Request → Refused → Type 0) → Option (List Request) → Option (List Request) → Request → Refused → Type 0
-IsRefusedBy id_of sessions May before now request refused =
-    (IsThere id_of sessions request false × (refused ≡ Absent) × (now ≡ before)) ⊎ (May request refused × (now ≡ logged_for before request refused))
+abbrev pub IsRefusedBy : (List ℕ → Option (List ℕ)) → Option Sessions → Option Sessions → (Request → Refused → Type 0) → Option (List Request) → Option (List Request) → Request → Refused → Type 0
+IsRefusedBy id_of sessions sessions_new May before now request refused =
+    (IsThere id_of sessions request false × (refused ≡ Absent) × (now ≡ before) × Told sessions sessions_new Same) ⊎ (May request refused × (now ≡ logged_for before request refused))
 
 -- the form asks something of the door, which answered so; or it is out of form, or memory was wanting, and the door
 -- wasn't asked
@@ -29,7 +30,7 @@ abbrev pub HasOpened : {P : Type 0} → (List ℕ → Option (List ℕ)) → Opt
 HasOpened id_of sessions sessions_new draws gives before now body (Ok welcome) = (request : Request) × IsForm body request × (now ≡ asked_more before request) × gives request welcome
 HasOpened id_of sessions sessions_new draws gives before now body (Err refusal.Form) = IsNoForm body × (now ≡ before)
 HasOpened id_of sessions sessions_new draws gives before now body (Err refusal.NoMemory) = now ≡ before
-HasOpened id_of sessions sessions_new draws gives before now body (Err (refusal.Door refused)) = (request : Request) × IsForm body request × IsRefusedBy id_of sessions (MayRefuse id_of sessions draws sessions_new) before now request refused
+HasOpened id_of sessions sessions_new draws gives before now body (Err (refusal.Door refused)) = (request : Request) × IsForm body request × IsRefusedBy id_of sessions sessions_new (MayRefuse id_of sessions draws sessions_new) before now request refused
 
 -- the sessions that it touched: that of the welcome; without one, no session is there that wasn't, and where the door
 -- wasn't asked each is as it was
@@ -51,3 +52,10 @@ pub record Moves {P : Type 0} (id_of : List ℕ → Option (List ℕ)) (result :
 
 abbrev pub IsDoor : {P : Type 0} → Refused → Result (Welcome P) FormRefusal → Type 0
 IsDoor refused r = r ≡ Err (refusal.Door refused)
+
+-- what the form asks of the door, which answered so, and what it touched: Dial comes only where the count of dials that
+-- failed rose, and Busy only where that of starts did
+pub record AnswersForm {P : Type 0} (id_of : List ℕ → Option (List ℕ)) (gives : Request → Welcome P → Type 0) (before after : DoorView) (form : List ℕ) (answer : Result (Welcome P) FormRefusal) : Type 0 where
+  pub opened : HasOpened id_of before.sessions after.sessions before.helper.draws gives before.asked after.asked form answer
+  pub moves : Moves id_of answer before after
+  pub faults : CountsFaults (IsDoor Dial answer) (IsDoor Busy answer) before.helper after.helper

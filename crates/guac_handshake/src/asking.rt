@@ -1,6 +1,7 @@
 //! What a door is asked.
 
 ghost use Rattle.std.specs.Prelude.{IfOk};
+ghost use Rattle.guac_handshake.specs.Asks.{MayAsk};
 ghost use Rattle.guac_handshake.specs.Doors.{Grants};
 ghost use Rattle.guac_handshake.specs.Greetings.{IsAnswered};
 
@@ -16,6 +17,7 @@ pub(crate) fn ask<R: Threads + Wait + Copy + Send + 'static, D: Door>(
     door: &mut D,
     request: &Request,
 ) -> Result<Welcome<D::Place>, Refused>
+    requires may { MayAsk request.now }
     ensures answers { IsAnswered D.id_of request.now result (D.view door.old) (D.view door.new) }
     ensures fresh { IfOk result (λ welcome. D.Place.fresh welcome.place welcome.first) }
     ensures granted { IfOk result (λ welcome. Grants D.id_of (D.begun door.new) (D.joined door.new) request.now welcome) }

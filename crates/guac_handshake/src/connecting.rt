@@ -1,7 +1,7 @@
 //! The values of `connect`.
 
 ghost use Rattle.std.specs.Prelude.{◌≡◌, ◌≤◌, drop, IfOk, length, true};
-ghost use Rattle.std.specs.Int.{is_in_range};
+ghost use Rattle.gate_model.specs.session.Steps.{is_mark};
 ghost use Rattle.std.specs.List.{list_all};
 ghost use Rattle.std.specs.Option.{option_map};
 ghost use Rattle.guac_handshake.specs.Asks.{ask_of, beginning, is_read_only, is_term, joining, mode_of, port_of, role_asked, term_of};
@@ -128,7 +128,7 @@ fn is_term(value: &str) -> bool
 
 // Whether each byte is a visible character of ASCII.
 fn all_visible(bytes: &[u8]) -> bool
-    ensures { result ≡ list_all (is_in_range 0x21 0x7E) bytes.now }
+    ensures { result ≡ list_all is_mark bytes.now }
 {
     bytes.iter().all(|byte| (0x21..=0x7E).contains(byte))
 }

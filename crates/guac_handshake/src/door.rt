@@ -1,5 +1,6 @@
 ghost use Rattle.std.specs.Prelude.{◌≡◌, ℕ, List, Option, IfOk, IfErr, IfSome, is_some};
 ghost use Rattle.gate_model.specs.declared.sharing.Asked.{Asked};
+ghost use Rattle.guac_handshake.specs.Asks.{IsAskable};
 ghost use Rattle.guac_handshake.specs.Doors.{IsBeginRefusal, IsJoinRefusal, IsOpenRefusal, at_name};
 ghost use Rattle.guac_handshake.specs.Views.{Begins, DoorView, Gives, IsLetIn, Joins, Looks, Notes, Undoes};
 ghost use Rattle.guac_handshake.specs.declared.ask.Ask.{Ask};
@@ -52,6 +53,7 @@ pub trait Door: Drop {
         alloc: Global,
         ask: &Ask,
     ) -> Result<Begun<Self::Place, Self::Pump, Self::Sending, Self::Recording>, Refused>
+        requires askable { IsAskable ask.now }
         ensures kind { IfErr result IsOpenRefusal }
         ensures begins { Begins (λ begun. id_of begun.welcome.id) ask.now result (view self.old) (view self.new) }
         ensures starts { (view self.new).helper.start_faults ≡ (view self.old).helper.start_faults }
@@ -81,6 +83,7 @@ pub trait Door: Drop {
         alloc: Global,
         ask: &Ask,
     ) -> Result<Welcome<Self::Place>, Refused>
+        requires askable { IsAskable ask.now }
         ensures kind { IfErr result IsBeginRefusal }
         ensures begins { Begins (λ welcome. id_of welcome.id) ask.now result (view self.old) (view self.new) }
         ensures fresh { IfOk result (λ welcome. Self.Place.fresh welcome.place welcome.first) }

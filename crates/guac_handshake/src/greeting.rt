@@ -3,6 +3,7 @@
 ghost use Rattle.std.specs.Prelude.{◌≡◌, ◌<◌, [], Err, IfErr, length};
 ghost use Rattle.gate_outside.specs.Edge.{CountsFault};
 ghost use Rattle.gate_outside.specs.Helpers.{CountsFaults, NeverFell};
+ghost use Rattle.guac_handshake.specs.Asks.{MayAsk};
 ghost use Rattle.guac_handshake.specs.Causes.{HasCause, IfRefused, IsEarly};
 ghost use Rattle.guac_handshake.specs.Doors.{Grants, MayRefuse, Names};
 ghost use Rattle.guac_handshake.specs.Greetings.{Greets, HasAsked, HasConnected, HasKept, HasSelected, IfReady, IsFound, IsServed, IsToldError, IsToldReady, OnReady, Touches, stopped_as};
@@ -181,6 +182,7 @@ fn serve<R: Threads + Wait + Copy + Send + 'static, K: Sink, D: Door>(
     door: &mut D,
     request: &Request,
 ) -> Greeted<D::Place>
+    requires may { MayAsk request.now }
     ensures served { IsServed (MayRefuse D.id_of (D.view door.old).sessions (D.view door.old).helper.draws (D.view door.new).sessions) (Names D.id_of) (Grants D.id_of (D.begun door.new) (D.joined door.new)) request.now (K.written sink.old) (K.written sink.new) (D.view door.old).asked (D.view door.new).asked result }
     ensures touches { Touches D.id_of result (D.view door.old) (D.view door.new) }
     ensures faults { CountsFaults (result ≡ Greeted.Refused 519) (result ≡ Greeted.Refused 513) (D.view door.old).helper (D.view door.new).helper }

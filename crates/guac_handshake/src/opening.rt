@@ -1,11 +1,9 @@
 //! A place for the form of an HTTP request.
 
 ghost use Rattle.std.specs.Prelude.{IfOk};
-ghost use Rattle.gate_outside.specs.Helpers.{CountsFaults};
 ghost use Rattle.guac_handshake.specs.Doors.{Grants};
-ghost use Rattle.guac_handshake.specs.Opening.{HasOpened, IsDoor, IsThere, Moves};
+ghost use Rattle.guac_handshake.specs.Opening.{AnswersForm, IsThere};
 ghost use Rattle.guac_handshake.specs.Views.{Looks};
-ghost use Rattle.guac_handshake.specs.declared.refused.Refused.TheVariants.{Busy, Dial};
 
 use crate::asking::ask;
 use crate::form::read_form;
@@ -38,9 +36,7 @@ pub fn open_form<R: Threads + Wait + Copy + Send + 'static, D: Door>(
     body: &[u8],
     door: &mut D,
 ) -> Result<Welcome<D::Place>, FormRefusal>
-    ensures opened { HasOpened D.id_of (D.view door.old).sessions (D.view door.new).sessions (D.view door.old).helper.draws (Grants D.id_of (D.begun door.new) (D.joined door.new)) (D.view door.old).asked (D.view door.new).asked body.now result }
-    ensures moves { Moves D.id_of result (D.view door.old) (D.view door.new) }
-    ensures faults { CountsFaults (IsDoor Dial result) (IsDoor Busy result) (D.view door.old).helper (D.view door.new).helper }
+    ensures answers { AnswersForm D.id_of (Grants D.id_of (D.begun door.new) (D.joined door.new)) (D.view door.old) (D.view door.new) body.now result }
     ensures fresh { IfOk result (λ welcome. D.Place.fresh welcome.place welcome.first) }
 {
     let request = read_form(alloc, body)?;

@@ -36,10 +36,10 @@ pub struct ServiceDoor<'a, T: Shelf<Session>, H, B> {
 }
 
 impl<'a, T: Shelf<Session>, H: Helper, B: Bell> ServiceDoor<'a, T, H, B> {
-    /// A door over these sessions, of which none is lent. It dials, starts jobs, draws IDs and tells moments by
-    /// the helper. The jobs of a session have a bell each that rings with this one. The recorder is the host and the
-    /// port that are dialed once for each session, to record it; the faces are those of each session. The door owns them, since the text is small and a
-    /// door lives for one connection.
+    /// A door over these sessions, of which none is lent. It dials, starts jobs, draws IDs and tells moments by the
+    /// helper. The jobs of a session have a bell each that rings with this one. The recorder is the host and the port
+    /// that are dialed once for each session, to record it; the faces are those of each session. The door owns them,
+    /// since the text is small and a door lives for one connection.
     pub fn new(
         sessions: &'a mut T,
         helper: &'a mut H,
@@ -143,7 +143,9 @@ impl<'a, T: Shelf<Session>, H: Helper, B: Bell + Send + 'static> Door for Servic
             Err(AddRefusal::NoMemory(_)) => return Err(Refused::NoMemory),
         };
         let Ok(id) = name_in(room, key) else {
-            self.sessions.remove(rt, &key);
+            if let Some(mut session) = self.sessions.remove(rt, &key) {
+                session.stop(rt, self.bell);
+            }
             return Err(Refused::NoMemory);
         };
         Ok(Begun {

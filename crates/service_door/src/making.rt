@@ -1,6 +1,7 @@
 //! A session as it is made for the table.
 
 ghost use Rattle.std.specs.Prelude.{IfOk};
+ghost use Rattle.guac_handshake.specs.Asks.{IsAskable};
 ghost use Rattle.service_door.specs.Begun.{IsMade};
 
 use crate::jobs::{PumpJob, SenderJob};
@@ -16,8 +17,8 @@ use shared_desk::Place;
 use std::alloc::Global;
 use std::sync::Wait;
 
-/// What a session is made of: its first moment, the faces of its screen, the clock and the link of its pump and its sender, whether a recorder
-/// is wanted, and the link of that, if it could be dialed.
+/// What a session is made of: its first moment, the faces of its screen, the clock and the link of its pump and its
+/// sender, whether a recorder is wanted, and the link of that, if it could be dialed.
 #[derive(Drop)]
 pub(crate) struct Parts<S, K, C> {
     pub(crate) now: u64,
@@ -47,6 +48,7 @@ pub(crate) fn make<R: Wait, S: Drop, K: Drop, C: Drop, B: Bell>(
     parts: Parts<S, K, C>,
     bell: &B,
 ) -> Result<Made<S, K, C, B>, NoMemory>
+    requires { IsAskable ask.now }
     ensures { IfOk result (λ made. IsMade parts.wanted parts.faces ask.now made.session made.place made.first) }
 {
     let Parts {

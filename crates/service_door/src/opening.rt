@@ -1,8 +1,8 @@
 //! A session as it begins, before it stands in the table.
 
-ghost use Rattle.std.specs.Prelude.{◌≡◌, IfOk, true};
-ghost use Rattle.gate_model.specs.session.Steps.{IsSetup, IsTerminalType, is_mark};
-ghost use Rattle.std.specs.List.{list_all};
+ghost use Rattle.std.specs.Prelude.{IfOk};
+ghost use Rattle.gate_model.specs.session.Steps.{IsSetup};
+ghost use Rattle.guac_handshake.specs.Asks.{IsAskable};
 ghost use Rattle.service_door.specs.Begun.{HasOpened, HasPrepared, HasSetup};
 
 use crate::jobs::{PumpJob, SenderJob};
@@ -26,14 +26,14 @@ pub(crate) struct Opened {
     pub(crate) first: Bytes,
 }
 
-/// Opens a session as it is asked, with these faces, which its owner joins. An ask that no session can be opened with is answered
-/// as want of memory.
+/// Opens a session as it is asked, with these faces, which its owner joins.
 pub(crate) fn open_session(
     alloc: Global,
     now: u64,
     faces: Faces,
     ask: &Ask,
 ) -> Result<Opened, NoMemory>
+    requires { IsAskable ask.now }
     ensures { IfOk result (λ made. HasOpened faces ask.now made.host made.place made.first) }
 {
     let setup = setup_of(alloc, faces, ask)?;
@@ -55,39 +55,18 @@ pub(crate) fn open_session(
 
 // What the session is opened with.
 fn setup_of(alloc: Global, faces: Faces, ask: &Ask) -> Result<Setup, NoMemory>
+    requires { IsAskable ask.now }
     ensures valid { IfOk result (λ setup. IsSetup setup) }
     ensures asked { IfOk result (HasSetup ask.now faces) }
 {
-    let (cols, rows) = (ask.cols, ask.rows);
-    let is_size = (1..=512).contains(&cols) && (1..=256).contains(&rows);
-    if !is_size || !is_term(ask.term.as_str().as_bytes()) {
-        return Err(NoMemory);
-    }
     Ok(Setup {
-        cols,
-        rows,
+        cols: ask.cols,
+        rows: ask.rows,
         mode: ask.mode,
         term: Text::of(String::from_str(alloc, ask.term.as_str())?),
         faces,
         entries: MOST_ENTRIES,
     })
-}
-
-// Whether the text may be a terminal type.
-fn is_term(bytes: &[u8]) -> bool
-    ensures { result ≡ true → IsTerminalType bytes.now }
-{
-    if bytes.is_empty() || bytes.len() > 40 {
-        return false;
-    }
-    all_marks(bytes)
-}
-
-// Whether each byte is a visible character of ASCII.
-fn all_marks(bytes: &[u8]) -> bool
-    ensures { result ≡ list_all is_mark bytes.now }
-{
-    bytes.iter().all(|byte| 0x21 <= *byte && *byte <= 0x7E)
 }
 
 /// A session for the table, and its jobs, which wait to be started.
