@@ -1,7 +1,7 @@
 -- What others add changes nothing of what belongs to one pass: since every entry of its mark is its own, a turn
 -- finds as it left it what entries of that mark alone change.
-use Rattle.std.proofs.Common.{◌≡◌, ◌⊎◌, ℕ, ◌+◌, ◌*◌, ◌≤◌, ◌<◌, List, [], ◌∷◌, ◌++◌, length, Bool, true, false, inl, inr, refl, ap, sym, ◌∙◌, subst, append-nil, append_assoc, arith}
-use Rattle.std.specs.Prelude.{Option, Some, None, Ok, ◌==◌, if◌then◌else◌}
+use Rattle.std.proofs.Common.{◌≡◌, ℕ, ◌+◌, ◌≤◌, List, [], ◌∷◌, ◌++◌, length, Bool, true, false, inl, inr, refl, ap, sym, ◌∙◌, subst, append-nil, append_assoc, arith}
+use Rattle.std.specs.Prelude.{Some, None, Ok, ◌==◌, if◌then◌else◌}
 use Rattle.std.proofs.lemmas.Bool.{ne_eqb}
 use Rattle.gate_model.specs.declared.answer.Answer.{Answer}
 use Rattle.gate_model.specs.declared.entry.Entry.{Entry}
@@ -13,8 +13,7 @@ use Rattle.gate_model.specs.declared.instr.Instr.{Instr}
 use Rattle.gate_model.specs.declared.sharing.Role.{Role}
 use Rattle.gate_model.specs.session.Calls.{Step}
 use Rattle.gate_model.specs.session.Delivered.{delivered, given, last_sync, closing, handed}
-use Rattle.gate_model.specs.session.Entries.{is_join, taken_by}
-use Rattle.gate_model.specs.session.Entries as entries
+use Rattle.gate_model.specs.session.Entries.{is_join}
 use Rattle.gate_model.specs.session.History.{History, bytes, joined}
 use Rattle.gate_model.specs.session.Output.{out, sent, taken}
 use Rattle.gate_model.specs.Sequences.{BeginsWith}

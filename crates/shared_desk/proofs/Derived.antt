@@ -1,16 +1,14 @@
 -- What each kind of pass makes of its own part of the history.
-use Rattle.std.proofs.Common.{◌≡◌, ◌⊎◌, ℕ, ◌+◌, ◌*◌, ◌≤◌, ◌<◌, List, [], ◌∷◌, ◌++◌, length, Bool, true, false, inl, inr, ⊎_elim, refl, ap, sym, ◌∙◌, subst, append-nil, append_assoc, arith}
-use Rattle.std.specs.Prelude.{Option, Some, None, Contains, Result, Ok, Err, is_ok, ◌==◌, ◌||◌, if◌then◌else◌, take, drop}
-use Rattle.std.specs.List.{list_any}
+use Rattle.std.proofs.Common.{◌≡◌, ◌⊎◌, ℕ, ◌+◌, ◌≤◌, ◌<◌, List, [], ◌∷◌, ◌++◌, length, true, false, inl, inr, refl, ap, sym, ◌∙◌, subst, append-nil, arith}
+use Rattle.std.specs.Prelude.{Option, Some, None, Contains, Result, Ok, Err, is_ok, ◌==◌, if◌then◌else◌, take, drop}
 use Rattle.std.specs.Option.{option_map}
 use Rattle.std.proofs.lemmas.Bool.{ne_eqb, eq-eqb}
 use Rattle.std.proofs.lemmas.Bool.Decides.{eqb_tells}
 use Rattle.gate_model.specs.declared.act.Act.{Act}
 use Rattle.gate_model.specs.declared.answer.Answer.{Answer}
-use Rattle.gate_model.specs.declared.answer.Answer.TheVariants.{Feed as fed, Write as was_written, Resize as was_resized, Take as was_taken, Leave as was_left}
-use Rattle.gate_model.specs.declared.cause.Cause.{Cause}
+use Rattle.gate_model.specs.declared.answer.Answer.TheVariants.{Feed as fed, Write as was_written, Resize as was_resized, Leave as was_left}
 use Rattle.gate_model.specs.declared.entry.Entry.{Entry}
-use Rattle.gate_model.specs.declared.entry.Entry.TheVariants.{Feed, Size, Write, Take, Leave}
+use Rattle.gate_model.specs.declared.entry.Entry.TheVariants.{Size, Write, Leave}
 use Rattle.gate_model.specs.declared.event.Event.{Event}
 use Rattle.gate_model.specs.declared.event.Event.TheVariants.{Feed as feed, Read as read, Write as write, Resize as resize, Take as take_most, Leave as leave}
 use Rattle.gate_model.specs.declared.feed_refusal.FeedRefusal.{FeedRefusal}
@@ -28,21 +26,20 @@ use Rattle.gate_model.specs.session.Calls.{Adds, Step, take_entry}
 use Rattle.gate_model.specs.session.Delivered.{delivered, given}
 use Rattle.gate_model.specs.session.Entries as entries
 use Rattle.gate_model.specs.session.History.{History, bytes, newest}
-use Rattle.gate_model.specs.session.Output.{out, taken, untaken}
+use Rattle.gate_model.specs.session.Output.{out, taken}
 use Rattle.gate_model.specs.session.Refusals.{feed_refusal, write_refusal, resize_refusal, leave_refusal}
 use Rattle.gate_model.specs.session.Runs.{handed_out}
 use Rattle.gate_model.specs.text.Text.{texts}
 use Rattle.desk_core.specs.Calls.{feed_answer, resize_answer, write_answer}
-use Rattle.desk_core.proofs.Adding.{TakeTold, take_told}
+use Rattle.desk_core.proofs.Adding.{take_told}
 use Rattle.turn_lock.specs.declared.view.View.{View}
-use Rattle.turn_lock.specs.Places.{ArePlaces}
 use Rattle.turn_lock.proofs.Elements.{contains_head, contains_tail}
 use Rattle.shared_desk.specs.Called.{after_turn, Answers, Turned, take_answer}
 use Rattle.shared_desk.specs.Marks.{reader_mark}
 use Rattle.shared_desk.specs.Members.{IsViewers}
 use Rattle.shared_desk.specs.Own.{AreSized, is_place, entries_at, own_entries}
 use Rattle.shared_desk.proofs.Turns.{seen_is}
-use Rattle.shared_desk.proofs.Alone.{bytes_measure, taken_measure, found, found_viewer, unmarked, longer_than}
+use Rattle.shared_desk.proofs.Alone.{bytes_measure, taken_measure, found, found_viewer, longer_than}
 
 pub not_ok : {A E : Type 0} (f : E → Answer) (g : A → Answer) (o : Option E) (a : A) → ((e : E) (a : A) → f e ≡ g a → ⊥) → option_map f o ≡ Some (g a) → ⊥
 not_ok f g None a apart e = let w : None ≡ Some (g a) = e in cc

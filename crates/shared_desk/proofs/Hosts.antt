@@ -1,16 +1,15 @@
 -- What a host's pass keeps, and what the passes are that it gives out.
-use Rattle.std.proofs.Common.{◌≡◌, ◌≢◌, ◌⊎◌, ℕ, ◌+◌, ◌*◌, ◌≤◌, ◌<◌, List, [], ◌∷◌, ◌++◌, length, Bool, true, false, ⊎_elim, refl, ap, sym, ◌∙◌, subst, arith, length-append}
-use Rattle.std.specs.Prelude.{Option, Some, None, Contains, Ok, Err, Result, is_none, if◌then◌else◌}
+use Rattle.std.proofs.Common.{◌≡◌, ℕ, ◌+◌, ◌*◌, ◌≤◌, ◌<◌, List, [], ◌∷◌, ◌++◌, length, true, false, ⊎_elim, refl, ap, sym, ◌∙◌, subst, arith}
+use Rattle.std.specs.Prelude.{Option, Some, None, Contains, Ok, Err, is_none}
 use Rattle.std.specs.Option.{option_map}
 use Rattle.atomic_table.specs.Seated.{TableId}
 use Rattle.gate_model.specs.session.Calls.{Step}
 use Rattle.gate_model.specs.session.Delivered.{delivered, given}
-use Rattle.gate_model.specs.session.History.{History, all_frames, joined, newest}
+use Rattle.gate_model.specs.session.History.{History, joined, newest}
 use Rattle.gate_model.specs.session.Refusals.{join_refusal}
 use Rattle.gate_model.specs.session.Runs.{handed_out}
 use Rattle.gate_model.specs.Sequences.{IsLater}
 use Rattle.gate_model.specs.text.Text.{texts}
-use Rattle.gate_model.specs.declared.answer.Answer.{Answer}
 use Rattle.gate_model.specs.declared.answer.Answer.TheVariants.{Join as joined_as}
 use Rattle.gate_model.specs.declared.entry.Entry.{Entry}
 use Rattle.gate_model.specs.declared.entry.Entry.TheVariants.{Join as Joins}
@@ -23,12 +22,12 @@ use Rattle.gate_model.specs.declared.sharing.Role.{Role}
 use Rattle.gate_model.proofs.Truth.{facts_of}
 use Rattle.desk_core.specs.Calls.{join_answer}
 use Rattle.turn_lock.specs.declared.view.View.{View}
-use Rattle.turn_lock.specs.Views.{giving, more_given, MayGive, part_of}
+use Rattle.turn_lock.specs.Views.{giving, more_given, MayGive}
 use Rattle.turn_lock.proofs.Elements.{contains_cases}
 use Rattle.shared_desk.specs.declared.place.Place.{Place}
 use Rattle.shared_desk.specs.Called.{Gives, Turned}
-use Rattle.shared_desk.specs.HostParts.{host_state, AreSpare, KeepsHost}
-use Rattle.shared_desk.specs.Hosts.{HasJoined, HostState, IsFresh, IsHost, IsPlaceOf, JoinEnds, unlinked, with_place}
+use Rattle.shared_desk.specs.HostParts.{AreSpare, KeepsHost}
+use Rattle.shared_desk.specs.Hosts.{HasJoined, HostState, IsFresh, IsPlaceOf, JoinEnds, unlinked, with_place}
 use Rattle.shared_desk.specs.Marks.{reader_mark, writer_mark}
 use Rattle.shared_desk.specs.Members.{IsSound, PassState}
 use Rattle.shared_desk.proofs.Turns.{at_old, keeps_mark, keeps_given, seen_is, sound_after}

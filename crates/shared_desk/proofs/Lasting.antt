@@ -1,7 +1,7 @@
 -- What the loops over passes rest on: what a call adds to a pass's own entries, why it was refused, and what stays
 -- once it was seen.
 use Rattle.std.proofs.Common.{◌≡◌, ◌⊎◌, ℕ, ◌+◌, ◌≤◌, List, [], ◌∷◌, ◌++◌, length, Bool, true, false, inl, inr, refl, ap, sym, ◌∙◌, subst, append_assoc, arith}
-use Rattle.std.specs.Prelude.{Option, Some, None, Contains, Result, Ok, Err, not, ◌&&◌, ◌||◌, ◌==◌, nat_le, nat_lt, if◌then◌else◌, take}
+use Rattle.std.specs.Prelude.{Option, Some, None, Contains, Result, Ok, Err, not, ◌&&◌, ◌||◌, ◌==◌, nat_lt, if◌then◌else◌, take}
 use Rattle.std.specs.Option.{option_map}
 use Rattle.std.proofs.lemmas.Bool.{eq-eqb, leb-true, le-leb}
 use Rattle.std.proofs.lemmas.Bool.Decides.{eqb_tells}
@@ -20,7 +20,6 @@ use Rattle.gate_model.specs.declared.feed_refusal.FeedRefusal.TheVariants.{Close
 use Rattle.gate_model.specs.declared.how.How.{How}
 use Rattle.gate_model.specs.declared.how.How.TheVariants.{Suffix, Fresh as Picture}
 use Rattle.gate_model.specs.declared.instr.Instr.{Instr}
-use Rattle.gate_model.specs.declared.memory.NoMemory.{NoMemory}
 use Rattle.gate_model.specs.declared.no_viewer.NoViewer.{NoViewer}
 use Rattle.gate_model.specs.declared.read_answer.ReadAnswer.{ReadAnswer}
 use Rattle.gate_model.specs.declared.read_answer.ReadAnswer.TheVariants.{Frames, Fresh, Ended, Empty, Hold}
@@ -43,7 +42,7 @@ use Rattle.gate_model.specs.Sequences.{IsLater}
 use Rattle.gate_model.proofs.Added.{IsNext, next}
 use Rattle.gate_model.proofs.Causes.{closed_with_cause}
 use Rattle.desk_core.specs.Calls.{feed_answer, read_answer, resize_answer, write_answer}
-use Rattle.desk_core.proofs.Adding.{TakeTold, take_told}
+use Rattle.desk_core.proofs.Adding.{take_told}
 use Rattle.turn_lock.specs.declared.view.View.{View}
 use Rattle.turn_lock.proofs.Elements.{contains_head, contains_tail}
 use Rattle.shared_desk.specs.Called.{Answers, Turned, take_answer}

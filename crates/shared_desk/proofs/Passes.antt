@@ -1,5 +1,5 @@
 -- What holds of every pass is kept by each step outside a turn.
-use Rattle.std.proofs.Common.{◌≡◌, ℕ, List, length, Bool, true, false, sym, subst}
+use Rattle.std.proofs.Common.{◌≡◌, ℕ, length, Bool, true, false, sym, subst}
 use Rattle.std.specs.Prelude.{Contains, Option, Some, None, nat_lt, if◌then◌else◌}
 use Rattle.gate_model.specs.declared.entry.Entry.{Entry}
 use Rattle.gate_model.specs.session.History.{History}

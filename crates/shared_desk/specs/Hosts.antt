@@ -1,5 +1,5 @@
 -- What contracts say of a host's pass, and of the passes that it gives out (this project's own).
-use Rattle.std.specs.Prelude.{◌≡◌, ◌⊎◌, ℕ, ◌+◌, ◌*◌, ◌≤◌, Bool, true, false, List, [], ◌∷◌, ◌++◌, length, Contains, if◌then◌else◌, Option, Some, None, Result, Ok, Err}
+use Rattle.std.specs.Prelude.{◌≡◌, ◌⊎◌, ℕ, ◌+◌, ◌*◌, ◌≤◌, Bool, false, List, [], ◌∷◌, ◌++◌, length, Contains, if◌then◌else◌, Option, Some, None, Result, Ok, Err}
 use Rattle.atomic_table.specs.Seated.{TableId}
 use Rattle.gate_model.specs.session.Delivered.{delivered}
 use Rattle.gate_model.specs.session.History.{History, joined}
@@ -18,7 +18,7 @@ use Rattle.turn_lock.specs.declared.view.View.{View}
 use Rattle.turn_lock.specs.Views.{giving, part_of, beginning}
 use Rattle.shared_desk.specs.Called.{Gives}
 use Rattle.shared_desk.specs.Marks.{mark_of, reader_mark, writer_mark}
-use Rattle.shared_desk.specs.Members.{IsSound, PassState, ViewerState}
+use Rattle.shared_desk.specs.Members.{IsSound, PassState}
 use Rattle.shared_desk.specs.declared.place.Place.{Place}
 
 -- of which session it is, what it knows, whether it gave the passes of the link, and how many of the passes

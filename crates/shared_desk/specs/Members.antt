@@ -1,14 +1,17 @@
 -- What contracts see of a pass (this project's own).
-use Rattle.std.specs.Prelude.{◌≡◌, ℕ, ◌≤◌, Some, None, length}
+use Rattle.std.specs.Prelude.{◌≡◌, ℕ, ◌≤◌, Bool, true, false, Some, None, length}
 use Rattle.atomic_table.specs.Seated.{TableId}
 use Rattle.gate_model.specs.declared.entry.Entry.{Entry}
 use Rattle.gate_model.specs.session.Cost.{AllFrugal}
 use Rattle.gate_model.specs.session.History.{History, joined}
 use Rattle.gate_model.specs.session.Steps.{Legal}
 use Rattle.gate_model.specs.session.Whole.{Whole}
+use Rattle.desk_core.specs.Desk.{Stands}
+use Rattle.turn_lock.specs.Passes.{IsNext}
 use Rattle.turn_lock.specs.Views.{HasPlaces}
 use Rattle.turn_lock.specs.declared.view.View.{View}
-use Rattle.shared_desk.specs.Marks.{mark_of, reader_mark, writer_mark}
+use Rattle.shared_desk.specs.declared.held.Held.{Held}
+use Rattle.shared_desk.specs.Marks.{mark_of}
 
 -- of which session it is, and what it knows
 pub record PassState : Type 0 where
@@ -54,3 +57,8 @@ pub record KnowsViewer (viewer : ℕ) (v : View Entry) : Type 0 where
 pub record IsViewers (number viewer : ℕ) (v : View Entry) : Type 0 where
   pub mark : HasMark number v
   pub knows : KnowsViewer viewer v
+
+-- how a turn ends: with an entry more, which may be added to what is told so, or as it stood
+pub record IsEnding (adds : Entry → Type 0) (w : Held) (v : View Entry) (appended : Bool) : Type 0 where
+  pub added : appended ≡ true → (e : Entry) × IsNext (λ (x : Held) h. Stands x.desk h) mark_of adds w v e
+  pub same : appended ≡ false → Stands w.desk v.seen

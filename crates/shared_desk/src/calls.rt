@@ -8,7 +8,7 @@ ghost use Rattle.turn_lock.specs.Views.{passed, gained};
 ghost use Rattle.shared_desk.specs.declared.held.Held.{Held};
 ghost use Rattle.desk_core.specs.Desk.{Stands};
 ghost use Rattle.shared_desk.specs.Marks.{mark_of};
-ghost use Rattle.shared_desk.specs.Members.{IsPass};
+ghost use Rattle.shared_desk.specs.Members.{IsEnding, IsPass};
 
 use crate::held::Held;
 use crate::member::Member;
@@ -210,8 +210,7 @@ impl Member {
 // the entry.
 pub(crate) fn end_turn<N: Adds<Entry>, A>(turn: Turn<'_, Held>, appended: bool, told: &A)
     requires inside { IsInside (lock_in turn) (pass_in turn).now }
-    requires added { appended ≡ true → (e : Entry) × IsNext (λ (w : Held) h. Stands w.desk h) mark_of N.adds (value_in turn) (view_in turn) e }
-    requires same { appended ≡ false → Stands (value_in turn).desk (view_in turn).seen }
+    requires ends { IsEnding N.adds (value_in turn) (view_in turn) appended }
     ensures outside { IsOutside (lock_in turn.entry) turn.exit.1.0.now }
     ensures added { appended ≡ true → (e : Entry) × IsNext (λ (w : Held) h. Stands w.desk h) mark_of N.adds (value_in turn.entry) (view_in turn.entry) e × (view_of turn.exit.1.0.now ≡ passed (gained e (view_in turn.entry))) }
     ensures same { appended ≡ false → view_of turn.exit.1.0.now ≡ passed (view_in turn.entry) }

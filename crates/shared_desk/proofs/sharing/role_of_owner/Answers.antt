@@ -1,4 +1,4 @@
-use Rattle.std.proofs.Common.{arith, length}
+use Rattle.std.proofs.Common.{arith}
 use Rattle.shared_desk.proofs.Openings.{owner_has}
 use Rattle.shared_desk.proofs.sharing.role_of_owner.Goals as goal
 

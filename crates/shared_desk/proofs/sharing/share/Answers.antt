@@ -1,8 +1,7 @@
-use Rattle.std.proofs.Common.{◌≡◌, refl, ap, sym, ◌∙◌, rules}
+use Rattle.std.proofs.Common.{refl, ap, sym, ◌∙◌, rules}
 use Rattle.gate_model.specs.session.History.{joined}
 use Rattle.gate_model.specs.declared.entry.Entry.{Entry}
 use Rattle.turn_lock.specs.declared.view.View.{View}
-use Rattle.shared_desk.specs.Hosts.{HasBegun}
 use Rattle.shared_desk.proofs.Openings.{owner_joined, begun_with, opens_pass}
 use Rattle.shared_desk.proofs.Turns.{sound_of}
 use Rattle.shared_desk.proofs.sharing.share.Goals.{in-Some+in_ok-owners-in-Some, in-None}

@@ -1,4 +1,4 @@
-use Rattle.std.proofs.Common.{rules, ◌≡◌, ap, sym, ◌∙◌, subst, refl}
+use Rattle.std.proofs.Common.{rules, ◌≡◌, ap, sym, subst, refl}
 use Rattle.std.specs.Prelude.{Err, Result}
 use Rattle.gate_model.specs.declared.join_refusal.JoinRefusal.{JoinRefusal}
 use Rattle.shared_desk.specs.declared.place.Place.{Place}

@@ -1,7 +1,7 @@
-use Rattle.std.proofs.Common.{arith, ◌≡◌, ◌≤◌, ◌+◌, ◌*◌, ◌∙◌, sym, ap, subst}
+use Rattle.std.proofs.Common.{arith, ◌≤◌, ◌+◌, ◌*◌, ◌∙◌, sym, ap, subst}
 use Rattle.gate_model.specs.session.History.{joined}
 use Rattle.shared_desk.specs.Hosts.{HostState, unlinked}
-use Rattle.shared_desk.proofs.Hosts.{AreBelow, below_at, may_read, may_write, keeps_placed}
+use Rattle.shared_desk.proofs.Hosts.{below_at, may_read, may_write, keeps_placed}
 use Rattle.shared_desk.proofs.host.HostPass.place.Goals as goal
 
 pub part-reader-requires-clause-may : goal.part-reader-requires-clause-may

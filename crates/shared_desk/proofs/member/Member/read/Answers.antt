@@ -6,15 +6,12 @@ use Rattle.turn_lock.specs.Passes.{view_of}
 use Rattle.turn_lock.specs.Turns.{view_in}
 use Rattle.turn_lock.specs.declared.view.View.{View}
 use Rattle.shared_desk.specs.Members.{PassState}
-use Rattle.shared_desk.proofs.Acting.{adds, stays, turns}
+use Rattle.shared_desk.proofs.Acting.{ends, turns}
 use Rattle.shared_desk.proofs.Turns.{front_is}
 use Rattle.shared_desk.proofs.member.Member.read.Goals as goal
 
-pub end_turn-requires-clause-added : goal.end_turn-requires-clause-added
-end_turn-requires-clause-added g c = adds (view_in c.turn-turn.result) _ c.value.result.now (Read c.args.viewer) (read_answer c.read-result.result) (take c.len-before.result c.read-result.new.into.items) c.args.into.now.items c.read-result.new.into.items c.read-result.new.self c.entries-entries.result c.entries.result c.value.ensures.value c.turn-turn.ensures.stands.0 c.read-result.ensures.step c.entries-entries.ensures.counts c.entries.ensures.counts (λ k. front_is _ _ c.args.into.now.items c.read-result.new.into.items _ _ c.len-before.result k (search rules)) (inr (ap (λ (v : View Entry). v.mark) c.turn-turn.ensures.view.1 ∙ (ap (λ (s : PassState). s.view.mark) c.self.view_is ∙ c.requires.mark)))
-
-pub end_turn-requires-clause-same : goal.end_turn-requires-clause-same
-end_turn-requires-clause-same g c = stays (view_in c.turn-turn.result) _ c.value.result.now (Read c.args.viewer) (read_answer c.read-result.result) (take c.len-before.result c.read-result.new.into.items) c.args.into.now.items c.read-result.new.into.items c.read-result.new.self c.entries-entries.result c.entries.result c.value.ensures.value c.turn-turn.ensures.stands.0 c.read-result.ensures.step c.entries-entries.ensures.counts c.entries.ensures.counts (λ k. front_is _ _ c.args.into.now.items c.read-result.new.into.items _ _ c.len-before.result k (search rules))
+pub end_turn-requires-clause-ends : goal.end_turn-requires-clause-ends
+end_turn-requires-clause-ends g c = ends (view_in c.turn-turn.result) _ c.value.result.now (Read c.args.viewer) (read_answer c.read-result.result) (take c.len-before.result c.read-result.new.into.items) c.args.into.now.items c.read-result.new.into.items c.read-result.new.self c.entries-entries.result c.entries.result c.value.ensures.value c.turn-turn.ensures.stands.0 c.read-result.ensures.step c.entries-entries.ensures.counts c.entries.ensures.counts (λ k. front_is _ _ c.args.into.now.items c.read-result.new.into.items _ _ c.len-before.result k (search rules)) (inr (ap (λ (v : View Entry). v.mark) c.turn-turn.ensures.view.1 ∙ (ap (λ (s : PassState). s.view.mark) c.self.view_is ∙ c.requires.mark)))
 
 pub returns-clause-called : goal.returns-clause-called
 returns-clause-called g c =

@@ -1,6 +1,5 @@
 use Rattle.std.proofs.Common.{rules, refl, ap, sym, subst}
 use Rattle.gate_model.specs.declared.event.Event.TheVariants.{Join}
-use Rattle.gate_model.specs.session.History.{History}
 use Rattle.desk_core.specs.Desk.{Stands}
 use Rattle.turn_lock.specs.Passes.{view_of}
 use Rattle.turn_lock.specs.Turns.{view_in}
@@ -9,8 +8,8 @@ use Rattle.shared_desk.specs.Members.{PassState}
 use Rattle.shared_desk.proofs.Acting.{asked_turn}
 use Rattle.shared_desk.proofs.member.Member.refuse.Goals as goal
 
-pub end_turn-requires-clause-same : goal.end_turn-requires-clause-same
-end_turn-requires-clause-same g c = λ same. subst (λ (w : Held). Stands w.desk (view_in c.turn-turn.result).seen) (sym c.value.ensures.value) c.turn-turn.ensures.stands.0
+pub end_turn-requires-clause-ends : goal.end_turn-requires-clause-ends
+end_turn-requires-clause-ends g c = record { added = λ none. absurd (cc); same = λ same. subst (λ (w : Held). Stands w.desk (view_in c.turn-turn.result).seen) (sym c.value.ensures.value) c.turn-turn.ensures.stands.0 }
 
 pub returns-clause-called : goal.returns-clause-called
 returns-clause-called g c = λ text.

@@ -2,7 +2,6 @@ use Rattle.std.proofs.Common.{subst}
 use Rattle.gate_model.specs.declared.event.Event.TheVariants.{Read}
 use Rattle.desk_core.specs.Calls.{read_answer}
 use Rattle.shared_desk.specs.Called.{Gives}
-use Rattle.shared_desk.specs.Marks.{reader_mark}
 use Rattle.shared_desk.specs.Members.{ViewerState}
 use Rattle.shared_desk.proofs.Alone.{keeps_viewers}
 use Rattle.shared_desk.proofs.Derived.{Delivers, delivers}
