@@ -12,7 +12,7 @@ use Rattle.guac_framing.specs.Answers.{IsWhole}
 use Rattle.guac_framing.specs.Found.{HasNoInstruction, IsBadPlace}
 use Rattle.guac_handshake.specs.Splits.{IsInstruction, Splits}
 use Rattle.guac_handshake.proofs.Behind.{splits_more}
-use Rattle.http_tunnel.specs.Bodies.{HasRead, IsNoBody, TakesNext, Wish, is_disconnect, no_wish, wish_more, wish_of, with_act, with_instruction}
+use Rattle.http_tunnel.specs.Bodies.{HasRead, IsNoBody, IsPutBehind, TakesNext, Wish, is_disconnect, no_wish, wish_more, wish_of, with_act, with_instruction}
 use Rattle.http_tunnel.specs.declared.acts.BodyFault.{BodyFault}
 use Rattle.http_tunnel.specs.declared.acts.BodyFault.TheVariants.{Form, NoMemory}
 
@@ -115,9 +115,19 @@ module _ (body rest : List ℕ) (wish : Wish) (n : ℕ) (s : SoFar body rest wis
   pub far_next : (now : Wish) (k : ℕ) (after : List ℕ) → (rest ≡ [] → ⊥) → TakesNext wish now rest (Ok k) → after ≡ drop k rest → SoFar body after now (n + 1)
   far_next now k after some t is = subst (λ (bs : List ℕ). SoFar body bs now (n + 1)) (sym is) (far_on t.0 k t.1 some now t.2)
 
-  pub far_stop : (now : Wish) (fault : BodyFault) → (rest ≡ [] → ⊥) → TakesNext wish now rest (Err fault) → HasRead body (Err fault)
-  far_stop now Form some t = none_next t some
-  far_stop now NoMemory some t = tt
+  pub far_stop : (now : Wish) (fault : BodyFault) → n ≤ most_acts → (rest ≡ [] → ⊥) → TakesNext wish now rest (Err fault) → HasRead body (Err fault)
+  far_stop now Form few some t = none_next t some
+  far_stop now NoMemory few some t =
+      let own = take t.1 rest in
+      let after = drop t.1 rest in
+      let i : IsInstruction own t.0 = (t.2.elements, t.2.spelled, t.2.texts) in record {
+        instructions = s.heard;
+        values = t.0;
+        rest = after;
+        splits = splits_more s.heard body rest own after t.0 s.splits i (sym (take-append-drop t.1 rest));
+        few = omega (arith, few, s.count);
+        put = subst (λ (w : Wish). IsPutBehind w (act_of t.0)) s.wish_is t.3;
+      }
 
 pub bad_none : (rest : List ℕ) (place : ℕ) → IsBadPlace rest place → HasNoInstruction rest
 bad_none rest place bad = subst HasNoInstruction (take-append-drop (place + 1) rest) (bad.through (drop (place + 1) rest))

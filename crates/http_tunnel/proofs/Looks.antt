@@ -32,7 +32,7 @@ use Rattle.turn_lock.specs.declared.view.View.{View}
 use Rattle.shared_desk.specs.Called.{Answers, Gives, Turned, after_turn}
 use Rattle.shared_desk.specs.Own.{entries_at, is_place, own_entries}
 use Rattle.shared_desk.proofs.Lasting.{ReadOn, read_adds, turn_later, turn_sound}
-use Rattle.http_tunnel.specs.Reads.{GivesNothing, HasLooked, HasRead, IsOneRead, LookCause, LooksNothing, TunnelCause, end_of, look_of, second}
+use Rattle.http_tunnel.specs.Reads.{EndCause, GivesNothing, HasLooked, HasRead, IsOneRead, IsWanting, LookCause, LooksNothing, TunnelCause, end_of, look_of, second}
 use Rattle.http_tunnel.specs.declared.reading.TunnelEnd.{TunnelEnd}
 use Rattle.http_tunnel.specs.declared.reading.TunnelEnd.TheVariants.{Open, Ended}
 use Rattle.http_tunnel.specs.declared.reading.TunnelRefusal.{TunnelRefusal}
@@ -85,7 +85,9 @@ Said over (Ok (Fresh stamp closed)) = ⊥
 Said over (Ok read_ended) = over ≡ true
 Said over (Ok Empty) = over ≡ false
 Said over (Ok (Hold n)) = over ≡ false
-Said over (Err refused) = Unit {0}
+Said over (Err read_no_viewer) = Unit {0}
+Said over (Err (read_worn n)) = Unit {0}
+Said over (Err read_no_memory) = ⊥
 
 said : (away over none held full : Bool) (m n : ℕ) (r : Result ReadAnswer ReadRefusal) → chain away over none held full m n ≡ Some r → Said over r
 said true over none held full m n r e = subst (λ (x : Result ReadAnswer ReadRefusal). Said over x) (same_some (Err read_no_viewer) r e) tt
@@ -127,7 +129,7 @@ stopped_cause h viewer more (Ok Empty) stop s = (refl, s, inl stop)
 stopped_cause h viewer more (Ok (Hold n)) stop s = (refl, s, inr (n, stop))
 stopped_cause h viewer more (Err read_no_viewer) stop s = stop
 stopped_cause h viewer more (Err (read_worn n)) stop s = stop
-stopped_cause h viewer more (Err read_no_memory) stop s = tt
+stopped_cause h viewer more (Err read_no_memory) stop s = absurd s
 
 -- .. and gives nothing
 stopped_nothing : (r : Result ReadAnswer ReadRefusal) (xs : List ℕ) → xs ≡ [] → LooksNothing (look_of r) [] xs
@@ -280,8 +282,16 @@ module _ (v w : View Entry) (viewer : ℕ) (more : List Instr) (given_more : del
   answered : (r : Result ReadAnswer ReadRefusal) (before after : List ℕ) → Turned v w (Answers (read viewer) (Ok (was_read r)) before after) → ReadOn v w viewer r → after ≡ before ++ texts more → HasLooked viewer v w (texts more) (look_of r)
   answered r before after t on wrote = has_looked t (look_of r) (look_adds r before after t on wrote)
 
-  unanswered : (before after : List ℕ) → Turned v w (Answers (read viewer) (Err record {}) before after) → HasLooked viewer v w (texts more) (Err NoMemory)
-  unanswered before after t = has_looked t (Err NoMemory) record { reads = []; few = inl refl; own = own_same v w _ t t.did_it.1; cause = tt; nothing = tt }
+  unanswered : (before after : List ℕ) → Turned v w (Answers (read viewer) (Err record {}) before after) → after ≡ before ++ texts more → HasLooked viewer v w (texts more) (Err NoMemory)
+  unanswered before after t wrote =
+      let found : w.seen ≡ t.before = seen_is v w _ t ∙ ap (λ (es : List Entry). es ++ t.before) t.did_it.1 in
+      has_looked t (Err NoMemory) record {
+        reads = [];
+        few = inl refl;
+        own = own_same v w _ t t.did_it.1;
+        cause = inl (right_none before (texts more) (sym wrote ∙ t.did_it.2), ap (λ (h : History). stop_of h (read viewer)) found ∙ t.did_it.0);
+        nothing = tt;
+      }
 
   pub looked : (r : Result ReadAnswer ReadRefusal) (before after : List ℕ) → Gives v (read viewer) (read_answer r) w before after → after ≡ before ++ texts more → HasLooked viewer v w (texts more) (look_of r)
   looked (Ok (Frames n stamp closed)) before after t wrote = answered (Ok (Frames n stamp closed)) before after t (read_adds v w viewer (Ok (Frames n stamp closed)) before after t) wrote
@@ -291,7 +301,7 @@ module _ (v w : View Entry) (viewer : ℕ) (more : List Instr) (given_more : del
   looked (Ok (Hold n)) before after t wrote = answered (Ok (Hold n)) before after t (read_adds v w viewer (Ok (Hold n)) before after t) wrote
   looked (Err read_no_viewer) before after t wrote = answered (Err read_no_viewer) before after t (read_adds v w viewer (Err read_no_viewer) before after t) wrote
   looked (Err (read_worn n)) before after t wrote = answered (Err (read_worn n)) before after t (read_adds v w viewer (Err (read_worn n)) before after t) wrote
-  looked (Err read_no_memory) before after t wrote = unanswered before after t
+  looked (Err read_no_memory) before after t wrote = unanswered before after t wrote
 
 -- .. told by its equal
 pub looked_as : (v w : View Entry) (viewer : ℕ) (more : List Instr) → delivered w.seen viewer ≡ delivered v.seen viewer ++ more → (r : Result ReadAnswer ReadRefusal) (before after : List ℕ) → Gives v (read viewer) (read_answer r) w before after → after ≡ before ++ texts more
@@ -310,15 +320,28 @@ module _ (viewer : ℕ) (v w : View Entry) (text : List ℕ) where
 
   -- want of memory comes with any text
   pub read_unmarked : (end : TunnelEnd) → HasRead viewer v w text (Ok end) → HasRead viewer v w text (Err NoMemory)
-  read_unmarked end k = record { later = k.later; known = k.known; reads = k.reads; few = k.few; own = k.own; more = k.more; given = k.given; wrote = k.wrote; cause = tt; refused = tt; sound = k.sound }
+  read_unmarked end k = record { later = k.later; known = k.known; reads = k.reads; few = k.few; own = k.own; more = k.more; given = k.given; wrote = k.wrote; cause = inr (end, k.cause); refused = tt; sound = k.sound }
 
-second_cause : (r : Result (Option TunnelEnd) TunnelRefusal) (viewer : ℕ) (seen : History) (first more : List Instr) (reads : List Entry) → LookCause r viewer seen more reads → TunnelCause (second r) viewer seen (first ++ more)
-second_cause (Ok None) viewer seen first more reads c = (c.1, λ none. c.2)
-second_cause (Ok (Some Ended)) viewer seen first more reads c = c
-second_cause (Ok (Some Open)) viewer seen first more reads c = (c.0, λ none. c.1 (both_none first more none))
-second_cause (Err NoViewer) viewer seen first more reads c = c
-second_cause (Err (Worn n)) viewer seen first more reads c = c
-second_cause (Err NoMemory) viewer seen first more reads c = c
+texts-append : (xs ys : List Instr) → texts (xs ++ ys) ≡ texts xs ++ texts ys
+texts-append [] ys = refl
+texts-append (x ∷ xs) ys = ap (λ (bs : List ℕ). text x ++ bs) (texts-append xs ys) ∙ sym (append_assoc (text x) (texts xs) (texts ys))
+
+-- the first look gave nothing
+module _ (viewer : ℕ) (seen : History) (first more : List Instr) (none_first : texts first ≡ []) where
+  second_end : (end : TunnelEnd) → EndCause end viewer seen more → EndCause end viewer seen (first ++ more)
+  second_end Ended c = c
+  second_end Open c = (c.0, λ none. c.1 (both_none first more none))
+
+  second_wanting : IsWanting viewer seen more → IsWanting viewer seen (first ++ more)
+  second_wanting (inl k) = inl (texts-append first more ∙ (ap (λ (bs : List ℕ). bs ++ texts more) none_first ∙ k.0), k.1)
+  second_wanting (inr k) = inr (k.0, second_end k.0 k.1)
+
+  second_cause : (r : Result (Option TunnelEnd) TunnelRefusal) (reads : List Entry) → LookCause r viewer seen more reads → TunnelCause (second r) viewer seen (first ++ more)
+  second_cause (Ok None) reads c = (c.1, λ none. c.2)
+  second_cause (Ok (Some end)) reads c = second_end end c
+  second_cause (Err NoViewer) reads c = c
+  second_cause (Err (Worn n)) reads c = c
+  second_cause (Err NoMemory) reads c = second_wanting c
 
 second_nothing : (r : Result (Option TunnelEnd) TunnelRefusal) (first more : List ℕ) (reads : List Entry) → first ≡ [] → LooksNothing r reads more → GivesNothing (second r) reads (first ++ more)
 second_nothing (Ok None) first more reads e k = tt
@@ -326,10 +349,6 @@ second_nothing (Ok (Some end)) first more reads e k = tt
 second_nothing (Err NoViewer) first more reads e k = (k.0, ap (λ (xs : List ℕ). xs ++ more) e ∙ k.1)
 second_nothing (Err (Worn n)) first more reads e k = (k.0, ap (λ (xs : List ℕ). xs ++ more) e ∙ k.1)
 second_nothing (Err NoMemory) first more reads e k = tt
-
-texts-append : (xs ys : List Instr) → texts (xs ++ ys) ≡ texts xs ++ texts ys
-texts-append [] ys = refl
-texts-append (x ∷ xs) ys = ap (λ (bs : List ℕ). text x ++ bs) (texts-append xs ys) ∙ sym (append_assoc (text x) (texts xs) (texts ys))
 
 -- nothing was there at the first look
 pub read_second : (viewer other : ℕ) (v u w : View Entry) (first more : List ℕ) (r : Result (Option TunnelEnd) TunnelRefusal) → other ≡ viewer → HasLooked viewer v u first (Ok None) → HasLooked other u w more r → HasRead viewer v w (first ++ more) (second r)
@@ -343,7 +362,7 @@ read_second viewer other v u w first more r same a given_b =
       more = a.more ++ b.more;
       given = b.given ∙ (ap (λ (xs : List Instr). xs ++ b.more) a.given ∙ append_assoc (delivered v.seen viewer) a.more b.more);
       wrote = ap (λ (bs : List ℕ). bs ++ more) a.wrote ∙ (ap (λ (bs : List ℕ). texts a.more ++ bs) b.wrote ∙ sym (texts-append a.more b.more));
-      cause = second_cause r viewer w.seen a.more b.more b.reads b.cause;
+      cause = second_cause viewer w.seen a.more b.more (sym a.wrote ∙ a.nothing.1) r b.reads b.cause;
       refused = second_nothing r first more b.reads a.nothing.1 b.nothing;
       sound = b.sound;
     }

@@ -60,11 +60,11 @@ and_right : (a b : Bool) → (a && b) ≡ true → b ≡ true
 and_right true b e = e
 and_right false b e = absurd (let z : false ≡ true = e in cc)
 
-cause_of : (end : Result TunnelEnd TunnelRefusal) (viewer : ℕ) (seen : History) (more : List Instr) → TunnelCause end viewer seen more → RefusedCause end viewer seen
+cause_of : (end : Result TunnelEnd TunnelRefusal) (viewer : ℕ) (seen : History) (more : List Instr) → TunnelCause end viewer seen more → RefusedCause end viewer seen more
 cause_of (Ok end) viewer seen more c = tt
 cause_of (Err NoViewer) viewer seen more c = not_true (is_live seen viewer) (away_after seen viewer (mapped_read (read_stop seen viewer) (Err read_no_viewer) c))
 cause_of (Err (Worn n)) viewer seen more c = and_right (not (is_closed seen)) (is_full seen) (full_after seen viewer n (mapped_read (read_stop seen viewer) (Err (read_worn n)) c))
-cause_of (Err NoMemory) viewer seen more c = tt
+cause_of (Err NoMemory) viewer seen more c = c
 
 -- ---- its beginning
 

@@ -19,7 +19,7 @@ use Rattle.shared_desk.proofs.Lasting.{leave_gone}
 use Rattle.viewer_acts.specs.Parts.{parts_of}
 use Rattle.viewer_acts.specs.Doing.{HasWritten, StopCause as PartCause, WritesSome}
 use Rattle.viewer_acts.proofs.Doings.{call_goes_on, done_on, goes_nowhere}
-use Rattle.http_tunnel.specs.Bodies.{HasRead, IsBody, IsNoBody, Wish, wish_of}
+use Rattle.http_tunnel.specs.Bodies.{HasNoRoom, HasRead, IsBody, IsNoBody, Wish, wish_of}
 use Rattle.http_tunnel.specs.Tunnels.{AreHome, IsHome}
 use Rattle.http_tunnel.specs.Writes.{HasLeft, HasPut, StopsWish, WriteCause, WriteOf, WritesBody, WritesWish, is_ended, refused_write, without_value}
 use Rattle.http_tunnel.specs.declared.acts.BodyFault.{BodyFault}
@@ -36,7 +36,7 @@ refused_cause : (r : WriteRefusal) (viewer : ℕ) (seen : History) → PartCause
 refused_cause written.NoViewer viewer seen c = c
 refused_cause (written.Closed x) viewer seen c = inl (closed_with_cause seen x c).0
 refused_cause (written.Worn n) viewer seen c = inr c
-refused_cause written.NoMemory viewer seen c = tt
+refused_cause written.NoMemory viewer seen c = c
 
 wish_stopped : (viewer : ℕ) (v w : View Entry) (wish : Wish) (r : WriteRefusal) → WritesSome viewer v w wish.acts r → StopsWish viewer v w wish (refused_write r)
 wish_stopped viewer v w wish r s = record { parts = s.parts; lost = s.lost; left = s.left; split = s.split; wrote = s.wrote; cause = refused_cause r viewer w.seen s.cause }
@@ -72,6 +72,9 @@ wish_done_as viewer other v u w inside wish done is same acts left = subst (λ (
 
 pub no_body : (body : List ℕ) (fault : BodyFault) → fault ≡ fault_kind.Form → HasRead body (Err fault) → IsNoBody body
 no_body body fault is k = subst (λ (x : BodyFault). HasRead body (Err x)) is k
+
+pub no_room : (body : List ℕ) (fault : BodyFault) → fault ≡ fault_kind.NoMemory → HasRead body (Err fault) → HasNoRoom body
+no_room body fault is k = subst (λ (x : BodyFault). HasRead body (Err x)) is k
 
 wish_body : (viewer : ℕ) (v w : View Entry) (body : List ℕ) (instructions : List (List (List ℕ))) (r : Result Bool Refusal) → IsBody body instructions → WritesWish viewer v w (wish_of instructions) r → WritesBody viewer v w body r
 wish_body viewer v w body instructions (Ok ended) b k = (instructions, b, k.0, k.1)

@@ -44,14 +44,28 @@ pub record IsBody (body : List ℕ) (instructions : List (List (List ℕ))) : Ty
 abbrev pub IsNoBody : List ℕ → Type 0
 IsNoBody body = (instructions : List (List (List ℕ))) → IsBody body instructions → ⊥
 
+-- the act is to be put behind those of the wish
+abbrev pub IsPutBehind : Wish → Option Act → Type 0
+IsPutBehind wish None = ⊥
+IsPutBehind wish (Some act) = (wish.ends ≡ false) × (is_disconnect act ≡ false)
+
+-- memory was wanting in the list of the acts, for that of an instruction behind these
+pub record HasNoRoom (body : List ℕ) : Type 0 where
+  pub instructions : List (List (List ℕ))
+  pub values : List (List ℕ)
+  pub rest : List ℕ
+  pub splits : Splits body (instructions ++ values ∷ []) rest
+  pub few : length instructions ≤ most_acts
+  pub put : IsPutBehind (wish_of instructions) (act_of values)
+
 -- the body asks this; or it is out of form, or memory was wanting
 abbrev pub HasRead : List ℕ → Result Wish BodyFault → Type 0
 HasRead body (Ok wish) = (instructions : List (List (List ℕ))) × IsBody body instructions × (wish ≡ wish_of instructions) × (length wish.acts ≤ most_acts)
 HasRead body (Err Form) = IsNoBody body
-HasRead body (Err NoMemory) = Unit {0}
+HasRead body (Err NoMemory) = HasNoRoom body
 
 -- .. one instruction of it, of so many bytes
 abbrev pub TakesNext : Wish → Wish → List ℕ → Result ℕ BodyFault → Type 0
 TakesNext old new rest (Ok count) = (values : List (List ℕ)) × IsWhole rest values count × (new ≡ with_act old (act_of values))
 TakesNext old new rest (Err Form) = HasNoInstruction rest
-TakesNext old new rest (Err NoMemory) = Unit {0}
+TakesNext old new rest (Err NoMemory) = (values : List (List ℕ)) × (count : ℕ) × IsWhole rest values count × IsPutBehind old (act_of values)

@@ -1,5 +1,5 @@
--- In reading order: what a request asks, what a read did, what a place that goes back does,
--- what a read does to the tunnels, what a body asks, what a write does to the tunnels, what a request for a tunnel does, how each is answered.
+-- In reading order: what a request asks, what a read did, what a place that goes back does, what a read does to the
+-- tunnels, what a body asks, what a write does to the tunnels, what a request for a tunnel does, how each is answered.
 pub mod Routes
 pub mod Reads
 pub mod Places

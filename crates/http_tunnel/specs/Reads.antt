@@ -32,12 +32,21 @@ abbrev pub IsOneRead : ℕ → List Entry → Type 0
 IsOneRead viewer reads = (reads ≡ []) ⊎ ((how : How) × (reads ≡ Read viewer how ∷ []))
 
 -- why it ended so, by what its pass has seen and what was delivered
+abbrev pub EndCause : TunnelEnd → ℕ → History → List Instr → Type 0
+EndCause Ended viewer seen more = ended seen viewer ≡ true
+EndCause Open viewer seen more = (ended seen viewer ≡ false) × (more ≡ [] → IsIdle seen viewer)
+
+-- where memory was wanting: in the turn of a read that nothing else stopped, which gave nothing; or in the buffer for the
+-- mark, behind what a read gave that ended so
+abbrev pub IsWanting : ℕ → History → List Instr → Type 0
+IsWanting viewer seen more = ((texts more ≡ []) × (stop_of seen (read viewer) ≡ None)) ⊎ ((end : TunnelEnd) × EndCause end viewer seen more)
+
+-- .. or was refused
 abbrev pub TunnelCause : Result TunnelEnd TunnelRefusal → ℕ → History → List Instr → Type 0
-TunnelCause (Ok Ended) viewer seen more = ended seen viewer ≡ true
-TunnelCause (Ok Open) viewer seen more = (ended seen viewer ≡ false) × (more ≡ [] → IsIdle seen viewer)
+TunnelCause (Ok end) viewer seen more = EndCause end viewer seen more
 TunnelCause (Err NoViewer) viewer seen more = stop_of seen (read viewer) ≡ Some (was_read (Err read_no_viewer))
 TunnelCause (Err (Worn entries)) viewer seen more = stop_of seen (read viewer) ≡ Some (was_read (Err (read_worn entries)))
-TunnelCause (Err NoMemory) viewer seen more = Unit {0}
+TunnelCause (Err NoMemory) viewer seen more = IsWanting viewer seen more
 
 -- what stands behind the text: the mark of the end where nothing is refused
 abbrev pub mark_of : Result TunnelEnd TunnelRefusal → List ℕ

@@ -1,10 +1,11 @@
 -- What a request does to the tunnels, where their shelf tells what is there (this project's own).
 use Rattle.std.specs.Prelude.{◌≡◌, ◌⊎◌, ℕ, Bool, true, false, ◌||◌, if◌then◌else◌, List, [], ◌++◌, Option, Some, None, IfSome, is_some, Result, Ok, Err}
+use Rattle.gate_model.specs.declared.instr.Instr.{Instr}
 use Rattle.gate_model.specs.session.History.{History, is_full}
 use Rattle.gate_model.specs.session.Rights.{is_live}
 use Rattle.id_table.specs.Maps.{Changed, Same, Shelved}
 use Rattle.shared_desk.specs.Members.{Stays, ViewerState}
-use Rattle.http_tunnel.specs.Reads.{HasRead, mark_of}
+use Rattle.http_tunnel.specs.Reads.{HasRead, IsWanting, mark_of}
 use Rattle.http_tunnel.specs.declared.read.Left.{Left}
 use Rattle.http_tunnel.specs.declared.read.Lent.{Lent}
 use Rattle.http_tunnel.specs.declared.read.Taken.{Taken}
@@ -99,12 +100,12 @@ pub record IsAnswered (kept text : List ℕ) (end : Result TunnelEnd TunnelRefus
   pub kept_now : left.kept ≡ kept_by kept text end
   pub ended : left.ended ≡ is_end end
 
--- why a read was refused: its viewer isn't there, or its session may have no more entries
-abbrev pub RefusedCause : Result TunnelEnd TunnelRefusal → ℕ → History → Type 0
-RefusedCause (Ok end) viewer seen = Unit {0}
-RefusedCause (Err tunnel.NoViewer) viewer seen = is_live seen viewer ≡ false
-RefusedCause (Err (tunnel.Worn entries)) viewer seen = is_full seen ≡ true
-RefusedCause (Err tunnel.NoMemory) viewer seen = Unit {0}
+-- why a read was refused: its viewer isn't there, its session may have no more entries, or memory was wanting
+abbrev pub RefusedCause : Result TunnelEnd TunnelRefusal → ℕ → History → List Instr → Type 0
+RefusedCause (Ok end) viewer seen more = Unit {0}
+RefusedCause (Err tunnel.NoViewer) viewer seen more = is_live seen viewer ≡ false
+RefusedCause (Err (tunnel.Worn entries)) viewer seen more = is_full seen ≡ true
+RefusedCause (Err tunnel.NoMemory) viewer seen more = IsWanting viewer seen more
 
 -- one read of the tunnel of the ID; a place went back exactly where the tunnel went
 pub record IsReadOf (id : List ℕ) (back : Bool) (result : Result (List ℕ) Refusal) (m n : Shelved Tunnel) : Type 0 where
@@ -118,7 +119,7 @@ pub record IsReadOf (id : List ℕ) (back : Bool) (result : Result (List ℕ) Re
   pub end : Result TunnelEnd TunnelRefusal
   pub read : HasRead reader.viewer reader.view now.view text end
   pub answered : result ≡ read_answer tunnel.kept text end
-  pub cause : RefusedCause end reader.viewer now.view.seen
+  pub cause : RefusedCause end reader.viewer now.view.seen read.more
   pub removed : back ≡ is_end end
   pub left : Changed id (if back then None else Some (Some (with_reader tunnel now (kept_by tunnel.kept text end)))) m n
 

@@ -11,8 +11,8 @@ use Rattle.turn_lock.specs.declared.view.View.{View}
 use Rattle.shared_desk.specs.Members.{Stays, ViewerState}
 use Rattle.shared_desk.specs.Own.{own_entries}
 use Rattle.viewer_acts.specs.Parts.{Part, parts_of}
-use Rattle.viewer_acts.specs.Doing.{GoesOn, HasDone, WritesParts}
-use Rattle.http_tunnel.specs.Bodies.{IsBody, IsNoBody, Wish, wish_of}
+use Rattle.viewer_acts.specs.Doing.{GoesOn, HasDone, StopCause as PartCause, WritesParts}
+use Rattle.http_tunnel.specs.Bodies.{HasNoRoom, IsBody, IsNoBody, Wish, wish_of}
 use Rattle.http_front.specs.declared.refusal.Refusal.{Refusal}
 use Rattle.http_front.specs.declared.refusal.Refusal.TheVariants.{NotFound, Form, Method, Dial, Busy, Conflict, Forbidden, TooMany, Closed, NoMemory}
 use Rattle.http_tunnel.specs.declared.tunnel.Tunnel.{Tunnel}
@@ -26,7 +26,7 @@ MayLeave true viewer leaves = (leaves ≡ []) ⊎ (leaves ≡ Leave viewer ∷ [
 abbrev pub WriteCause : Refusal → ℕ → History → Type 0
 WriteCause NotFound viewer seen = is_live seen viewer ≡ false
 WriteCause Closed viewer seen = (is_closed seen ≡ true) ⊎ (is_full seen ≡ true)
-WriteCause NoMemory viewer seen = Unit {0}
+WriteCause NoMemory viewer seen = PartCause written.NoMemory viewer seen
 WriteCause Form viewer seen = ⊥
 WriteCause Method viewer seen = ⊥
 WriteCause Dial viewer seen = ⊥
@@ -73,10 +73,10 @@ abbrev pub WritesWish : ℕ → View Entry → View Entry → Wish → Result Bo
 WritesWish viewer v w wish (Ok ended) = (ended ≡ wish.ends) × DoesWish viewer v w wish
 WritesWish viewer v w wish (Err refused) = StopsWish viewer v w wish refused
 
--- a body that wasn't written whole: it is out of form, or memory was wanting, and nothing was done; or a part of it was
--- refused
+-- a body that wasn't written whole: it is out of form, or memory was wanting in the list of its acts, and nothing was done;
+-- or a part of it was refused
 abbrev pub IsRefusedWrite : ℕ → View Entry → View Entry → List ℕ → Refusal → Type 0
-IsRefusedWrite viewer v w body refused = ((w ≡ v) × (refused ≡ Form) × IsNoBody body) ⊎ (((w ≡ v) × (refused ≡ NoMemory)) ⊎ ((instructions : List (List (List ℕ))) × IsBody body instructions × StopsWish viewer v w (wish_of instructions) refused))
+IsRefusedWrite viewer v w body refused = ((w ≡ v) × (refused ≡ Form) × IsNoBody body) ⊎ (((w ≡ v) × (refused ≡ NoMemory) × HasNoRoom body) ⊎ ((instructions : List (List (List ℕ))) × IsBody body instructions × StopsWish viewer v w (wish_of instructions) refused))
 
 abbrev pub WritesBody : ℕ → View Entry → View Entry → List ℕ → Result Bool Refusal → Type 0
 WritesBody viewer v w body (Ok ended) = (instructions : List (List (List ℕ))) × IsBody body instructions × (ended ≡ Wish.ends (wish_of instructions)) × DoesWish viewer v w (wish_of instructions)

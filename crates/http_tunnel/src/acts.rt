@@ -1,7 +1,7 @@
 //! What the body of a write asks.
 
-ghost use Rattle.std.specs.Prelude.{◌≡◌, ◌≤◌, drop, length, OnOk};
-ghost use Rattle.http_tunnel.specs.Bodies.{HasRead, TakesNext, is_disconnect, with_act};
+ghost use Rattle.std.specs.Prelude.{◌≡◌, ◌≤◌, drop, length, OnErr, OnOk};
+ghost use Rattle.http_tunnel.specs.Bodies.{HasRead, IsPutBehind, TakesNext, is_disconnect, with_act};
 
 use gate_model::Act;
 use gate_model::limits::MOST_ACTS;
@@ -48,6 +48,7 @@ impl Wanted {
     // One instruction more, with its act if it has one.
     fn add(&mut self, act: Option<Act>) -> Result<(), AllocError>
         ensures added { OnOk result (self.new ≡ with_act self.old act) }
+        ensures wanting { OnErr result (IsPutBehind self.old act) }
     {
         if self.ends {
             return Ok(());

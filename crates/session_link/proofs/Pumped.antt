@@ -1,16 +1,22 @@
 -- What a pump gains, step by step.
-use Rattle.std.proofs.Common.{◌≡◌, ℕ, ◌≤◌, ◌⊎◌, inl, inr, List, [], ◌∷◌, ◌++◌, length, true, refl, ap, sym, ◌∙◌, subst, append_assoc, append-nil, arith}
-use Rattle.std.specs.Prelude.{Contains, Result, Ok, Err}
+use Rattle.std.proofs.Common.{◌≡◌, ℕ, ◌≤◌, ◌⊎◌, inl, inr, List, [], ◌∷◌, ◌++◌, length, Bool, true, false, refl, ap, sym, ◌∙◌, subst, append_assoc, append-nil, arith}
+use Rattle.std.specs.Prelude.{Contains, Option, Some, None, Result, Ok, Err}
+use Rattle.std.specs.Option.{option_map}
+use Rattle.gate_model.specs.declared.answer.Answer.TheVariants.{Feed as fed}
 use Rattle.gate_model.specs.declared.cause.Cause.{Cause}
 use Rattle.gate_model.specs.declared.cause.Cause.TheVariants as cause
 use Rattle.gate_model.specs.declared.entry.Entry.{Entry}
 use Rattle.gate_model.specs.declared.entry.Entry.TheVariants.{Feed, Close}
+use Rattle.gate_model.specs.declared.event.Event.{Event}
 use Rattle.gate_model.specs.declared.event.Event.TheVariants.{Feed as feed}
 use Rattle.gate_model.specs.declared.feed_refusal.FeedRefusal.{FeedRefusal}
 use Rattle.gate_model.specs.declared.feed_refusal.FeedRefusal.TheVariants.{Closed as feed_closed, Worn as feed_worn, NoMemory as feed_no_memory}
+use Rattle.gate_model.specs.declared.memory.NoMemory.{NoMemory as ShortMemory}
 use Rattle.gate_model.specs.Limits.{most_piece}
-use Rattle.gate_model.specs.session.Calls.{IsPiece}
-use Rattle.gate_model.specs.session.History.{bytes, is_full}
+use Rattle.gate_model.specs.session.Calls.{IsPiece, stop_of}
+use Rattle.gate_model.specs.session.History.{History, bytes, is_full}
+use Rattle.gate_model.specs.session.Refusals.{close_cause, first_of, only_if}
+use Rattle.gate_model.proofs.Causes.{open_without_cause}
 use Rattle.desk_core.specs.Calls.{feed_answer}
 use Rattle.turn_lock.proofs.Elements.{later_refl, later_trans}
 use Rattle.turn_lock.specs.declared.view.View.{View}
@@ -18,11 +24,24 @@ use Rattle.shared_desk.specs.Called.{Called}
 use Rattle.shared_desk.specs.Own.{own_entries}
 use Rattle.shared_desk.proofs.Lasting.{FeedCause, closes_seen, feed_adds, feed_refused, full_stays, some_seen, turn_later, turn_legal}
 use Rattle.session_link.specs.Closings.{HasClosed, HasEnded, MayClose}
-use Rattle.session_link.specs.Pumps.{AreFeeds, HasFed, HasPumped, HasStopped, IsFed, IsStopped, MayEnd, MayLose, PumpCause, PumpRun, StopCause}
+use Rattle.session_link.specs.Pumps.{AreFeeds, HasFed, HasPumped, HasStopped, IsFed, IsStopped, MayEnd, TakesFeeds, MayLose, PumpCause, PumpRun, StopCause}
 use Rattle.session_link.specs.declared.ends.PumpEnd.{PumpEnd}
 use Rattle.session_link.specs.declared.ends.PumpEnd.TheVariants.{LinkEnded, ReadFault, Closed, Worn, NoMemory}
 
 -- ---- one piece
+
+-- memory stopped a call, and nothing else did after what its pass has seen
+short : (v w : View Entry) (event : Event) (refused : ShortMemory) → Called v event (Err refused) w → stop_of w.seen event ≡ None
+short v w event refused t = ap (λ (h : History). stop_of h event) (ap (λ (z : View Entry). z.seen) t.after ∙ ap (λ (es : List Entry). es ++ t.before) t.did_it.1) ∙ t.did_it.0
+
+-- .. so it was a feed to a session that is open and not full
+no_stop : (o : Option Cause) (full : Bool) (n : ℕ) → option_map (λ (x : FeedRefusal). fed (Err x)) (first_of (option_map feed_closed o ∷ only_if full (feed_worn n) ∷ [])) ≡ None → (o ≡ None) × (full ≡ false)
+no_stop None false n e = (refl, refl)
+no_stop None true n e = absurd (let z : Some (fed (Err (feed_worn n))) ≡ None = e in cc)
+no_stop (Some c) full n e = absurd (let z : Some (fed (Err (feed_closed c))) ≡ None = e in cc)
+
+takes_feeds : (g : History) (piece : List ℕ) (now : ℕ) → stop_of g (feed piece now) ≡ None → TakesFeeds g
+takes_feeds g piece now e = let k = no_stop (close_cause g) (is_full g) (length g) e in (open_without_cause g k.0, k.1)
 
 pub fed_piece : (v w : View Entry) (piece : List ℕ) (now stamp : ℕ) → Called v (feed piece now) (feed_answer (Ok stamp)) w → IsFed v w piece
 fed_piece v w piece now stamp t =
@@ -37,9 +56,11 @@ module _ (v w : View Entry) (piece : List ℕ) (now : ℕ) (r : FeedRefusal) (is
   refused_worn n e =
       let k = feed_refused v w piece now r t in record { later = turn_later v w _ t; own = k.0; loses = is.few; cause = (subst (λ (x : FeedRefusal). FeedCause x w.seen) e k.1, turn_legal v w _ t) }
 
-  pub refused_memory : IsStopped v w piece NoMemory
-  refused_memory =
-      let k = feed_refused v w piece now r t in record { later = turn_later v w _ t; own = k.0; loses = is.few; cause = tt }
+  pub refused_memory : r ≡ feed_no_memory → IsStopped v w piece NoMemory
+  refused_memory e =
+      let k = feed_refused v w piece now r t in
+      let none = short v w (feed piece now) _ (subst (λ (x : FeedRefusal). Called v (feed piece now) (feed_answer (Err x)) w) e t) in
+      record { later = turn_later v w _ t; own = k.0; loses = is.few; cause = takes_feeds w.seen piece now none }
 
 -- nothing came
 pub none_came : (v : View Entry) (end : PumpEnd) → MayLose end [] → StopCause end v.seen → IsStopped v v [] end
@@ -106,4 +127,4 @@ pump_ran v u w read LinkEnded s k = ran_closed v u w read LinkEnded cause.Server
 pump_ran v u w read ReadFault s k = ran_closed v u w read ReadFault cause.LinkFault s k k.few k.closed
 pump_ran v u w read Worn s k = ran_closed v u w read Worn cause.Worn s k k.few (full_stays u.seen w.seen k.later (some_seen u.seen s.cause.1) k.legal s.cause.0, k.closed)
 pump_ran v u w read (Closed c) s is = ran_open v u w read (Closed c) s is refl s.cause
-pump_ran v u w read NoMemory s is = ran_open v u w read NoMemory s is refl tt
+pump_ran v u w read NoMemory s is = ran_open v u w read NoMemory s is refl s.cause

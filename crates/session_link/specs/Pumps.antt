@@ -1,5 +1,5 @@
 -- What a pump did (this project's own).
-use Rattle.std.specs.Prelude.{◌≡◌, ◌≤◌, Bool, true, List, [], ◌∷◌, ◌++◌, ℕ, length, Contains, Result, Ok, Err}
+use Rattle.std.specs.Prelude.{◌≡◌, ◌≤◌, Bool, true, false, List, [], ◌∷◌, ◌++◌, ℕ, length, Contains, Result, Ok, Err}
 use Rattle.gate_model.specs.declared.cause.Cause.TheVariants as cause
 use Rattle.gate_model.specs.declared.entry.Entry.{Entry}
 use Rattle.gate_model.specs.declared.entry.Entry.TheVariants.{Feed, Close}
@@ -36,13 +36,17 @@ MayEnd Worn closes = MayClose cause.Worn closes
 MayEnd (Closed cause) closes = closes ≡ []
 MayEnd NoMemory closes = closes ≡ []
 
+-- nothing but want of memory stops a feed
+abbrev pub TakesFeeds : History → Type 0
+TakesFeeds seen = (is_closed seen ≡ false) × (is_full seen ≡ false)
+
 -- why a pump ended, by what its pass has seen then
 abbrev pub PumpCause : PumpEnd → History → Type 0
 PumpCause LinkEnded seen = is_closed seen ≡ true
 PumpCause ReadFault seen = is_closed seen ≡ true
 PumpCause (Closed cause) seen = Contains seen (Close cause)
 PumpCause Worn seen = (is_full seen ≡ true) × (is_closed seen ≡ true)
-PumpCause NoMemory seen = Unit {0}
+PumpCause NoMemory seen = TakesFeeds seen
 
 -- its pass, which knew v before and knows w now, gained Feeds and last a Close at most. The Feeds are, joined,
 -- the bytes read, but for a last piece that was refused
@@ -74,7 +78,7 @@ StopCause (Closed cause) seen = Contains seen (Close cause)
 StopCause Worn seen = (is_full seen ≡ true) × Legal seen
 StopCause LinkEnded seen = Unit {0}
 StopCause ReadFault seen = Unit {0}
-StopCause NoMemory seen = Unit {0}
+StopCause NoMemory seen = TakesFeeds seen
 
 pub record HasStopped (v w : View Entry) (read : List ℕ) (end : PumpEnd) : Type 0 where
   pub later : IsLater v.seen w.seen

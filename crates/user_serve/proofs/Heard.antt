@@ -1,6 +1,6 @@
 -- What an intake hears and writes, step by step.
-use Rattle.std.proofs.Common.{◌≡◌, ℕ, ◌+◌, ◌⊎◌, inl, inr, ⊎_elim, List, [], ◌∷◌, ◌++◌, Bool, true, false, Option, Some, None, refl, ap, sym, ◌∙◌, subst, take, drop, append_assoc, append-nil, length, length-append, arith}
-use Rattle.std.specs.Prelude.{Result, Ok, Err, ◌||◌, is_ok, if◌then◌else◌}
+use Rattle.std.proofs.Common.{◌≡◌, ℕ, ◌+◌, ◌≤◌, ◌⊎◌, inl, inr, ⊎_elim, List, [], ◌∷◌, ◌++◌, Bool, true, false, Option, Some, None, refl, ap, sym, ◌∙◌, subst, take, drop, append_assoc, append-nil, length, length-append, arith}
+use Rattle.std.specs.Prelude.{Contains, Result, Ok, Err, ◌||◌, is_ok, if◌then◌else◌}
 use Rattle.std.proofs.lemmas.List.{drop-drop, take-append-drop}
 use Rattle.gate_model.specs.declared.act.Act.{Act}
 use Rattle.gate_model.specs.declared.act.Act.TheVariants.{Key, Mouse, Sync, Size, Nop, Disconnect}
@@ -14,6 +14,7 @@ use Rattle.gate_model.specs.declared.write_refusal.WriteRefusal.TheVariants.{NoV
 use Rattle.gate_model.specs.session.History.{History}
 use Rattle.gate_model.specs.session.Rights.{is_live}
 use Rattle.gate_model.specs.text.ClientMeaning.{act_of}
+use Rattle.gate_model.specs.Sequences.{IsLater}
 use Rattle.gate_outside.specs.Edge.{AtEnd, came}
 use Rattle.gate_outside.proofs.Moved.{came-came, came-none}
 use Rattle.guac_framing.specs.Answers.{IsWhole}
@@ -21,15 +22,17 @@ use Rattle.guac_framing.specs.Found.{IsUnfinished, IsBadAt}
 use Rattle.guac_framing.specs.declared.next.BadAt.{BadAt}
 use Rattle.guac_handshake.specs.Splits.{IsInstruction, Splits}
 use Rattle.turn_lock.specs.declared.view.View.{View}
+use Rattle.turn_lock.proofs.Elements.{contains_head, contains_tail}
 use Rattle.shared_desk.specs.Called.{Called, Turned}
 use Rattle.shared_desk.specs.Members.{IsSound, KnowsViewer}
-use Rattle.shared_desk.specs.Own.{own_entries}
+use Rattle.shared_desk.specs.Own.{entries_at, own_entries}
+use Rattle.shared_desk.proofs.Derived.{past_history}
 use Rattle.shared_desk.proofs.Lasting.{closes_seen, full_stays, later_contains, leave_gone, left_seen, some_seen, turn_knows, turn_legal}
 use Rattle.viewer_acts.specs.Parts.{Others, Part, Sized, joined, parts_of, size_in, with_first}
-use Rattle.viewer_acts.specs.Doing.{StopCause as PartCause, WritesParts, WritesSome}
+use Rattle.viewer_acts.specs.Doing.{GoesOn, StopCause as PartCause, WritesParts, WritesSome}
 use Rattle.viewer_acts.proofs.Cuts.{are_parts, joined_more, joined_of, parts_more}
 use Rattle.viewer_acts.proofs.Doings.{call_goes_on, done_on, none_done, parts_done, parts_stay}
-use Rattle.user_serve.specs.Intakes.{HasHeard, HasLeft, HasRead, HasTaken, HasWritten, HasDoneAll, HearStop, Hears, IntakeCause, IntakeRun, IsRefused, Leaves, LeftNow, MayEnd, MayLose, ReadStop, RefusalCause, StopCause, Whole, More, Broken, acts_in, acts_of, end_of, ends_in, is_disconnect}
+use Rattle.user_serve.specs.Intakes.{HasHeard, HasLeft, HasRead, HasTaken, HasWritten, HasDoneAll, HearStop, Hears, IntakeCause, IntakeRun, IsRefused, Leaves, LeftNow, MayEnd, MayLose, ReadStop, RefusalCause, StopCause, StoppedByMemory, WantsMemory, Whole, More, Broken, acts_in, acts_of, end_of, ends_in, is_disconnect}
 use Rattle.user_serve.specs.declared.ends.IntakeEnd.{IntakeEnd}
 use Rattle.user_serve.specs.declared.ends.IntakeEnd.TheVariants.{Disconnected, ReadFault, Bad, Left, Closed, Worn, NoMemory}
 
@@ -62,7 +65,7 @@ refusal_cause : (viewer : ℕ) (w : View Entry) (r : WriteRefusal) → IsSound w
 refusal_cause viewer w write_no_viewer sound k c = record { gone = c; left = left_seen viewer k.first w.seen sound.legal k.joined c }
 refusal_cause viewer w (write_closed x) sound k c = closes_seen w.seen x c
 refusal_cause viewer w (write_worn n) sound k c = (c, sound.legal)
-refusal_cause viewer w write_no_memory sound k c = tt
+refusal_cause viewer w write_no_memory sound k c = c
 
 refused : (viewer : ℕ) (act : Act) (v w : View Entry) (r : WriteRefusal) → IsSound w.seen → KnowsViewer viewer w → WritesSome viewer v w (act ∷ []) r → IsRefused viewer v w (end_of r)
 refused viewer act v w r sound k s = record { goes_on = s.wrote.done.goes_on; own = refused_none viewer v w act r s; cause = refusal_cause viewer w r sound k s.cause }
@@ -238,14 +241,14 @@ module _ (viewer : ℕ) (v u w : View Entry) (bytes rest after : List ℕ) (s : 
   one_lost act ReadFault c = absurd c
   one_lost act (Bad at) c = absurd c
 
-  stops_for : (left : Option (List ℕ)) (end : IntakeEnd) → RefusalCause end viewer w.seen → StopCause end viewer (s.heard ++ values ∷ []) after left w.seen
-  stops_for left Left c = c
-  stops_for left (Closed x) c = c
-  stops_for left Worn c = c
-  stops_for left NoMemory c = c
-  stops_for left Disconnected c = absurd c
-  stops_for left ReadFault c = absurd c
-  stops_for left (Bad at) c = absurd c
+  stops_for : (left : Option (List ℕ)) (act : Act) (end : IntakeEnd) → RefusalCause end viewer w.seen → StopCause end viewer (s.heard ++ values ∷ []) (act ∷ []) after left w.seen
+  stops_for left act Left c = c
+  stops_for left act (Closed x) c = c
+  stops_for left act Worn c = c
+  stops_for left act NoMemory c = inr (refl, c)
+  stops_for left act Disconnected c = absurd c
+  stops_for left act ReadFault c = absurd c
+  stops_for left act (Bad at) c = absurd c
 
   stop_refused : (left : Option (List ℕ)) (end : IntakeEnd) (k : IsOther viewer (act_of values)) → IsRefused viewer u w end → HearStop viewer v w bytes after left end
   stop_refused left end k r = record {
@@ -257,7 +260,7 @@ module _ (viewer : ℕ) (v u w : View Entry) (bytes rest after : List ℕ) (s : 
     lost = k.act ∷ [];
     acts = acts_more s.heard values ∙ (ap (λ (x : List Act). acts_of s.heard ++ x) k.acts ∙ ap (λ (x : List Act). x ++ k.act ∷ []) s.acts);
     loses = one_lost k.act end r.cause;
-    cause = stops_for left end r.cause;
+    cause = stops_for left k.act end r.cause;
   }
 
   -- by what the instruction asks for
@@ -271,7 +274,7 @@ module _ (viewer : ℕ) (v u w : View Entry) (bytes rest after : List ℕ) (s : 
       let is_end : Disconnected ≡ end = (let z : Err end ≡ Err Disconnected = k.1 in cc) in subst (λ (x : IntakeEnd). HearStop viewer v w bytes after left x) is_end (stop_end left ends k.0)) (λ k. stop_refused left end k (k.taken u w (Err end) t)) some) (kind viewer (act_of values))
 
 -- nothing more came
-stop_plain : (viewer : ℕ) (v u w : View Entry) (bytes rest after : List ℕ) (left : Option (List ℕ)) (end : IntakeEnd) → HasDoneAll viewer v u bytes rest → w ≡ u → after ≡ rest → MayLose end [] → ((heard : List (List (List ℕ))) → StopCause end viewer heard rest left u.seen) → HearStop viewer v w bytes after left end
+stop_plain : (viewer : ℕ) (v u w : View Entry) (bytes rest after : List ℕ) (left : Option (List ℕ)) (end : IntakeEnd) → HasDoneAll viewer v u bytes rest → w ≡ u → after ≡ rest → MayLose end [] → ((heard : List (List (List ℕ))) → StopCause end viewer heard [] rest left u.seen) → HearStop viewer v w bytes after left end
 stop_plain viewer v u w bytes rest after left end s same is loses why =
     subst (λ (z : View Entry). HearStop viewer v z bytes after left end) (sym same) (subst (λ (bs : List ℕ). HearStop viewer v u bytes bs left end) (sym is) record {
       heard = s.heard;
@@ -309,7 +312,7 @@ module _ (viewer : ℕ) (v u w : View Entry) (start old new : Option (List ℕ))
   read_stop : (end : IntakeEnd) → w ≡ u → IsUnfinished rest → (old ≡ new) × (after ≡ rest) × ReadStop end new → HearStop viewer v w (first ++ s.read) after new end
   read_stop Disconnected same unfinished k = stop_plain viewer v u w (first ++ s.read) rest after new Disconnected s.all same k.1 refl (λ heard. inr (unfinished, k.2))
   read_stop ReadFault same unfinished k = stop_plain viewer v u w (first ++ s.read) rest after new ReadFault s.all same k.1 refl (λ heard. unfinished)
-  read_stop NoMemory same unfinished k = stop_plain viewer v u w (first ++ s.read) rest after new NoMemory s.all same k.1 (omega arith) (λ heard. tt)
+  read_stop NoMemory same unfinished k = stop_plain viewer v u w (first ++ s.read) rest after new NoMemory s.all same k.1 (omega arith) (λ heard. inl (refl, unfinished))
   read_stop (Bad at) same unfinished k = absurd k.2
   read_stop Left same unfinished k = absurd k.2
   read_stop (Closed c) same unfinished k = absurd k.2
@@ -340,7 +343,25 @@ pub left_now : (viewer : ℕ) (v w : View Entry) (r : Result (Unit {0}) NoViewer
 left_now viewer v w (Ok d) knows t own = record { goes_on = call_goes_on v w (leave viewer) (Ok (was_left (Ok d))) t; leaves = Leave viewer ∷ []; few = inr refl; own = own; legal = turn_legal v w _ t; gone = has_left viewer v w _ knows t (leave_gone v w viewer (Ok d) t) }
 left_now viewer v w (Err e) knows t own = record { goes_on = call_goes_on v w (leave viewer) (Ok (was_left (Err e))) t; leaves = []; few = inl refl; own = own; legal = turn_legal v w _ t; gone = has_left viewer v w _ knows t (leave_gone v w viewer (Err e) t) }
 
-ran_left : (viewer : ℕ) (v u w : View Entry) (bytes rest : List ℕ) (left : Option (List ℕ)) (end : IntakeEnd) (h : HearStop viewer v u bytes rest left end) (k : LeftNow viewer u w) → MayEnd end viewer k.leaves → IntakeCause end h.heard rest left w.seen → IntakeRun viewer v w bytes rest left end
+-- places behind a history name none of its entries
+behind_all : (places mine : List ℕ) (g : History) → ((p : ℕ) → Contains places p → length g ≤ p) → entries_at (places ++ mine) g ≡ entries_at mine g
+behind_all [] mine g behind = refl
+behind_all (p ∷ places) mine g behind = past_history p (places ++ mine) g (behind p (contains_head p places)) ∙ behind_all places mine g (λ q c. behind q (contains_tail p q places c))
+
+-- a call that memory stopped stays so while its pass goes on
+stopped_on : (viewer : ℕ) (v u w : View Entry) (gained : List Entry) → IsLater v.seen u.seen → own_entries u ≡ gained ++ own_entries v → GoesOn u w → PartCause write_no_memory viewer u.seen → StoppedByMemory viewer v w gained
+stopped_on viewer v u w gained later own g alone = record {
+  seen = u.seen;
+  later = later;
+  earlier = g.later;
+  own_there = ap (λ (ps : List ℕ). entries_at ps u.seen) g.mine ∙ (behind_all g.places u.mine u.seen g.behind ∙ own);
+  alone = alone;
+}
+
+wants_on : (viewer : ℕ) (v u w : View Entry) (bytes rest : List ℕ) (left : Option (List ℕ)) (h : HearStop viewer v u bytes rest left NoMemory) → GoesOn u w → WantsMemory h.lost rest (StoppedByMemory viewer v w h.wrote.gained)
+wants_on viewer v u w bytes rest left h g = ⊎_elim (λ read. inl read) (λ call. inr (call.0, stopped_on viewer v u w h.wrote.gained h.wrote.done.goes_on.later h.wrote.own g call.1)) h.cause
+
+ran_left : (viewer : ℕ) (v u w : View Entry) (bytes rest : List ℕ) (left : Option (List ℕ)) (end : IntakeEnd) (h : HearStop viewer v u bytes rest left end) (k : LeftNow viewer u w) → MayEnd end viewer k.leaves → IntakeCause end h.heard h.lost rest left w.seen (StoppedByMemory viewer v w h.wrote.gained) → IntakeRun viewer v w bytes rest left end
 ran_left viewer v u w bytes rest left end h k last why = record {
   heard = h.heard;
   hears = h.hears;
@@ -380,7 +401,7 @@ ran_by viewer v u w bytes rest left ReadFault h k = ran_left viewer v u w bytes 
 ran_by viewer v u w bytes rest left (Bad at) h k = ran_left viewer v u w bytes rest left (Bad at) h k k.few h.cause
 ran_by viewer v u w bytes rest left (Closed c) h k = ran_left viewer v u w bytes rest left (Closed c) h k k.few (later_contains u.seen w.seen (Close c) k.goes_on.later h.cause)
 ran_by viewer v u w bytes rest left Worn h k = ran_left viewer v u w bytes rest left Worn h k k.few (full_stays u.seen w.seen k.goes_on.later (some_seen u.seen h.cause.1) k.legal h.cause.0)
-ran_by viewer v u w bytes rest left NoMemory h k = ran_left viewer v u w bytes rest left NoMemory h k k.few tt
+ran_by viewer v u w bytes rest left NoMemory h k = ran_left viewer v u w bytes rest left NoMemory h k k.few (wants_on viewer v u w bytes rest left h k.goes_on)
 
 pub intake_ran : (viewer n : ℕ) (v u w : View Entry) (bytes rest : List ℕ) (left : Option (List ℕ)) (end : IntakeEnd) → n ≡ viewer → HearStop viewer v u bytes rest left end → Leaves end n u w → IntakeRun viewer v w bytes rest left end
 intake_ran viewer n v u w bytes rest left end same h k = ran_by viewer v u w bytes rest left end h (subst (λ (m : ℕ). Leaves end m u w) same k)

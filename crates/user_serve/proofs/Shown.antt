@@ -1,15 +1,18 @@
 -- What an outlet shows, step by step.
 use Rattle.std.proofs.Common.{◌≡◌, ℕ, ◌⊎◌, inl, inr, List, [], ◌∷◌, ◌++◌, true, false, refl, ap, sym, ◌∙◌, subst, append-nil, append_assoc}
-use Rattle.std.specs.Prelude.{Result, Ok, Err}
+use Rattle.std.specs.Prelude.{None, Result, Ok, Err}
 use Rattle.gate_model.specs.declared.entry.Entry.{Entry}
 use Rattle.gate_model.specs.declared.entry.Entry.TheVariants.{Start, Feed, Size, Join, Read, Write, Take, Leave, Close}
+use Rattle.gate_model.specs.declared.event.Event.{Event}
 use Rattle.gate_model.specs.declared.event.Event.TheVariants.{Read as read}
 use Rattle.gate_model.specs.declared.how.How.{How}
 use Rattle.gate_model.specs.declared.instr.Instr.{Instr}
+use Rattle.gate_model.specs.declared.memory.NoMemory.{NoMemory as ShortMemory}
 use Rattle.gate_model.specs.declared.read_answer.ReadAnswer.{ReadAnswer}
 use Rattle.gate_model.specs.declared.read_answer.ReadAnswer.TheVariants.{Frames, Fresh, Ended as read_ended, Empty, Hold}
 use Rattle.gate_model.specs.declared.read_refusal.ReadRefusal.{ReadRefusal}
 use Rattle.gate_model.specs.declared.read_refusal.ReadRefusal.TheVariants.{NoViewer as read_no_viewer, Worn as read_worn, NoMemory as read_no_memory}
+use Rattle.gate_model.specs.session.Calls.{stop_of}
 use Rattle.gate_model.specs.session.Delivered.{delivered}
 use Rattle.gate_model.specs.session.History.{History}
 use Rattle.gate_model.specs.session.Rights.{is_live}
@@ -35,17 +38,24 @@ are_reads : (viewer : ℕ) (reads : List Entry) → (reads ≡ []) ⊎ ((how : H
 are_reads viewer reads (inl none) = subst (AreReads viewer) (sym none) tt
 are_reads viewer reads (inr one) = subst (AreReads viewer) (sym one.1) (refl, tt)
 
-step_cause : (viewer : ℕ) (h : History) (r : Result ReadAnswer ReadRefusal) → (is_live h viewer ≡ false → HasLeft viewer h) → ReadCause r viewer h → StepCause (step_of r) viewer h
-step_cause viewer h (Ok (Frames n stamp true)) left c = c
-step_cause viewer h (Ok (Frames n stamp false)) left c = tt
-step_cause viewer h (Ok (Fresh stamp true)) left c = c
-step_cause viewer h (Ok (Fresh stamp false)) left c = tt
-step_cause viewer h (Ok read_ended) left c = c
-step_cause viewer h (Ok Empty) left c = tt
-step_cause viewer h (Ok (Hold n)) left c = tt
-step_cause viewer h (Err read_no_viewer) left c = left c
-step_cause viewer h (Err (read_worn n)) left c = c
-step_cause viewer h (Err read_no_memory) left c = tt
+-- memory stopped a call, and nothing else did after what its pass has seen
+short : (v w : View Entry) (event : Event) (refused : ShortMemory) (before after : List ℕ) → Gives v event (Err refused) w before after → stop_of w.seen event ≡ None
+short v w event refused before after t = ap (λ (h : History). stop_of h event) (ap (λ (z : View Entry). z.seen) t.after ∙ ap (λ (es : List Entry). es ++ t.before) t.did_it.1) ∙ t.did_it.0
+
+short_read : (viewer : ℕ) (v w : View Entry) (r : Result ReadAnswer ReadRefusal) (before after : List ℕ) → Gives v (read viewer) (read_answer r) w before after → r ≡ Err read_no_memory → stop_of w.seen (read viewer) ≡ None
+short_read viewer v w r before after t is = short v w (read viewer) _ before after (subst (λ (x : Result ReadAnswer ReadRefusal). Gives v (read viewer) (read_answer x) w before after) is t)
+
+step_cause : (viewer : ℕ) (h : History) (r : Result ReadAnswer ReadRefusal) → (is_live h viewer ≡ false → HasLeft viewer h) → (r ≡ Err read_no_memory → stop_of h (read viewer) ≡ None) → ReadCause r viewer h → StepCause (step_of r) viewer h
+step_cause viewer h (Ok (Frames n stamp true)) left alone c = c
+step_cause viewer h (Ok (Frames n stamp false)) left alone c = tt
+step_cause viewer h (Ok (Fresh stamp true)) left alone c = c
+step_cause viewer h (Ok (Fresh stamp false)) left alone c = tt
+step_cause viewer h (Ok read_ended) left alone c = c
+step_cause viewer h (Ok Empty) left alone c = tt
+step_cause viewer h (Ok (Hold n)) left alone c = tt
+step_cause viewer h (Err read_no_viewer) left alone c = left c
+step_cause viewer h (Err (read_worn n)) left alone c = c
+step_cause viewer h (Err read_no_memory) left alone c = alone refl
 
 step_wrote : (r : Result ReadAnswer ReadRefusal) (text written : List ℕ) → written ≡ text → StepWrote (step_of r) text written
 step_wrote (Ok (Frames n stamp true)) text written is = is
@@ -71,7 +81,7 @@ module _ (viewer : ℕ) (v w : View Entry) (r : Result ReadAnswer ReadRefusal) (
         more = more;
         given = given;
         wrote = step_wrote r (texts more) written is;
-        cause = step_cause viewer w.seen r (has_left viewer v w _ knows t) k.cause;
+        cause = step_cause viewer w.seen r (has_left viewer v w _ knows t) (short_read viewer v w r before after t) k.cause;
         sound = turn_sound v w _ t;
       }
 

@@ -10,15 +10,16 @@ use Rattle.gate_model.specs.declared.write_refusal.WriteRefusal.TheVariants as w
 use Rattle.gate_model.specs.session.History.{History, is_full}
 use Rattle.gate_model.specs.session.Rights.{is_live}
 use Rattle.gate_model.specs.session.Steps.{Legal}
+use Rattle.gate_model.specs.Sequences.{IsLater}
 use Rattle.gate_model.specs.text.ClientMeaning.{act_of}
 use Rattle.gate_outside.specs.Edge.{AtEnd, came}
 use Rattle.guac_framing.specs.Found.{IsUnfinished, IsBadAt}
 use Rattle.guac_framing.specs.declared.next.BadAt.{BadAt}
 use Rattle.guac_handshake.specs.Splits.{IsInstruction, Splits}
 use Rattle.turn_lock.specs.declared.view.View.{View}
-use Rattle.shared_desk.specs.Own.{own_entries}
+use Rattle.shared_desk.specs.Own.{entries_at, own_entries}
 use Rattle.viewer_acts.specs.Parts.{AreParts, Part, joined, parts_of}
-use Rattle.viewer_acts.specs.Doing.{GoesOn, HasDone, WritesParts}
+use Rattle.viewer_acts.specs.Doing.{GoesOn, HasDone, StopCause as PartCause, WritesParts}
 use Rattle.user_serve.specs.declared.ends.IntakeEnd.{IntakeEnd}
 use Rattle.user_serve.specs.declared.ends.IntakeEnd.TheVariants.{Disconnected, ReadFault, Bad, Left, Closed, Worn, NoMemory}
 
@@ -78,16 +79,29 @@ MayLose (Closed cause) lost = length lost ≤ 1
 MayLose Worn lost = length lost ≤ 1
 MayLose NoMemory lost = length lost ≤ 1
 
--- why it ended, by what was heard, what is unread and left, and what its pass has seen. An instruction that asks for
--- an end stops it
-abbrev pub IntakeCause : IntakeEnd → List (List (List ℕ)) → List ℕ → Option (List ℕ) → History → Type 0
-IntakeCause Disconnected heard rest left seen = (ends_in heard ≡ true) ⊎ (IsUnfinished rest × AtEnd left)
-IntakeCause ReadFault heard rest left seen = IsUnfinished rest
-IntakeCause (Bad at) heard rest left seen = IsBadAt rest at
-IntakeCause Left heard rest left seen = Unit {0}
-IntakeCause (Closed cause) heard rest left seen = Contains seen (Close cause)
-IntakeCause Worn heard rest left seen = is_full seen ≡ true
-IntakeCause NoMemory heard rest left seen = Unit {0}
+-- the call of an act was stopped by want of memory and by nothing else, after what its pass, which knew v before and
+-- knows w now, had seen then: of its own entries those that it had before and those that it gained, and none that came later
+pub record StoppedByMemory (viewer : ℕ) (v w : View Entry) (gained : List Entry) : Type 0 where
+  pub seen : History
+  pub later : IsLater v.seen seen
+  pub earlier : IsLater seen w.seen
+  pub own_there : entries_at w.mine seen ≡ gained ++ own_entries v
+  pub alone : PartCause written.NoMemory viewer seen
+
+-- memory was wanting for more bytes of an instruction that isn't whole; or for the call of the one act that is lost
+abbrev pub WantsMemory : List Act → List ℕ → Type 0 → Type 0
+WantsMemory lost rest stopped = ((lost ≡ []) × IsUnfinished rest) ⊎ ((length lost ≡ 1) × stopped)
+
+-- why it ended, by what was heard and lost, what is unread and left, what its pass has seen, and how a call was
+-- stopped by want of memory. An instruction that asks for an end stops it
+abbrev pub IntakeCause : IntakeEnd → List (List (List ℕ)) → List Act → List ℕ → Option (List ℕ) → History → Type 0 → Type 0
+IntakeCause Disconnected heard lost rest left seen stopped = (ends_in heard ≡ true) ⊎ (IsUnfinished rest × AtEnd left)
+IntakeCause ReadFault heard lost rest left seen stopped = IsUnfinished rest
+IntakeCause (Bad at) heard lost rest left seen stopped = IsBadAt rest at
+IntakeCause Left heard lost rest left seen stopped = Unit {0}
+IntakeCause (Closed cause) heard lost rest left seen stopped = Contains seen (Close cause)
+IntakeCause Worn heard lost rest left seen stopped = is_full seen ≡ true
+IntakeCause NoMemory heard lost rest left seen stopped = WantsMemory lost rest stopped
 
 -- the bytes are whole instructions and then a rest. Before the last of them none asks for an end
 pub record Hears (bytes rest : List ℕ) (heard : List (List (List ℕ))) : Type 0 where
@@ -112,7 +126,7 @@ pub record IntakeRun (viewer : ℕ) (v w : View Entry) (bytes rest : List ℕ) (
   pub lost : List Act
   pub acts : acts_of heard ≡ joined parts ++ lost
   pub loses : MayLose end lost
-  pub cause : IntakeCause end heard rest left w.seen
+  pub cause : IntakeCause end heard lost rest left w.seen (StoppedByMemory viewer v w gained)
   pub gone : HasLeft viewer w.seen
 
 -- ---- before its end
@@ -128,14 +142,14 @@ pub record HasDoneAll (viewer : ℕ) (v w : View Entry) (bytes rest : List ℕ) 
   pub acts : acts_of heard ≡ joined parts
 
 -- why it stops, before the viewer leaves
-abbrev pub StopCause : IntakeEnd → ℕ → List (List (List ℕ)) → List ℕ → Option (List ℕ) → History → Type 0
-StopCause Disconnected viewer heard rest left seen = (ends_in heard ≡ true) ⊎ (IsUnfinished rest × AtEnd left)
-StopCause ReadFault viewer heard rest left seen = IsUnfinished rest
-StopCause (Bad at) viewer heard rest left seen = IsBadAt rest at
-StopCause Left viewer heard rest left seen = HasLeft viewer seen
-StopCause (Closed cause) viewer heard rest left seen = Contains seen (Close cause)
-StopCause Worn viewer heard rest left seen = (is_full seen ≡ true) × Legal seen
-StopCause NoMemory viewer heard rest left seen = Unit {0}
+abbrev pub StopCause : IntakeEnd → ℕ → List (List (List ℕ)) → List Act → List ℕ → Option (List ℕ) → History → Type 0
+StopCause Disconnected viewer heard lost rest left seen = (ends_in heard ≡ true) ⊎ (IsUnfinished rest × AtEnd left)
+StopCause ReadFault viewer heard lost rest left seen = IsUnfinished rest
+StopCause (Bad at) viewer heard lost rest left seen = IsBadAt rest at
+StopCause Left viewer heard lost rest left seen = HasLeft viewer seen
+StopCause (Closed cause) viewer heard lost rest left seen = Contains seen (Close cause)
+StopCause Worn viewer heard lost rest left seen = (is_full seen ≡ true) × Legal seen
+StopCause NoMemory viewer heard lost rest left seen = WantsMemory lost rest (PartCause written.NoMemory viewer seen)
 
 pub record HearStop (viewer : ℕ) (v w : View Entry) (bytes rest : List ℕ) (left : Option (List ℕ)) (end : IntakeEnd) : Type 0 where
   pub heard : List (List (List ℕ))
@@ -146,7 +160,7 @@ pub record HearStop (viewer : ℕ) (v w : View Entry) (bytes rest : List ℕ) (l
   pub lost : List Act
   pub acts : acts_of heard ≡ joined parts ++ lost
   pub loses : MayLose end lost
-  pub cause : StopCause end viewer heard rest left w.seen
+  pub cause : StopCause end viewer heard lost rest left w.seen
 
 -- ---- one step
 
@@ -161,7 +175,7 @@ abbrev pub RefusalCause : IntakeEnd → ℕ → History → Type 0
 RefusalCause Left viewer seen = HasLeft viewer seen
 RefusalCause (Closed cause) viewer seen = Contains seen (Close cause)
 RefusalCause Worn viewer seen = (is_full seen ≡ true) × Legal seen
-RefusalCause NoMemory viewer seen = Unit {0}
+RefusalCause NoMemory viewer seen = PartCause written.NoMemory viewer seen
 RefusalCause Disconnected viewer seen = ⊥
 RefusalCause ReadFault viewer seen = ⊥
 RefusalCause (Bad at) viewer seen = ⊥

@@ -1,12 +1,14 @@
 -- What an outlet did (this project's own).
-use Rattle.std.specs.Prelude.{◌≡◌, ℕ, true, false, List, [], ◌∷◌, ◌++◌, Result, Ok, Err}
+use Rattle.std.specs.Prelude.{◌≡◌, ℕ, true, false, List, [], ◌∷◌, ◌++◌, None, Result, Ok, Err}
 use Rattle.gate_model.specs.declared.entry.Entry.{Entry}
 use Rattle.gate_model.specs.declared.entry.Entry.TheVariants.{Read}
+use Rattle.gate_model.specs.declared.event.Event.TheVariants.{Read as read}
 use Rattle.gate_model.specs.declared.instr.Instr.{Instr}
 use Rattle.gate_model.specs.declared.read_answer.ReadAnswer.{ReadAnswer}
 use Rattle.gate_model.specs.declared.read_answer.ReadAnswer.TheVariants.{Frames, Fresh, Ended as read_ended, Empty, Hold}
 use Rattle.gate_model.specs.declared.read_refusal.ReadRefusal.{ReadRefusal}
 use Rattle.gate_model.specs.declared.read_refusal.ReadRefusal.TheVariants.{NoViewer as read_no_viewer, Worn as read_worn, NoMemory as read_no_memory}
+use Rattle.gate_model.specs.session.Calls.{stop_of}
 use Rattle.gate_model.specs.session.Delivered.{delivered, ended}
 use Rattle.gate_model.specs.session.History.{History, is_full}
 use Rattle.gate_model.specs.text.Text.{texts}
@@ -34,13 +36,13 @@ HasWritten Left text written = written ≡ text
 HasWritten Worn text written = written ≡ text
 HasWritten NoMemory text written = written ≡ text
 
--- why it ended, by what its pass has seen
+-- why it ended, by what its pass has seen: at want of memory nothing else stops a read
 abbrev pub OutletCause : OutletEnd → ℕ → History → Type 0
 OutletCause Ended viewer seen = ended seen viewer ≡ true
 OutletCause Left viewer seen = HasLeft viewer seen
 OutletCause WriteFault viewer seen = Unit {0}
 OutletCause Worn viewer seen = is_full seen ≡ true
-OutletCause NoMemory viewer seen = Unit {0}
+OutletCause NoMemory viewer seen = stop_of seen (read viewer) ≡ None
 
 -- its pass, which knew v before and knows w now, gained Reads, and the text of all that the viewer was given was
 -- written. What it has seen is sound, so what it was given draws the screen

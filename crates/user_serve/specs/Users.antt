@@ -24,6 +24,7 @@ use Rattle.user_serve.specs.declared.ends.Visit.{Visit}
 pub record VisitRun (welcome : Welcome Place) (visit : Visit) (heard shown : List ℕ) (left : Option (List ℕ)) : Type 0 where
   pub id : visit.id ≡ welcome.id
   pub fresh : IsFresh welcome.place welcome.first
+  pub role : visit.place.role ≡ welcome.place.role
   pub sessions : (visit.place.reader.session ≡ welcome.place.reader.session) × (visit.place.writer.session ≡ welcome.place.reader.session)
   pub viewers : (visit.place.reader.viewer ≡ welcome.place.reader.viewer) × (visit.place.writer.viewer ≡ welcome.place.reader.viewer)
   pub unread : List ℕ
@@ -83,31 +84,36 @@ IfRefused NoMemory F = Unit {0}
 
 -- ---- by the words of the greeting's own contract
 
--- a greeting let the viewer in under the visit's ID, and what was read and written behind it is the visit's
-pub record HasLetIn (is_greeting : Option (List ℕ) → Option (List ℕ) → Greeted Place → Type 0) (left_new written_new : Option (List ℕ)) (visit : Visit) : Type 0 where
+-- a greeting let the viewer in, and what was read and written behind it is the visit's, of the place that it gave
+pub record HasLetIn (is_greeting : List ℕ → Option (List ℕ) → Option (List ℕ) → Greeted Place → Type 0) (left_new written_new : Option (List ℕ)) (visit : Visit) : Type 0 where
   pub welcome : Welcome Place
-  pub id : visit.id ≡ welcome.id
+  pub rest : List ℕ
   pub left : Option (List ℕ)
   pub behind : List ℕ
   pub reads : left ≡ came behind left_new
   pub written : Option (List ℕ)
   pub shown : List ℕ
   pub writes : written_new ≡ gained written shown
-  pub greets : is_greeting left written (greeted.Ready welcome)
+  pub greets : is_greeting rest left written (greeted.Ready welcome)
+  pub visits : VisitRun welcome visit (rest ++ behind) shown left_new
+
+-- a greeting ended so, whatever it left unread
+abbrev pub SomeGreeting : (List ℕ → Option (List ℕ) → Option (List ℕ) → Greeted Place → Type 0) → Option (List ℕ) → Option (List ℕ) → Greeted Place → Type 0
+SomeGreeting is_greeting left written g = (rest : List ℕ) × is_greeting rest left written g
 
 -- at every other end a greeting ended so; or memory was wanting before it, and nothing was done
-abbrev pub Greeting : (Option (List ℕ) → Option (List ℕ) → Greeted Place → Type 0) → Type 0 → Option (List ℕ) → Option (List ℕ) → UserEnd → Type 0
+abbrev pub Greeting : (List ℕ → Option (List ℕ) → Option (List ℕ) → Greeted Place → Type 0) → Type 0 → Option (List ℕ) → Option (List ℕ) → UserEnd → Type 0
 Greeting is_greeting nothing left written (Served visit) = HasLetIn is_greeting left written visit
-Greeting is_greeting nothing left written (Refused status) = is_greeting left written (greeted.Refused status)
-Greeting is_greeting nothing left written Ended = is_greeting left written greeted.Ended
-Greeting is_greeting nothing left written ReadFault = is_greeting left written greeted.ReadFault
-Greeting is_greeting nothing left written WriteFault = is_greeting left written greeted.WriteFault
-Greeting is_greeting nothing left written NoMemory = nothing ⊎ is_greeting left written greeted.NoMemory
+Greeting is_greeting nothing left written (Refused status) = SomeGreeting is_greeting left written (greeted.Refused status)
+Greeting is_greeting nothing left written Ended = SomeGreeting is_greeting left written greeted.Ended
+Greeting is_greeting nothing left written ReadFault = SomeGreeting is_greeting left written greeted.ReadFault
+Greeting is_greeting nothing left written WriteFault = SomeGreeting is_greeting left written greeted.WriteFault
+Greeting is_greeting nothing left written NoMemory = nothing ⊎ SomeGreeting is_greeting left written greeted.NoMemory
 
 -- .. so the door was asked by the greeting alone, and where a viewer was let in it has given just what was wished
 abbrev pub HasGreeted : (List ℕ → Option (List ℕ)) → (Request → Welcome Place → Type 0) → DoorView → DoorView → Option (List ℕ) → Option (List ℕ) → Option (List ℕ) → Option (List ℕ) → UserEnd → Type 0
 HasGreeted id_of gives before after left_old left_new written_old written_new end =
-    Greeting (λ left written g. (rest : List ℕ) × door.Greets id_of gives before after left_old left written_old written rest g)
+    Greeting (λ rest left written g. door.Greets id_of gives before after left_old left written_old written rest g)
     ((left_new ≡ left_old) × (written_new ≡ written_old) × (after.asked ≡ before.asked)) left_new written_new end
 
 -- the greeting that stands behind an end

@@ -1,12 +1,13 @@
 -- What becomes of parts, one after the other.
-use Rattle.std.proofs.Common.{◌≡◌, inl, inr, ⊎_elim, ℕ, ◌+◌, ◌≤◌, List, [], ◌∷◌, ◌++◌, length, refl, ap, sym, ◌∙◌, subst, append-nil, append_assoc, arith}
-use Rattle.std.specs.Prelude.{Contains, Some, Result, Ok, Err, drop}
+use Rattle.std.proofs.Common.{◌≡◌, inl, inr, ⊎_elim, ℕ, ◌+◌, ◌≤◌, List, [], ◌∷◌, ◌++◌, length, Bool, true, false, refl, ap, sym, ◌∙◌, subst, append-nil, append_assoc, arith}
+use Rattle.std.specs.Prelude.{Contains, Option, Some, None, Result, Ok, Err, drop, not}
 use Rattle.std.specs.Option.{option_map}
 use Rattle.std.proofs.lemmas.List.{drop-drop}
 use Rattle.std.proofs.lemmas.List.Elements.{Contains-append_cases}
 use Rattle.gate_model.specs.declared.act.Act.{Act}
 use Rattle.gate_model.specs.declared.answer.Answer.{Answer}
-use Rattle.gate_model.specs.declared.answer.Answer.TheVariants.{Resize as was_resized}
+use Rattle.gate_model.specs.declared.answer.Answer.TheVariants.{Resize as was_resized, Write as was_written}
+use Rattle.gate_model.specs.declared.cause.Cause.{Cause}
 use Rattle.gate_model.specs.declared.entry.Entry.{Entry}
 use Rattle.gate_model.specs.declared.entry.Entry.TheVariants.{Write, Size}
 use Rattle.gate_model.specs.declared.event.Event.{Event}
@@ -17,9 +18,11 @@ use Rattle.gate_model.specs.declared.resize_refusal.ResizeRefusal.TheVariants as
 use Rattle.gate_model.specs.declared.write_refusal.WriteRefusal.{WriteRefusal}
 use Rattle.gate_model.specs.declared.write_refusal.WriteRefusal.TheVariants.{NoViewer, Closed, Worn, NoMemory}
 use Rattle.gate_model.specs.declared.written.Written.{Written}
-use Rattle.gate_model.specs.session.Calls.{Step}
-use Rattle.gate_model.specs.session.History.{History}
-use Rattle.gate_model.specs.session.Refusals.{resize_refusal}
+use Rattle.gate_model.specs.session.Calls.{Step, stop_of}
+use Rattle.gate_model.specs.session.History.{History, is_full}
+use Rattle.gate_model.specs.session.Refusals.{close_cause, first_of, has_size, only_if, resize_refusal}
+use Rattle.gate_model.specs.session.Rights.{is_control, is_live, role_in}
+use Rattle.gate_model.proofs.Causes.{open_without_cause}
 use Rattle.gate_model.specs.Sequences.{IsLater}
 use Rattle.guac_handshake.specs.Asks.{cols_of, rows_of}
 use Rattle.desk_core.specs.Calls.{resize_answer, write_answer}
@@ -30,7 +33,7 @@ use Rattle.shared_desk.specs.Own.{AreSized, entries_at, own_entries}
 use Rattle.shared_desk.proofs.Derived.{AreFew, past_history, step_few}
 use Rattle.shared_desk.proofs.Lasting.{WriteCause, resize_closed, resize_gone, resize_refused, resize_worn, turn_later, write_refused}
 use Rattle.viewer_acts.specs.Parts.{Others, Part, Sized, parts_of}
-use Rattle.viewer_acts.specs.Doing.{Became, Did, GoesOn, HasDone, IsRefused, StopCause, WritesOne, WritesPart, WritesParts, WritesSome, HasWritten, IsPassedOver, passed_over}
+use Rattle.viewer_acts.specs.Doing.{Became, Did, GoesOn, HasDone, IsRefused, StopCause, TakesWrites, WritesOne, WritesPart, WritesParts, WritesSome, HasWritten, IsPassedOver, passed_over}
 
 -- ---- a pass goes on
 
@@ -147,19 +150,56 @@ one_part viewer v w part added g own became = record {
   own = own;
 }
 
+-- ---- want of memory
+
+-- memory stopped a call, and nothing else did after what its pass has seen
+short : (v w : View Entry) (event : Event) (refused : ShortMemory) → Called v event (Err refused) w → stop_of w.seen event ≡ None
+short v w event refused t = ap (λ (h : History). stop_of h event) (ap (λ (z : View Entry). z.seen) t.after ∙ ap (λ (es : List Entry). es ++ t.before) t.did_it.1) ∙ t.did_it.0
+
+not_false : (b : Bool) → not b ≡ false → b ≡ true
+not_false true e = refl
+not_false false e = absurd (let z : true ≡ false = e in cc)
+
+-- .. so its viewer is there, and the session is open and not full
+no_stop : (away full : Bool) (o : Option Cause) (n : ℕ) → option_map (λ (x : WriteRefusal). was_written (Err x)) (first_of (only_if away NoViewer ∷ option_map Closed o ∷ only_if full (Worn n) ∷ [])) ≡ None → (away ≡ false) × (o ≡ None) × (full ≡ false)
+no_stop false false None n e = (refl, refl, refl)
+no_stop false true None n e = absurd (let z : Some (was_written (Err (Worn n))) ≡ None = e in cc)
+no_stop false full (Some c) n e = absurd (let z : Some (was_written (Err (Closed c))) ≡ None = e in cc)
+no_stop true full o n e = absurd (let z : Some (was_written (Err NoViewer)) ≡ None = e in cc)
+
+takes_writes : (g : History) (viewer : ℕ) (acts : List Act) → stop_of g (write viewer acts) ≡ None → TakesWrites viewer g
+takes_writes g viewer acts e = let k = no_stop (not (is_live g viewer)) (is_full g) (close_cause g) (length g) e in (not_false (is_live g viewer) k.0, open_without_cause g k.1, k.2)
+
+no_size_stop : (away denied same full : Bool) (o : Option Cause) (n : ℕ)
+    → option_map (λ (x : ResizeRefusal). was_resized (Err x)) (first_of (only_if away sizing.NoViewer ∷ option_map sizing.Closed o ∷ only_if denied sizing.Denied ∷ only_if same sizing.Same ∷ only_if full (sizing.Worn n) ∷ [])) ≡ None → (away ≡ false) × (o ≡ None) × (full ≡ false)
+no_size_stop false false false false None n e = (refl, refl, refl)
+no_size_stop false false false true None n e = absurd (let z : Some (was_resized (Err (sizing.Worn n))) ≡ None = e in cc)
+no_size_stop false false true full None n e = absurd (let z : Some (was_resized (Err sizing.Same)) ≡ None = e in cc)
+no_size_stop false true same full None n e = absurd (let z : Some (was_resized (Err sizing.Denied)) ≡ None = e in cc)
+no_size_stop false denied same full (Some c) n e = absurd (let z : Some (was_resized (Err (sizing.Closed c))) ≡ None = e in cc)
+no_size_stop true denied same full o n e = absurd (let z : Some (was_resized (Err sizing.NoViewer)) ≡ None = e in cc)
+
+takes_sizes : (g : History) (viewer cols rows : ℕ) → stop_of g (resize viewer cols rows) ≡ None → TakesWrites viewer g
+takes_sizes g viewer cols rows e =
+    let k = no_size_stop (not (is_live g viewer)) (not (is_control (role_in g viewer))) (has_size g cols rows) (is_full g) (close_cause g) (length g) e in
+    (not_false (is_live g viewer) k.0, open_without_cause g k.1, k.2)
+
 -- ---- a write
 
 pub wrote_run : (viewer : ℕ) (v w : View Entry) (acts : List Act) (k : Written) → Called v (write viewer acts) (write_answer (Ok k)) w → own_entries w ≡ Write viewer acts ∷ own_entries v → WritesParts viewer v w (Others acts ∷ [])
 wrote_run viewer v w acts k t own = one_part viewer v w (Others acts) (Write viewer acts ∷ []) (call_goes_on v w (write viewer acts) (write_answer (Ok k)) t) own refl
 
-write_cause : (r : WriteRefusal) (viewer : ℕ) (g : History) → WriteCause r viewer g → StopCause r viewer g
-write_cause NoViewer viewer g k = k
-write_cause (Closed c) viewer g k = k
-write_cause (Worn n) viewer g k = k
-write_cause NoMemory viewer g k = tt
+write_cause : (r : WriteRefusal) (viewer : ℕ) (g : History) → (r ≡ NoMemory → TakesWrites viewer g) → WriteCause r viewer g → StopCause r viewer g
+write_cause NoViewer viewer g alone k = k
+write_cause (Closed c) viewer g alone k = k
+write_cause (Worn n) viewer g alone k = k
+write_cause NoMemory viewer g alone k = alone refl
+
+alone_at : (viewer : ℕ) (v w : View Entry) (acts : List Act) (r : WriteRefusal) → Called v (write viewer acts) (write_answer (Err r)) w → r ≡ NoMemory → TakesWrites viewer w.seen
+alone_at viewer v w acts r t is = takes_writes w.seen viewer acts (short v w (write viewer acts) _ (subst (λ (x : WriteRefusal). Called v (write viewer acts) (write_answer (Err x)) w) is t))
 
 pub refused_run : (viewer : ℕ) (v w : View Entry) (acts : List Act) (r : WriteRefusal) → Called v (write viewer acts) (write_answer (Err r)) w → IsRefused viewer v w r
-refused_run viewer v w acts r t = let k = write_refused v w viewer acts r t in record { goes_on = call_goes_on v w (write viewer acts) (write_answer (Err r)) t; own = k.0; cause = write_cause r viewer w.seen k.1 }
+refused_run viewer v w acts r t = let k = write_refused v w viewer acts r t in record { goes_on = call_goes_on v w (write viewer acts) (write_answer (Err r)) t; own = k.0; cause = write_cause r viewer w.seen (alone_at viewer v w acts r t) k.1 }
 
 -- ---- a change of size
 
@@ -186,7 +226,7 @@ module _ (viewer cols rows : ℕ) (size : ℕ × ℕ) (cols_is : cols ≡ cols_o
   refused_size sizing.Denied t = let k = resize_refused v w viewer cols rows sizing.Denied t in passed (call_goes_on v w (resize viewer cols rows) (resize_answer (Err sizing.Denied)) t) k.0 (inl (refused_step sizing.Denied t k.0 k.1))
   refused_size sizing.Same t = let k = resize_refused v w viewer cols rows sizing.Same t in passed (call_goes_on v w (resize viewer cols rows) (resize_answer (Err sizing.Same)) t) k.0 (inr (refused_step sizing.Same t k.0 k.1))
   refused_size (sizing.Worn n) t = let k = resize_refused v w viewer cols rows (sizing.Worn n) t in record { goes_on = call_goes_on v w (resize viewer cols rows) (resize_answer (Err (sizing.Worn n))) t; own = k.0; cause = resize_worn w.seen viewer cols rows n k.1 }
-  refused_size sizing.NoMemory t = let k = resize_refused v w viewer cols rows sizing.NoMemory t in record { goes_on = call_goes_on v w (resize viewer cols rows) (resize_answer (Err sizing.NoMemory)) t; own = k.0; cause = tt }
+  refused_size sizing.NoMemory t = let k = resize_refused v w viewer cols rows sizing.NoMemory t in record { goes_on = call_goes_on v w (resize viewer cols rows) (resize_answer (Err sizing.NoMemory)) t; own = k.0; cause = takes_sizes w.seen viewer cols rows (short v w (resize viewer cols rows) _ t) }
 
   pub refused_as : (r : ResizeRefusal) (result : Result (Unit {0}) WriteRefusal) → result ≡ passed_over r → Called v (resize viewer cols rows) (resize_answer (Err r)) w → WritesOne viewer v w (Sized size) result
   refused_as r result is t = subst (λ (x : Result (Unit {0}) WriteRefusal). WritesOne viewer v w (Sized size) x) (sym is) (refused_size r t)

@@ -11,7 +11,7 @@ use Rattle.gate_model.specs.declared.resize_refusal.ResizeRefusal.TheVariants as
 use Rattle.gate_model.specs.declared.write_refusal.WriteRefusal.{WriteRefusal}
 use Rattle.gate_model.specs.declared.write_refusal.WriteRefusal.TheVariants.{NoViewer, Closed, Worn, NoMemory}
 use Rattle.gate_model.specs.session.Calls.{Step}
-use Rattle.gate_model.specs.session.History.{History, is_full}
+use Rattle.gate_model.specs.session.History.{History, is_closed, is_full}
 use Rattle.gate_model.specs.session.Refusals.{close_cause}
 use Rattle.gate_model.specs.session.Rights.{is_live}
 use Rattle.gate_model.specs.Sequences.{IsLater}
@@ -76,12 +76,16 @@ passed_over (sizing.Closed cause) = Err (Closed cause)
 passed_over (sizing.Worn entries) = Err (Worn entries)
 passed_over sizing.NoMemory = Err NoMemory
 
+-- nothing but want of memory stops a write of the viewer
+abbrev pub TakesWrites : ℕ → History → Type 0
+TakesWrites viewer seen = (is_live seen viewer ≡ true) × (is_closed seen ≡ false) × (is_full seen ≡ false)
+
 -- why a part was refused, by what its pass has seen
 abbrev pub StopCause : WriteRefusal → ℕ → History → Type 0
 StopCause NoViewer viewer seen = is_live seen viewer ≡ false
 StopCause (Closed cause) viewer seen = close_cause seen ≡ Some cause
 StopCause (Worn entries) viewer seen = is_full seen ≡ true
-StopCause NoMemory viewer seen = Unit {0}
+StopCause NoMemory viewer seen = TakesWrites viewer seen
 
 -- a refused part added nothing
 pub record IsRefused (viewer : ℕ) (v w : View Entry) (refusal : WriteRefusal) : Type 0 where

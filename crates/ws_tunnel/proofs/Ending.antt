@@ -1,6 +1,6 @@
 -- A viewer leaves at the end, and its passes meet once more.
 use Rattle.std.proofs.Common.{◌≡◌, inl, inr, ⊎_elim, ℕ, ◌≤◌, List, [], ◌∷◌, ◌++◌, length, refl, ap, sym, ◌∙◌, subst, append-nil, append_assoc, length-append, arith}
-use Rattle.std.specs.Prelude.{Contains, Option, Result, Ok, Err, is_ok, if◌then◌else◌}
+use Rattle.std.specs.Prelude.{Contains, Option, Some, None, Result, Ok, Err, is_ok, if◌then◌else◌}
 use Rattle.gate_model.specs.declared.act.Act.{Act}
 use Rattle.gate_model.specs.declared.answer.Answer.TheVariants.{Leave as was_left}
 use Rattle.gate_model.specs.declared.entry.Entry.{Entry}
@@ -13,17 +13,18 @@ use Rattle.gate_model.specs.session.History.{History}
 use Rattle.gate_model.specs.text.Text.{texts}
 use Rattle.gate_model.specs.Sequences.{BeginsWith, IsLater}
 use Rattle.turn_lock.specs.declared.view.View.{View}
-use Rattle.turn_lock.proofs.Elements.{later_length, later_trans}
+use Rattle.turn_lock.proofs.Elements.{contains_head, contains_tail, later_length, later_trans}
 use Rattle.shared_desk.specs.Called.{Called}
 use Rattle.shared_desk.specs.Meetings.{HaveMet, written_by}
 use Rattle.shared_desk.specs.Members.{IsSound, KnowsViewer}
+use Rattle.shared_desk.proofs.Derived.{past_history}
 use Rattle.shared_desk.proofs.Lasting.{later_contains, leave_gone, left_seen, turn_knows, turn_legal}
-use Rattle.shared_desk.specs.Own.{own_entries}
+use Rattle.shared_desk.specs.Own.{entries_at, own_entries}
 use Rattle.viewer_acts.specs.Parts.{joined}
 use Rattle.viewer_acts.specs.Doing.{Did, GoesOn}
 use Rattle.viewer_acts.proofs.Doings.{call_goes_on, goes_further, goes_nowhere}
-use Rattle.ws_tunnel.specs.Answered.{WasRead}
-use Rattle.ws_tunnel.specs.Runs.{AreCounted, HasRun, IsReadAt, IsSent, IsSentAt, LeftNow, Leaves, MayEnd, MessagesRun, WsCause, joined_texts}
+use Rattle.ws_tunnel.specs.Answered.{IsPartStopped, IsReadStopped, WasRead}
+use Rattle.ws_tunnel.specs.Runs.{AreCounted, HasRun, IsReadAt, IsSent, IsSentAt, IsWanting, IsWantingAt, LeftNow, Leaves, MayEnd, MessagesRun, WsCause, joined_texts}
 use Rattle.ws_tunnel.specs.declared.ends.WsEnd.{WsEnd}
 use Rattle.ws_tunnel.specs.declared.ends.WsEnd.TheVariants.{Ended, Disconnected, Refused, Bad, Cut, TooLong, LinkFault, Left, Worn, NoMemory}
 use Rattle.ws_tunnel.proofs.Going.{all_acts, all_parts, answered_last, answered_on, answered_placed_on, did_by, heard_all, joined_last, only_both, read_on, texts-append}
@@ -110,6 +111,43 @@ read_at Left viewer written gained seen later is l k = tt
 read_at Worn viewer written gained seen later is l k = tt
 read_at NoMemory viewer written gained seen later is l k = tt
 
+-- ---- where memory was wanting
+
+-- places behind a history name none of its entries
+places_behind : (places mine : List ℕ) (g : History) → ((p : ℕ) → Contains places p → length g ≤ p) → entries_at (places ++ mine) g ≡ entries_at mine g
+places_behind [] mine g behind = refl
+places_behind (p ∷ places) mine g behind = past_history p (places ++ mine) g (behind p (contains_head p places)) ∙ places_behind places mine g (λ q c. behind q (contains_tail p q places c))
+
+-- it stays so while the writer's pass goes on
+module _ (viewer : ℕ) (w w_now : View Entry) (goes : GoesOn w w_now) (start before : History) (begins : IsLater start before) (own own_now written written_now : List Entry) (own_is : own ≡ own_now) (written_is : written ≡ written_now) where
+  part_on : IsPartStopped viewer w.mine own before w.seen → IsPartStopped viewer w_now.mine own_now start w_now.seen
+  part_on s =
+      let short : length s.found ≤ length w.seen = later_length s.found w.seen s.earlier in
+      let there : entries_at w_now.mine s.found ≡ entries_at w.mine s.found = ap (λ (ps : List ℕ). entries_at ps s.found) goes.mine ∙ places_behind goes.places w.mine s.found (λ p c. omega (arith, short, goes.behind p c)) in
+      record { found = s.found; later = later_trans start before s.found begins s.later; earlier = later_trans s.found w.seen w_now.seen s.earlier goes.later; own_there = there ∙ (s.own_there ∙ own_is); alone = s.alone }
+
+  read_stopped_on : IsReadStopped viewer written before w.seen → IsReadStopped viewer written_now start w_now.seen
+  read_stopped_on s = record { found = s.found; later = later_trans start before s.found begins s.later; earlier = later_trans s.found w.seen w_now.seen s.earlier goes.later; all = s.all ∙ written_is; alone = s.alone }
+
+  wanting_at : (acts : List Act) → IsWantingAt acts viewer w.mine own written before w.seen → IsWantingAt acts viewer w_now.mine own_now written_now start w_now.seen
+  wanting_at acts (inl none) = inl none
+  wanting_at acts (inr (inl s)) = inr (inl (part_on s))
+  wanting_at acts (inr (inr (inl s))) = inr (inr (inl (read_stopped_on s)))
+  wanting_at acts (inr (inr (inr k))) = inr (inr (inr (k.0, later_trans start before k.0 begins k.1, subst (λ (es : List Entry). WasRead viewer es k.0 w_now.seen) written_is (read_on viewer written k.0 w.seen w_now.seen goes.later k.2))))
+
+  wanting_on : (end : WsEnd) (last : Option (List ℕ)) (acts : List Act) → IsWanting end last acts viewer w.mine own written before w.seen → IsWanting end last acts viewer w_now.mine own_now written_now start w_now.seen
+  wanting_on NoMemory (Some message) acts k = wanting_at acts k
+  wanting_on NoMemory None acts k = tt
+  wanting_on Ended last acts k = tt
+  wanting_on Disconnected last acts k = tt
+  wanting_on (Refused status) last acts k = tt
+  wanting_on (Bad at) last acts k = tt
+  wanting_on (Cut place) last acts k = tt
+  wanting_on TooLong last acts k = tt
+  wanting_on LinkFault last acts k = tt
+  wanting_on Left last acts k = tt
+  wanting_on Worn last acts k = tt
+
 -- ---- the whole run
 
 module _ (viewer : ℕ) (start : History) (r w x r_now w_now : View Entry) (first : List ℕ) (left : Option (List (List ℕ))) (received sent : List (List ℕ)) (end : WsEnd) (h : HasRun viewer start r w first left received sent end) (leaves : Leaves end viewer w x) (met : HaveMet r x r_now w_now)
@@ -151,6 +189,7 @@ module _ (viewer : ℕ) (start : History) (r w x r_now w_now : View Entry) (firs
         heard_are = heard_all h.answered s.messages k.acts s.are ∙ (ap (λ (xs : List Act). all_acts s.messages ++ xs) k.acts_are ∙ (sym (append_assoc (all_acts s.messages) (joined k.parts) k.lost) ∙ ap (λ (xs : List Act). xs ++ k.lost) (sym parts.acts_are)));
         done = parts.did;
         read_last = read_at end viewer (written_by viewer (k.gained ++ own_entries h.w_then)) (k.gained ++ s.gained) w.seen w_now.seen only goes.later k.read_last;
+        wanting = wanting_on viewer w w_now goes start h.w_then.seen s.later (k.gained ++ own_entries h.w_then) (k.gained ++ s.gained) (written_by viewer (k.gained ++ own_entries h.w_then)) (k.gained ++ s.gained) (ap (λ (es : List Entry). k.gained ++ es) s.writer) only end h.last k.acts k.wanting;
         leaves = away.leaves;
         leave = away.may;
         writer = own.1 ∙ (away.own ∙ ap (λ (es : List Entry). away.leaves ++ es) (k.own ∙ ap (λ (es : List Entry). k.gained ++ es) s.writer));

@@ -21,13 +21,13 @@ use Rattle.shared_desk.specs.Meetings.{HasMet, HaveMet, written_by}
 use Rattle.shared_desk.specs.Members.{KnowsViewer, Stays, ViewerState}
 use Rattle.shared_desk.specs.Own.{own_entries}
 use Rattle.shared_desk.proofs.Lasting.{full_stays, later_contains, left_seen, read_adds, some_seen, turn_knows, turn_legal}
-use Rattle.shared_desk.proofs.Meetings.{found_ended, keeps_ended, keeps_mark, now_mine, now_seen, read_behind}
+use Rattle.shared_desk.proofs.Meetings.{ReadBehind, found_ended, keeps_ended, keeps_mark, now_mine, now_seen, read_behind}
 use Rattle.viewer_acts.specs.Doing.{GoesOn}
 use Rattle.viewer_acts.proofs.Doings.{goes_further}
-use Rattle.ws_tunnel.specs.Runs.{HasClose, OfOneViewer, ReadEnd, ReadsBehind, WsCause, over_of}
+use Rattle.ws_tunnel.specs.Runs.{HasClose, OfOneViewer, ReadCause, ReadEnd, ReadsBehind, WsCause, over_of}
 use Rattle.ws_tunnel.specs.declared.ends.WsEnd.{WsEnd}
 use Rattle.ws_tunnel.specs.declared.ends.WsEnd.TheVariants.{Ended, Disconnected, Refused, Bad, Cut, TooLong, LinkFault, Left, Worn, NoMemory}
-use Rattle.ws_tunnel.proofs.Reading.{are_reads, ended_later, read_later, refused, told}
+use Rattle.ws_tunnel.proofs.Reading.{are_reads, ended_later, read_later, refused, stopped_alone, told}
 
 -- ---- what stays
 
@@ -89,9 +89,24 @@ module _ (viewer : ℕ) (r0 w0 r1 w1 r2 r3 w3 : View Entry) (r : Result ReadAnsw
   end_seen : IsLater r2.seen w3.seen
   end_seen = subst (IsLater r2.seen) (met_same r2 w1 r3 w3 last) (met_later _ _ _ _ last.one)
 
+  behind : ReadBehind viewer (written_by viewer (own_entries w0)) w0.seen t.before w3.seen
+  behind = read_behind viewer r0 w0 r1 w1 r2 r3 w3 _ first t last own_first.1 own_last.1 all_first all_last
+
+  -- a refusal stays so
+  caused : (end : WsEnd) → Err end ≡ over_of r → WsCause end viewer w3.seen → ReadCause end viewer (written_by viewer (own_entries w0)) w0.seen w3.seen
+  caused NoMemory is c = record { found = t.before; later = behind.low; earlier = behind.high; all = behind.same; alone = stopped_alone viewer r1 r2 r before after t (sym is) }
+  caused Ended is c = c
+  caused Disconnected is c = c
+  caused (Refused status) is c = c
+  caused (Bad at) is c = c
+  caused (Cut place) is c = c
+  caused TooLong is c = c
+  caused LinkFault is c = c
+  caused Left is c = c
+  caused Worn is c = c
+
   ends_as : (result : Result Bool WsEnd) → result ≡ over_of r → ReadEnd viewer w0 r3 w3 result
   ends_as (Ok over) is =
-      let behind = read_behind viewer r0 w0 r1 w1 r2 r3 w3 _ first t last own_first.1 own_last.1 all_first all_last in
       let k = told viewer r1 r2 r over before after t found_going (sym is) in (
         t.before,
         behind.low,
@@ -103,7 +118,7 @@ module _ (viewer : ℕ) (r0 w0 r1 w1 r2 r3 w3 : View Entry) (r : Result ReadAnsw
       let then_ = turn_knows viewer r1 r2 _ t knows in
       let legal = turn_legal r1 r2 _ t in
       let k = refused viewer r2.seen r end (sym is) (λ gone. left_seen viewer then_.first r2.seen legal then_.joined gone) (read_adds r1 r2 viewer r before after t).cause in
-      (k.0, cause_later end viewer r2.seen w3.seen end_seen (some_seen r2.seen legal) (met_legal _ _ _ _ last.other) k.1)
+      (k.0, caused end is (cause_later end viewer r2.seen w3.seen end_seen (some_seen r2.seen legal) (met_legal _ _ _ _ last.other) k.1))
 
   pub reads_behind : (more : List Instr) → delivered r1.seen viewer ≡ delivered r0.seen viewer → delivered r2.seen viewer ≡ delivered r1.seen viewer ++ more → delivered r3.seen viewer ≡ delivered r2.seen viewer → after ≡ before ++ texts more → before ≡ []
       → (result : Result Bool WsEnd) → result ≡ over_of r → ReadsBehind viewer r0 w0 r3 w3 after result

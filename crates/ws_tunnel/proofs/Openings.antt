@@ -3,7 +3,6 @@ use Rattle.std.proofs.Common.{◌≡◌, ◌⊎◌, inl, inr, ℕ, List, [], ◌
 use Rattle.std.specs.Prelude.{Option, Some, None, Result, Ok, Err}
 use Rattle.gate_model.specs.session.History.{History}
 use Rattle.gate_model.specs.declared.entry.Entry.{Entry}
-use Rattle.gate_outside.specs.Helpers.{NeverFell}
 use Rattle.guac_handshake.specs.Texts.{error_text, ready_text}
 use Rattle.guac_handshake.specs.Views.{DoorView}
 use Rattle.guac_handshake.specs.declared.form_refusal.FormRefusal.{FormRefusal}
@@ -79,13 +78,13 @@ readied viewer start id first ready r w left left_mid left_new sent sent_mid sen
 
 -- ---- a place was given
 
-admitted : (welcome : Welcome Place) (place : Option (List ℕ × Place)) (left : Option (List (List ℕ))) (received sent : List (List ℕ)) (end : WsEnd) → IsAdmitted welcome place left received sent end → (own : Place) × (place ≡ Some (welcome.id, own))
+admitted : (welcome : Welcome Place) (place : Option (List ℕ × Place)) (left : Option (List (List ℕ))) (received sent : List (List ℕ)) (end : WsEnd) → IsAdmitted welcome place left received sent end → IsEndOf (Ok welcome) place end
 admitted welcome None left received sent end k = absurd k
-admitted welcome (Some placed) left received sent end k = (placed.1, ap (λ (id : List ℕ). Some (id, placed.1)) k.0)
+admitted welcome (Some placed) left received sent end k = (placed.1, ap (λ (id : List ℕ). Some (id, placed.1)) k.id_is, k.place_is)
 
 served_in : (welcome : Welcome Place) (place : Option (List ℕ × Place)) (left : Option (List (List ℕ))) (form : List ℕ) (received sent : List (List ℕ)) (end : WsEnd) → IsAdmitted welcome place left received sent end → ServesPlace place end left (form ∷ received) sent
 served_in welcome None left form received sent end k = absurd k
-served_in welcome (Some placed) left form received sent end k = (welcome, form, received, refl, k.1)
+served_in welcome (Some placed) left form received sent end k = (welcome, form, received, refl, k)
 
 same_welcome : (r : Result (Welcome Place) WsEnd) (a b : Welcome Place) → r ≡ Ok a → r ≡ Ok b → a ≡ b
 same_welcome r a b e f = let z : Ok a ≡ Ok b = sym e ∙ f in cc
@@ -200,8 +199,3 @@ module _ (id_of : List ℕ → Option (List ℕ)) (gives : Request → Welcome P
     asks_denied (inr f) =
         let d = denied_by f.2.answer sent sent_mid end f.2.is_end in
         inr record { form = f.0; rest = left_mid; came = f.1; answer = f.2.answer; door = f.2.door; is_end = subst (λ (a : Result (Welcome Place) FormRefusal). IsEndOf a None end) (sym d.answer_is) (refl, told_end (status_for d.refusal) sent sent_mid end d.refused) }
-
-  -- whatever came, no count of the door fell
-  pub never_fell : (place : Option (List ℕ × Place)) (end : WsEnd) → Asks place end → NeverFell before.helper after.helper
-  never_fell place end (inl n) = subst (λ (x : DoorView). NeverFell before.helper x.helper) (sym n.same) record { dials = omega arith; starts = omega arith }
-  never_fell place end (inr h) = record { dials = h.door.faults.dials.1; starts = h.door.faults.starts.1 }

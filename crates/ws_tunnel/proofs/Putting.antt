@@ -33,7 +33,7 @@ module _ (viewer : ℕ) (v w : View Entry) (acts : List Act) where
   puts (Err (Closed c)) k sound knows = (joined (k.lost ∷ k.left), some (Closed c) k, inr ((closed_with_cause w.seen c k.cause).0, (c, closes_seen w.seen c k.cause)))
   puts (Err NoViewer) k sound knows = (joined (k.lost ∷ k.left), some NoViewer k, tt, left_seen viewer knows.first w.seen sound.legal knows.joined k.cause)
   puts (Err (Worn n)) k sound knows = (joined (k.lost ∷ k.left), some (Worn n) k, tt, k.cause)
-  puts (Err NoMemory) k sound knows = (joined (k.lost ∷ k.left), some NoMemory k, tt, tt)
+  puts (Err NoMemory) k sound knows = (joined (k.lost ∷ k.left), some NoMemory k, tt, k.cause)
 
   -- .. told by its equal, where the viewer is the one at the beginning
   pub puts_as : (m : ℕ) (r : Result (Unit {0}) WriteRefusal) (result : Result (Unit {0}) WsEnd) → m ≡ viewer → result ≡ put_of r → HasWritten viewer v w acts r → IsSound w.seen → KnowsViewer m w → HasPut viewer v w acts result

@@ -14,7 +14,7 @@ use Rattle.gate_model.specs.declared.read_answer.ReadAnswer.{ReadAnswer}
 use Rattle.gate_model.specs.declared.read_answer.ReadAnswer.TheVariants.{Frames, Fresh, Ended as read_ended, Empty, Hold}
 use Rattle.gate_model.specs.declared.read_refusal.ReadRefusal.{ReadRefusal}
 use Rattle.gate_model.specs.declared.read_refusal.ReadRefusal.TheVariants.{NoViewer as read_no_viewer, Worn as read_worn, NoMemory as read_no_memory}
-use Rattle.gate_model.specs.session.Calls.{Step, updated_as}
+use Rattle.gate_model.specs.session.Calls.{Step, stop_of, updated_as}
 use Rattle.gate_model.specs.session.Delivered.{closed_by, closing, ended, farewell_to, is_some_list, position}
 use Rattle.gate_model.specs.session.History.{History, is_closed, is_full, newest}
 use Rattle.gate_model.specs.session.Refusals.{first_of, only_if, read_stop}
@@ -147,6 +147,17 @@ told viewer v w (Ok (Hold n)) over before after t going is = told_ok viewer v w 
 told viewer v w (Err read_no_viewer) over before after t going is = absurd (let z : Err Left ≡ Ok over = is in cc)
 told viewer v w (Err (read_worn n)) over before after t going is = absurd (let z : Err Worn ≡ Ok over = is in cc)
 told viewer v w (Err read_no_memory) over before after t going is = absurd (let z : Err NoMemory ≡ Ok over = is in cc)
+
+-- .. by want of memory, where nothing else stopped it
+pub stopped_alone : (viewer : ℕ) (v w : View Entry) (r : Result ReadAnswer ReadRefusal) (before after : List ℕ) (t : Gives v (read viewer) (read_answer r) w before after) → over_of r ≡ Err NoMemory → stop_of t.before (read viewer) ≡ None
+stopped_alone viewer v w (Ok (Frames n stamp closed)) before after t is = absurd (let z : Ok closed ≡ Err NoMemory = is in cc)
+stopped_alone viewer v w (Ok (Fresh stamp closed)) before after t is = absurd (let z : Ok closed ≡ Err NoMemory = is in cc)
+stopped_alone viewer v w (Ok read_ended) before after t is = absurd (let z : Ok true ≡ Err NoMemory = is in cc)
+stopped_alone viewer v w (Ok Empty) before after t is = absurd (let z : Ok false ≡ Err NoMemory = is in cc)
+stopped_alone viewer v w (Ok (Hold n)) before after t is = absurd (let z : Ok false ≡ Err NoMemory = is in cc)
+stopped_alone viewer v w (Err read_no_viewer) before after t is = absurd (let z : Err Left ≡ Err NoMemory = is in cc)
+stopped_alone viewer v w (Err (read_worn n)) before after t is = absurd (let z : Err Worn ≡ Err NoMemory = is in cc)
+stopped_alone viewer v w (Err read_no_memory) before after t is = t.did_it.0
 
 -- a read that was refused
 same_end : (r : Result Bool WsEnd) (x y : WsEnd) → r ≡ Err x → r ≡ Err y → x ≡ y

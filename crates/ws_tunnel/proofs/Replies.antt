@@ -10,14 +10,14 @@ use Rattle.gate_model.specs.session.Entries.{is_close}
 use Rattle.gate_model.specs.text.Text.{texts}
 use Rattle.gate_model.specs.Sequences.{IsLater}
 use Rattle.turn_lock.specs.declared.view.View.{View}
-use Rattle.turn_lock.proofs.Elements.{later_refl}
+use Rattle.turn_lock.proofs.Elements.{later_refl, later_trans}
 use Rattle.shared_desk.specs.Meetings.{written_by}
 use Rattle.shared_desk.specs.Own.{own_entries}
 use Rattle.viewer_acts.specs.Doing.{Did, GoesOn}
-use Rattle.viewer_acts.proofs.Doings.{did_longer, done_on, goes_further, goes_nowhere}
-use Rattle.ws_tunnel.specs.Answered.{WasRead}
+use Rattle.viewer_acts.proofs.Doings.{did_later, did_longer, done_on, goes_further, goes_nowhere}
+use Rattle.ws_tunnel.specs.Answered.{IsReadStopped, WasRead}
 use Rattle.ws_tunnel.specs.Heard.{IsMessage, asks_end, before_end, end_place}
-use Rattle.ws_tunnel.specs.Runs.{AnswerRun, EndsAt, HasAnswered, HasClose, HasPut, HasStopped, IsOwn, IsReadAt, IsRefusal, IsSentAt, IsUnread, MayLose, NextRun, PutsSome, ReadEnd, ReadsBehind, WsCause, go_on}
+use Rattle.ws_tunnel.specs.Runs.{AnswerRun, EndsAt, HasAnswered, HasClose, HasPut, HasStopped, IsOwn, IsReadAt, IsRefusal, IsSentAt, IsUnread, IsWanting, MayLose, NextRun, PutCause, PutsSome, ReadEnd, ReadsBehind, WsCause, go_on}
 use Rattle.ws_tunnel.specs.Served.{IsLinkEnd, NoMessage}
 use Rattle.ws_tunnel.specs.declared.ends.WsEnd.{WsEnd}
 use Rattle.ws_tunnel.specs.declared.ends.WsEnd.TheVariants.{Ended, Disconnected, Refused, Bad, Cut, TooLong, LinkFault, Left, Worn, NoMemory}
@@ -26,8 +26,9 @@ use Rattle.ws_tunnel.proofs.Meeting.{close_later}
 -- ---- nothing was done
 
 module _ (viewer : ℕ) (r w : View Entry) (left : Option (List (List ℕ))) where
-  nothing : (last : Option (List ℕ)) (end : WsEnd) → EndsAt end left last [] → MayLose end [] → IsReadAt end viewer (written_by viewer (own_entries w)) w.seen → IsSentAt end [] [] → WsCause end viewer w.seen → HasStopped viewer r w r w left last [] end
-  nothing last end ends loses read_last sent_is cause = record {
+  nothing : (last : Option (List ℕ)) (end : WsEnd) → EndsAt end left last [] → MayLose end [] → IsReadAt end viewer (written_by viewer (own_entries w)) w.seen → IsWanting end last [] viewer w.mine (own_entries w) (written_by viewer (own_entries w)) w.seen w.seen → IsSentAt end [] [] → WsCause end viewer w.seen
+      → HasStopped viewer r w r w left last [] end
+  nothing last end ends loses read_last wanting sent_is cause = record {
     goes_on = goes_nowhere w;
     acts = [];
     ends = ends;
@@ -39,6 +40,7 @@ module _ (viewer : ℕ) (r w : View Entry) (left : Option (List (List ℕ))) whe
     gained = [];
     did = (refl, later_refl w.seen);
     read_last = read_last;
+    wanting = wanting;
     own = refl;
     reads = [];
     are_reads = tt;
@@ -51,10 +53,10 @@ module _ (viewer : ℕ) (r w : View Entry) (left : Option (List (List ℕ))) whe
 
   -- the message can't be read
   pub unread : (message : List ℕ) (end : WsEnd) → IsUnread end message → HasStopped viewer r w r w left (Some message) [] end
-  unread message (Bad at) k = nothing (Some message) (Bad at) (k, refl) refl tt refl tt
-  unread message (Cut place) k = nothing (Some message) (Cut place) (k, refl) refl tt refl tt
-  unread message TooLong k = nothing (Some message) TooLong (k, refl) refl tt refl tt
-  unread message NoMemory k = nothing (Some message) NoMemory (inr refl) tt tt refl tt
+  unread message (Bad at) k = nothing (Some message) (Bad at) (k, refl) refl tt tt refl tt
+  unread message (Cut place) k = nothing (Some message) (Cut place) (k, refl) refl tt tt refl tt
+  unread message TooLong k = nothing (Some message) TooLong (k, refl) refl tt tt refl tt
+  unread message NoMemory k = nothing (Some message) NoMemory (inr refl) tt tt (inl refl) refl tt
   unread message Ended k = absurd k
   unread message Disconnected k = absurd k
   unread message (Refused status) k = absurd k
@@ -64,9 +66,9 @@ module _ (viewer : ℕ) (r w : View Entry) (left : Option (List (List ℕ))) whe
 
   -- none came
   pub none_came : (end : WsEnd) → NoMessage left end → HasStopped viewer r w r w left None [] end
-  none_came Disconnected k = nothing None Disconnected (refl, k) refl tt refl tt
-  none_came LinkFault k = nothing None LinkFault refl refl tt refl tt
-  none_came NoMemory k = nothing None NoMemory refl tt tt refl tt
+  none_came Disconnected k = nothing None Disconnected (refl, k) refl tt tt refl tt
+  none_came LinkFault k = nothing None LinkFault refl refl tt tt refl tt
+  none_came NoMemory k = nothing None NoMemory refl tt tt tt refl tt
   none_came (Bad at) k = absurd k
   none_came (Cut place) k = absurd k
   none_came TooLong k = absurd k
@@ -86,8 +88,9 @@ module _ (viewer : ℕ) (r w x r_now w_now : View Entry) (message : List ℕ) (a
 
 -- .. and then one was refused, or an end was asked for; nothing was read
 module _ (viewer : ℕ) (r w x : View Entry) (left : Option (List (List ℕ))) (message : List ℕ) (acts lost : List Act) (k : PutsSome viewer w x (before_end acts) lost) where
-  unanswered : (end : WsEnd) → EndsAt end left (Some message) acts → MayLose end lost ⊎ HasClose x.seen → IsReadAt end viewer (written_by viewer (k.wrote.gained ++ own_entries w)) x.seen → IsSentAt end [] [] → WsCause end viewer x.seen → HasStopped viewer r w r x left (Some message) [] end
-  unanswered end ends loses read_last sent_is cause = record {
+  unanswered : (end : WsEnd) → EndsAt end left (Some message) acts → MayLose end lost ⊎ HasClose x.seen → IsReadAt end viewer (written_by viewer (k.wrote.gained ++ own_entries w)) x.seen
+      → IsWanting end (Some message) acts viewer x.mine (k.wrote.gained ++ own_entries w) (written_by viewer (k.wrote.gained ++ own_entries w)) w.seen x.seen → IsSentAt end [] [] → WsCause end viewer x.seen → HasStopped viewer r w r x left (Some message) [] end
+  unanswered end ends loses read_last wanting sent_is cause = record {
     goes_on = k.wrote.done.goes_on;
     acts = acts;
     ends = ends;
@@ -99,6 +102,7 @@ module _ (viewer : ℕ) (r w x : View Entry) (left : Option (List (List ℕ))) (
     gained = k.wrote.gained;
     did = k.wrote.done.did;
     read_last = read_last;
+    wanting = wanting;
     own = k.wrote.own;
     reads = [];
     are_reads = tt;
@@ -109,10 +113,11 @@ module _ (viewer : ℕ) (r w x : View Entry) (left : Option (List (List ℕ))) (
     cause = cause;
   }
 
-  put_refused : (end : WsEnd) → IsMessage message acts → IsRefusal end → WsCause end viewer x.seen → HasStopped viewer r w r x left (Some message) [] end
-  put_refused Left is refusal cause = unanswered Left is (inl tt) tt refl cause
-  put_refused Worn is refusal cause = unanswered Worn is (inl tt) tt refl cause
-  put_refused NoMemory is refusal cause = unanswered NoMemory (inl is) (inl tt) tt refl tt
+  put_refused : (end : WsEnd) → IsMessage message acts → IsRefusal end → PutCause end viewer x.seen → HasStopped viewer r w r x left (Some message) [] end
+  put_refused Left is refusal cause = unanswered Left is (inl tt) tt tt refl cause
+  put_refused Worn is refusal cause = unanswered Worn is (inl tt) tt tt refl cause
+  put_refused NoMemory is refusal cause =
+      unanswered NoMemory (inl is) (inl tt) tt (inr (inl record { found = x.seen; later = k.wrote.done.goes_on.later; earlier = later_refl x.seen; own_there = k.wrote.own; alone = cause })) refl tt
   put_refused Ended is refusal cause = absurd refusal
   put_refused Disconnected is refusal cause = absurd refusal
   put_refused (Refused status) is refusal cause = absurd refusal
@@ -122,8 +127,8 @@ module _ (viewer : ℕ) (r w x : View Entry) (left : Option (List (List ℕ))) (
   put_refused LinkFault is refusal cause = absurd refusal
 
   put_ended : IsMessage message acts → asks_end acts ≡ true → (lost ≡ []) ⊎ ((is_closed x.seen ≡ true) × HasClose x.seen) → HasStopped viewer r w r x left (Some message) [] Disconnected
-  put_ended is asks (inl none) = unanswered Disconnected (is, asks) (inl none) tt refl tt
-  put_ended is asks (inr closed) = unanswered Disconnected (is, asks) (inr closed.1) tt refl tt
+  put_ended is asks (inl none) = unanswered Disconnected (is, asks) (inl none) tt tt refl tt
+  put_ended is asks (inr closed) = unanswered Disconnected (is, asks) (inr closed.1) tt tt refl tt
 
 -- the front of acts that the code cuts off
 pub front_is : (acts : List Act) (count : ℕ) (front : List Act) → count ≡ end_place acts → front ≡ take count acts → front ≡ before_end acts
@@ -220,8 +225,9 @@ module _ (viewer : ℕ) (r w x r_now w_now : View Entry) (message text : List �
         over_is = b.end.4;
       }
 
-  unread_end : (end : WsEnd) (left : Option (List (List ℕ))) → EndsAt end left (Some message) acts → MayLose end lost → IsReadAt end viewer (written_by viewer (k.wrote.gained ++ own_entries w)) w_now.seen → ((b : ReadsBehind viewer r x r_now w_now text (Err end)) → IsSentAt end [] (texts b.more)) → (b : ReadsBehind viewer r x r_now w_now text (Err end)) → HasStopped viewer r w r_now w_now left (Some message) [] end
-  unread_end end left ends may read_last sent_is b = record {
+  unread_end : (end : WsEnd) (left : Option (List (List ℕ))) → EndsAt end left (Some message) acts → MayLose end lost → IsReadAt end viewer (written_by viewer (k.wrote.gained ++ own_entries w)) w_now.seen
+      → IsWanting end (Some message) acts viewer w_now.mine (k.wrote.gained ++ own_entries w) (written_by viewer (k.wrote.gained ++ own_entries w)) w.seen w_now.seen → WsCause end viewer w_now.seen → ((b : ReadsBehind viewer r x r_now w_now text (Err end)) → IsSentAt end [] (texts b.more)) → (b : ReadsBehind viewer r x r_now w_now text (Err end)) → HasStopped viewer r w r_now w_now left (Some message) [] end
+  unread_end end left ends may read_last wanting cause sent_is b = record {
     goes_on = goes_further w x w_now k.wrote.done.goes_on b.goes_on;
     acts = acts;
     ends = ends;
@@ -233,6 +239,7 @@ module _ (viewer : ℕ) (r w x r_now w_now : View Entry) (message text : List �
     gained = k.wrote.gained;
     did = did_all viewer r w x r_now w_now message acts lost k b.goes_on b.own;
     read_last = read_last;
+    wanting = wanting;
     own = own_is viewer r w x r_now w_now message acts lost k b.goes_on b.own;
     reads = b.reads;
     are_reads = b.are_reads;
@@ -240,13 +247,17 @@ module _ (viewer : ℕ) (r w x r_now w_now : View Entry) (message text : List �
     more = b.more;
     given = b.given;
     sent_is = sent_is b;
-    cause = b.end.1;
+    cause = cause;
   }
 
+  -- the read found what the parts wrote
+  stopped_read : IsReadStopped viewer (written_by viewer (own_entries x)) x.seen w_now.seen → IsReadStopped viewer (written_by viewer (k.wrote.gained ++ own_entries w)) w.seen w_now.seen
+  stopped_read s = record { found = s.found; later = later_trans w.seen x.seen s.found k.wrote.done.goes_on.later s.later; earlier = s.earlier; all = s.all ∙ ap (written_by viewer) k.wrote.own; alone = s.alone }
+
   read_stops : (end : WsEnd) (left : Option (List (List ℕ))) → ReadsBehind viewer r x r_now w_now text (Err end) → HasStopped viewer r w r_now w_now left (Some message) [] end
-  read_stops Left left b = unread_end Left left is tt tt (λ c. refl) b
-  read_stops Worn left b = unread_end Worn left is tt tt (λ c. refl) b
-  read_stops NoMemory left b = unread_end NoMemory left (inl is) tt tt (λ c. refl) b
+  read_stops Left left b = unread_end Left left is tt tt tt b.end.1 (λ c. refl) b
+  read_stops Worn left b = unread_end Worn left is tt tt tt b.end.1 (λ c. refl) b
+  read_stops NoMemory left b = unread_end NoMemory left (inl is) tt tt (inr (inr (inl (stopped_read b.end.1)))) tt (λ c. refl) b
   read_stops Ended left b = absurd b.end.0
   read_stops Disconnected left b = absurd b.end.0
   read_stops (Refused status) left b = absurd b.end.0
@@ -268,8 +279,9 @@ answers viewer m r w x r_now w_now message text acts front done result is asks c
 -- ---- its answer is sent, or isn't
 
 module _ (viewer : ℕ) (r w r_now w_now : View Entry) (left : Option (List (List ℕ))) (message text : List ℕ) (acts : List Act) (is : IsMessage message acts) (asks : asks_end acts ≡ false) (over : Bool) (k : HasAnswered viewer r w r_now w_now acts text over) where
-  was_answered : (end : WsEnd) (sent : List (List ℕ)) → EndsAt end left (Some message) acts → MayLose end k.lost ⊎ HasClose w_now.seen → IsReadAt end viewer (written_by viewer (k.gained ++ own_entries w)) w_now.seen → IsSentAt end sent (texts k.more) → WsCause end viewer w_now.seen → HasStopped viewer r w r_now w_now left (Some message) sent end
-  was_answered end sent ends loses read_last sent_is cause = record {
+  was_answered : (end : WsEnd) (sent : List (List ℕ)) → EndsAt end left (Some message) acts → MayLose end k.lost ⊎ HasClose w_now.seen → IsReadAt end viewer (written_by viewer (k.gained ++ own_entries w)) w_now.seen
+      → IsWanting end (Some message) acts viewer w_now.mine (k.gained ++ own_entries w) (written_by viewer (k.gained ++ own_entries w)) w.seen w_now.seen → IsSentAt end sent (texts k.more) → WsCause end viewer w_now.seen → HasStopped viewer r w r_now w_now left (Some message) sent end
+  was_answered end sent ends loses read_last wanting sent_is cause = record {
     goes_on = k.goes_on;
     acts = acts;
     ends = ends;
@@ -281,6 +293,7 @@ module _ (viewer : ℕ) (r w r_now w_now : View Entry) (left : Option (List (Lis
     gained = k.gained;
     did = did_longer viewer w_now.mine (own_entries w) w.seen k.found w_now.seen k.parts k.gained k.was_read.later k.did;
     read_last = read_last;
+    wanting = wanting;
     own = k.own;
     reads = k.reads;
     are_reads = k.are_reads;
@@ -295,8 +308,8 @@ module _ (viewer : ℕ) (r w r_now w_now : View Entry) (left : Option (List (Lis
   may_lose = ⊎_elim (λ none. inl none) (λ closed. inr closed.1) k.loses
 
   pub unsent : (end : WsEnd) → IsLinkEnd end → HasStopped viewer r w r_now w_now left (Some message) [] end
-  unsent LinkFault kind = was_answered LinkFault [] (is, asks) may_lose tt refl tt
-  unsent NoMemory kind = was_answered NoMemory [] (inl is) (inl tt) tt refl tt
+  unsent LinkFault kind = was_answered LinkFault [] (is, asks) may_lose tt tt refl tt
+  unsent NoMemory kind = was_answered NoMemory [] (inl is) (inl tt) tt (inr (inr (inr (k.found, did_later viewer w_now.mine (own_entries w) w.seen k.found k.parts k.gained k.did, k.was_read)))) refl tt
   unsent Ended kind = absurd kind
   unsent Disconnected kind = absurd kind
   unsent (Refused status) kind = absurd kind
@@ -307,7 +320,7 @@ module _ (viewer : ℕ) (r w r_now w_now : View Entry) (left : Option (List (Lis
   unsent Worn kind = absurd kind
 
   pub over_now : over ≡ true → HasStopped viewer r w r_now w_now left (Some message) (text ∷ []) Ended
-  over_now yes_ = was_answered Ended (text ∷ []) (is, asks) may_lose (k.found, k.was_read) (ap (λ (bs : List ℕ). bs ∷ []) k.text_is) (sym (ap (λ (h : History). ended h viewer) k.seen) ∙ (k.over_is ∙ yes_))
+  over_now yes_ = was_answered Ended (text ∷ []) (is, asks) may_lose (k.found, k.was_read) tt (ap (λ (bs : List ℕ). bs ∷ []) k.text_is) (sym (ap (λ (h : History). ended h viewer) k.seen) ∙ (k.over_is ∙ yes_))
 
 -- ---- the next message
 

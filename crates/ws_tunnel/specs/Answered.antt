@@ -1,6 +1,6 @@
 -- What answered messages made of the passes of a viewer (this project's own). A message's acts are done part by part, as
 -- those of any viewer; then one read is answered.
-use Rattle.std.specs.Prelude.{◌≡◌, ◌⊎◌, ℕ, List, [], ◌∷◌, ◌++◌, Ok}
+use Rattle.std.specs.Prelude.{◌≡◌, ◌⊎◌, ℕ, List, [], ◌∷◌, ◌++◌, None, Ok}
 use Rattle.gate_model.specs.declared.act.Act.{Act}
 use Rattle.gate_model.specs.declared.answer.Answer.TheVariants.{Read as was_read}
 use Rattle.gate_model.specs.declared.entry.Entry.{Entry}
@@ -9,12 +9,14 @@ use Rattle.gate_model.specs.declared.event.Event.TheVariants.{Read as read}
 use Rattle.gate_model.specs.declared.how.How.{How}
 use Rattle.gate_model.specs.declared.read_answer.ReadAnswer.{ReadAnswer}
 use Rattle.gate_model.specs.declared.read_answer.ReadAnswer.TheVariants.{Empty, Hold}
-use Rattle.gate_model.specs.session.Calls.{Step}
+use Rattle.gate_model.specs.declared.write_refusal.WriteRefusal.TheVariants as written
+use Rattle.gate_model.specs.session.Calls.{Step, stop_of}
 use Rattle.gate_model.specs.session.History.{History}
 use Rattle.gate_model.specs.Sequences.{IsLater}
 use Rattle.shared_desk.specs.Meetings.{written_by}
+use Rattle.shared_desk.specs.Own.{entries_at}
 use Rattle.viewer_acts.specs.Parts.{AreParts, Part, joined}
-use Rattle.viewer_acts.specs.Doing.{Did}
+use Rattle.viewer_acts.specs.Doing.{Did, StopCause as PartCause}
 
 -- the answer gives nothing
 abbrev pub IsNothing : ReadAnswer → Type 0
@@ -31,6 +33,23 @@ pub record WasRead (viewer : ℕ) (written : List Entry) (found seen : History) 
   pub later : IsLater found seen
   pub all : written_by viewer found ≡ written
   pub read : IsReadAfter viewer found seen
+
+-- memory stopped the call of a part, and nothing else did, after what its pass had seen then: of its own entries, which stand
+-- at these places, those that it had gained, and none that came later
+pub record IsPartStopped (viewer : ℕ) (mine : List ℕ) (own : List Entry) (before seen : History) : Type 0 where
+  pub found : History
+  pub later : IsLater before found
+  pub earlier : IsLater found seen
+  pub own_there : entries_at mine found ≡ own
+  pub alone : PartCause written.NoMemory viewer found
+
+-- .. or a read, in a turn that found this: it has these Writes and Sizes of the viewer, and no others
+pub record IsReadStopped (viewer : ℕ) (written : List Entry) (before seen : History) : Type 0 where
+  pub found : History
+  pub later : IsLater before found
+  pub earlier : IsLater found seen
+  pub all : written_by viewer found ≡ written
+  pub alone : stop_of found (read viewer) ≡ None
 
 -- a message of these acts was answered: its parts were done, by which the writer's pass gained these entries, and then a
 -- read found them

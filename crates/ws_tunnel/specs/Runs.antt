@@ -21,8 +21,8 @@ use Rattle.shared_desk.specs.Members.{IsSound, ViewerState}
 use Rattle.shared_desk.specs.Own.{own_entries}
 use Rattle.script_grammar.specs.Acts.{HasTooMany, IsBad, IsCut}
 use Rattle.viewer_acts.specs.Parts.{AreParts, Part, joined}
-use Rattle.viewer_acts.specs.Doing.{Did, GoesOn, WritesParts}
-use Rattle.ws_tunnel.specs.Answered.{Answered, WasRead}
+use Rattle.viewer_acts.specs.Doing.{Did, GoesOn, StopCause as PartCause, WritesParts}
+use Rattle.ws_tunnel.specs.Answered.{Answered, IsPartStopped, IsReadStopped, WasRead}
 use Rattle.ws_tunnel.specs.Links.{NoneLeft}
 use Rattle.ws_tunnel.specs.Heard.{AreMessages, IsMessage, asks_end, before_end, heard}
 use Rattle.ws_tunnel.specs.declared.ends.WsEnd.{WsEnd}
@@ -84,6 +84,17 @@ abbrev pub IsReadAt : WsEnd → ℕ → List Entry → History → Type 0
 IsReadAt Ended viewer gained seen = (found : History) × WasRead viewer gained found seen
 IsReadAt end viewer gained seen = Unit {0}
 
+-- where memory was wanting at a message: in the list of its acts, of which none was done; in the call of a part of them; in
+-- the read behind them; or in what its answer is sent by, once a read had found what they wrote
+abbrev pub IsWantingAt : List Act → ℕ → List ℕ → List Entry → List Entry → History → History → Type 0
+IsWantingAt acts viewer mine own written before seen =
+    (acts ≡ []) ⊎ (IsPartStopped viewer mine own before seen ⊎ (IsReadStopped viewer written before seen ⊎ ((found : History) × IsLater before found × WasRead viewer written found seen)))
+
+-- .. at NoMemory. Where none came it was wanting in the buffer for the next
+abbrev pub IsWanting : WsEnd → Option (List ℕ) → List Act → ℕ → List ℕ → List Entry → List Entry → History → History → Type 0
+IsWanting NoMemory (Some message) acts viewer mine own written before seen = IsWantingAt acts viewer mine own written before seen
+IsWanting end last acts viewer mine own written before seen = Unit {0}
+
 -- so many answers were sent to messages of which so many were answered before the last
 abbrev pub AreCounted : WsEnd → ℕ → ℕ → Type 0
 AreCounted Ended answers messages = answers ≡ messages + 1
@@ -134,6 +145,7 @@ pub record MessagesRun (viewer : ℕ) (start : History) (r w : View Entry) (firs
   pub gained : List Entry
   pub writes : Answered viewer w.mine [] start w.seen messages parts gained
   pub read_last : IsReadAt end viewer gained w.seen
+  pub wanting : IsWanting end last acts viewer w.mine gained gained start w.seen
   -- so what they ask together was done in its order, part by part
   pub all_parts : List Part
   pub heard_are : heard (messages ++ acts ∷ []) ≡ joined all_parts ++ lost
@@ -226,6 +238,7 @@ pub record HasStopped (viewer : ℕ) (r w r_now w_now : View Entry) (left : Opti
   pub gained : List Entry
   pub did : Did viewer w_now.mine (own_entries w) w.seen w_now.seen parts gained
   pub read_last : IsReadAt end viewer (written_by viewer (gained ++ own_entries w)) w_now.seen
+  pub wanting : IsWanting end last acts viewer w_now.mine (gained ++ own_entries w) (written_by viewer (gained ++ own_entries w)) w.seen w_now.seen
   pub own : own_entries w_now ≡ gained ++ own_entries w
   pub reads : List Entry
   pub are_reads : AreReads viewer reads
@@ -288,6 +301,15 @@ abbrev pub IsOwn : WsEnd → Type 0
 IsOwn LinkFault = ⊥
 IsOwn end = Unit {0}
 
+-- why a part was refused, and why a read was
+abbrev pub PutCause : WsEnd → ℕ → History → Type 0
+PutCause NoMemory viewer seen = PartCause written.NoMemory viewer seen
+PutCause end viewer seen = WsCause end viewer seen
+
+abbrev pub ReadCause : WsEnd → ℕ → List Entry → History → History → Type 0
+ReadCause NoMemory viewer written before seen = IsReadStopped viewer written before seen
+ReadCause end viewer written before seen = WsCause end viewer seen
+
 -- acts were done up to one that was refused, if any
 pub record PutsSome (viewer : ℕ) (v w : View Entry) (acts lost : List Act) : Type 0 where
   pub parts : List Part
@@ -298,13 +320,13 @@ pub record PutsSome (viewer : ℕ) (v w : View Entry) (acts lost : List Act) : T
 -- only a session that is closed loses some and goes on
 abbrev pub HasPut : ℕ → View Entry → View Entry → List Act → Result (Unit {0}) WsEnd → Type 0
 HasPut viewer v w acts (Ok done) = (lost : List Act) × PutsSome viewer v w acts lost × ((lost ≡ []) ⊎ ((is_closed w.seen ≡ true) × HasClose w.seen))
-HasPut viewer v w acts (Err end) = (lost : List Act) × PutsSome viewer v w acts lost × IsRefusal end × WsCause end viewer w.seen
+HasPut viewer v w acts (Err end) = (lost : List Act) × PutsSome viewer v w acts lost × IsRefusal end × PutCause end viewer w.seen
 
 -- a read between two meetings, which found all that the writer's pass had gained
 abbrev pub ReadEnd : ℕ → View Entry → View Entry → View Entry → Result Bool WsEnd → Type 0
 ReadEnd viewer w r_now w_now (Ok over) =
     (found : History) × IsLater w.seen found × WasRead viewer (written_by viewer (own_entries w)) found w_now.seen × (is_closed found ≡ true → over ≡ true) × (ended r_now.seen viewer ≡ over)
-ReadEnd viewer w r_now w_now (Err end) = IsRefusal end × WsCause end viewer w_now.seen
+ReadEnd viewer w r_now w_now (Err end) = IsRefusal end × ReadCause end viewer (written_by viewer (own_entries w)) w.seen w_now.seen
 
 pub record ReadsBehind (viewer : ℕ) (r w r_now w_now : View Entry) (text : List ℕ) (result : Result Bool WsEnd) : Type 0 where
   pub seen : r_now.seen ≡ w_now.seen

@@ -1,10 +1,10 @@
 -- What `ws_serve` received and sent, what it asked of the door, and the place that it answers (this project's own).
 use Rattle.std.specs.Prelude.{◌≡◌, ◌⊎◌, ℕ, List, [], ◌∷◌, ◌++◌, Option, Some, None, Result, Ok, Err}
-use Rattle.gate_outside.specs.Helpers.{CountsFaults}
 use Rattle.gate_model.specs.declared.entry.Entry.{Entry}
 use Rattle.gate_model.specs.session.History.{History}
+use Rattle.gate_model.specs.Sequences.{IsLater}
 use Rattle.turn_lock.specs.declared.view.View.{View}
-use Rattle.guac_handshake.specs.Opening.{HasOpened, IsDoor, Moves}
+use Rattle.guac_handshake.specs.Opening.{AnswersForm}
 use Rattle.guac_handshake.specs.Views.{DoorView}
 use Rattle.gate_model.specs.text.Statuses.{bad_request}
 use Rattle.guac_handshake.specs.Statuses.{status_of}
@@ -52,17 +52,23 @@ HasAnsweredAll viewer start id first r w left received sent end = (answers : Lis
 abbrev pub HasVisited : ℕ → History → List ℕ → List ℕ → View Entry → View Entry → Option (List (List ℕ)) → List (List ℕ) → List (List ℕ) → WsEnd → Type 0
 HasVisited viewer start id first r w left received sent end = (answers : List (List ℕ)) × IsReadySent id first received sent answers end × MessagesRun viewer start r w first left received answers end
 
--- its place was fresh, and is answered with the ID that it was told
-pub record IsLetIn (welcome : Welcome Place) (id : List ℕ) (place : Place) (left : Option (List (List ℕ))) (received sent : List (List ℕ)) (end : WsEnd) : Type 0 where
-  pub id_is : id ≡ welcome.id
+-- the place is the one that the welcome gave, which was fresh then: it is of the same session, viewer and role, and what it
+-- has seen begins with what it had seen then
+pub record IsPlaceOf (welcome : Welcome Place) (place : Place) : Type 0 where
   pub fresh : IsFresh welcome.place welcome.first
   pub stays : Stays welcome.place.reader place.reader × Stays welcome.place.writer place.writer
   pub role : place.role ≡ welcome.place.role
+  pub later : IsLater welcome.place.reader.view.seen place.writer.view.seen
+
+-- it is answered with the ID that it was told
+pub record IsLetIn (welcome : Welcome Place) (id : List ℕ) (place : Place) (left : Option (List (List ℕ))) (received sent : List (List ℕ)) (end : WsEnd) : Type 0 where
+  pub id_is : id ≡ welcome.id
+  pub place_is : IsPlaceOf welcome place
   pub ran : HasVisited welcome.place.reader.viewer welcome.place.reader.view.seen welcome.id welcome.first place.reader.view place.writer.view left received sent end
 
 abbrev pub IsAdmitted : Welcome Place → Option (List ℕ × Place) → Option (List (List ℕ)) → List (List ℕ) → List (List ℕ) → WsEnd → Type 0
 IsAdmitted welcome None left received sent end = ⊥
-IsAdmitted welcome (Some placed) left received sent end = (placed.0 ≡ welcome.id) × IsLetIn welcome placed.0 placed.1 left received sent end
+IsAdmitted welcome (Some placed) left received sent end = IsLetIn welcome placed.0 placed.1 left received sent end
 
 -- without a place, at most a form came, and at Refused `error` with the status was sent
 abbrev pub NoPlace : Option (List (List ℕ)) → WsEnd → List (List ℕ) → List (List ℕ) → Type 0
@@ -100,12 +106,7 @@ abbrev pub IsOpenEnd : Result (Welcome Place) FormRefusal → Option (List (List
 IsOpenEnd (Ok welcome) sent sent_new result = (result ≡ Ok welcome) × (sent_new ≡ sent)
 IsOpenEnd (Err r) sent sent_new result = (end : WsEnd) × (result ≡ Err end) × HasRefused (status_for r) sent sent_new end
 
--- what `open_form` says of a door that answered a form so
-pub record AnswersForm (id_of : List ℕ → Option (List ℕ)) (gives : Request → Welcome Place → Type 0) (before after : DoorView) (form : List ℕ) (answer : Result (Welcome Place) FormRefusal) : Type 0 where
-  pub opened : HasOpened id_of before.sessions after.sessions before.helper.draws gives before.asked after.asked form answer
-  pub moves : Moves id_of answer before after
-  pub faults : CountsFaults (IsDoor refused.Dial answer) (IsDoor refused.Busy answer) before.helper after.helper
-
+-- a door's answer to a form, as `open_form` says it, and what the viewer was told of it
 pub record HasAnsweredForm (id_of : List ℕ → Option (List ℕ)) (gives : Request → Welcome Place → Type 0) (before after : DoorView) (form : List ℕ) (sent sent_new : Option (List (List ℕ))) (result : Result (Welcome Place) WsEnd) : Type 0 where
   pub answer : Result (Welcome Place) FormRefusal
   pub door : AnswersForm id_of gives before after form answer
@@ -126,10 +127,10 @@ pub record NoFormCame (before after : DoorView) (left left_new sent sent_new : O
 abbrev pub OpensDoor : (List ℕ → Option (List ℕ)) → (Request → Welcome Place → Type 0) → (before after : DoorView) → (left left_new sent sent_new : Option (List (List ℕ))) → Result (Welcome Place) WsEnd → Type 0
 OpensDoor id_of gives before after left left_new sent sent_new result = NoFormCame before after left left_new sent sent_new result ⊎ FormCame id_of gives before after left left_new sent sent_new result
 
--- what the door answered a form: the place of its welcome; or it refused, which the viewer was told, unless the link
+-- what the door answered a form: the place of this very welcome; or it refused, which the viewer was told, unless the link
 -- failed or memory was wanting
 abbrev pub IsEndOf : Result (Welcome Place) FormRefusal → Option (List ℕ × Place) → WsEnd → Type 0
-IsEndOf (Ok welcome) place end = (own : Place) × (place ≡ Some (welcome.id, own))
+IsEndOf (Ok welcome) place end = (own : Place) × (place ≡ Some (welcome.id, own)) × IsPlaceOf welcome own
 IsEndOf (Err r) place end = (place ≡ None) × ((end ≡ Refused (status_for r)) ⊎ IsLinkEnd end)
 
 -- the door was asked what the first message asks

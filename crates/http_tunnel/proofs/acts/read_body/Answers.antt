@@ -15,7 +15,7 @@ pub returns-then-is_empty : goal.returns-then-is_empty
 returns-then-is_empty c = body_read _ _ _ _ c.reading.invariant (omega (arith, c.reading-test.true)) (empty _ _ c.if-is_empty.true c.is_empty.ensures)
 
 pub returns-in-Err : goal.returns-in-Err
-returns-in-Err c = far_stop _ _ _ _ c.reading.invariant c.take_next.new.wanted c.in-Err.fault (not_empty _ _ c.if-is_empty.false c.is_empty.ensures) c.in-Err.ensures
+returns-in-Err c = far_stop _ _ _ _ c.reading.invariant c.take_next.new.wanted c.in-Err.fault (omega (arith, c.reading-test.true)) (not_empty _ _ c.if-is_empty.false c.is_empty.ensures) c.in-Err.ensures
 
 pub returns : goal.returns
 returns c = too_many _ _ _ _ c.reading.invariant (omega arith)

@@ -16,22 +16,22 @@ returns-in_default-clause-connected g c = record { opened = Err form.NoMemory; a
 pub returns-in-Err-clause-connected : goal.returns-in-Err-clause-connected
 returns-in-Err-clause-connected g c = record {
   opened = Err c.in-Err.refusal;
-  asked = still_refused g.D.Door.id_of _ _ _ (Grants g.D.Door.id_of (g.D.Door.begun c.open_form.new.door) (g.D.Door.joined c.open_form.new.door)) (λ request welcome. Unit {0}) _ _ _ c.in-Err.refusal c.in-Err.ensures.opened;
+  asked = still_refused g.D.Door.id_of _ _ _ (Grants g.D.Door.id_of (g.D.Door.begun c.open_form.new.door) (g.D.Door.joined c.open_form.new.door)) (λ request welcome. Unit {0}) _ _ _ c.in-Err.refusal c.in-Err.ensures.answers.opened;
   answers = ap Err c.refused_form.ensures;
-  sessions = c.in-Err.ensures.moves.sessions;
-  out = c.in-Err.ensures.moves.out;
+  sessions = c.in-Err.ensures.answers.moves.sessions;
+  out = c.in-Err.ensures.answers.moves.out;
   tunnels = told_none Same _ _ refl same_refl;
 }
 
 pub returns-in-Err-clause-faults : goal.returns-in-Err-clause-faults
-returns-in-Err-clause-faults g c = counted_as _ _ _ refl (λ e. dialed c.in-Err.refusal c.refused_form.result c.refused_form.ensures e) (λ e. started c.in-Err.refusal c.refused_form.result c.refused_form.ensures e) c.in-Err.ensures.faults
+returns-in-Err-clause-faults g c = counted_as _ _ _ refl (λ e. dialed c.in-Err.refusal c.refused_form.result c.refused_form.ensures e) (λ e. started c.in-Err.refusal c.refused_form.result c.refused_form.ensures e) c.in-Err.ensures.answers.faults
 
 pub unwrap-requires : goal.unwrap-requires
 unwrap-requires g c = has_room c.extend_from_slice.result _ _ _ c.in-Ok.ensures.exact c.in-Ok.ensures.len (long_id _ _ (c.as_bytes.ensures.value ∙ c.encode_lower-text.ensures.text)) c.extend_from_slice.ensures.full
 
 pub returns-in-Ok-add_tunnel-clause-connected : goal.returns-in-Ok-add_tunnel-clause-connected
 returns-in-Ok-add_tunnel-clause-connected g c =
-    let o = c.in-Ok-open_form.ensures.opened in
+    let o = c.in-Ok-open_form.ensures.answers.opened in
     let welcome = c.in-Ok-open_form.welcome in
     let same = c.in-Ok-add_tunnel.ensures.same in
     let text = c.as_bytes.ensures.value ∙ (c.encode_lower-text.ensures.text ∙ ap (λ (bs : List ℕ). hyphenated_text lower bs) c.hyphenated.ensures) in
@@ -40,16 +40,16 @@ returns-in-Ok-add_tunnel-clause-connected g c =
       opened = Ok welcome;
       asked = (o.0, o.1, ap (λ (d : g.row.D.Denot). (g.D.Door.view d).asked) same ∙ o.2, still_granted c.open_form.new.door c.add_tunnel.new.door (λ d. Grants g.D.Door.id_of (g.D.Door.begun d) (g.D.Door.joined d) o.0 welcome) same o.3);
       answers = c.in-Ok-open_form.ensures.fresh;
-      sessions = still_granted c.open_form.new.door c.add_tunnel.new.door (λ d. Told before.sessions (g.D.Door.view d).sessions (HasMoved g.D.Door.id_of (Ok welcome))) same c.in-Ok-open_form.ensures.moves.sessions;
-      out = ap (λ (d : g.row.D.Denot). (g.D.Door.view d).out) same ∙ c.in-Ok-open_form.ensures.moves.out;
+      sessions = still_granted c.open_form.new.door c.add_tunnel.new.door (λ d. Told before.sessions (g.D.Door.view d).sessions (HasMoved g.D.Door.id_of (Ok welcome))) same c.in-Ok-open_form.ensures.answers.moves.sessions;
+      out = ap (λ (d : g.row.D.Denot). (g.D.Door.view d).out) same ∙ c.in-Ok-open_form.ensures.answers.moves.out;
       tunnels = text_added welcome c.of.result c.in-Ok-add_tunnel.id _ (g.T.Shelf.told c.args.tunnels.now) (g.T.Shelf.told c.add_tunnel.new.tunnels)
           (c.of.ensures ∙ (extended c.extend_from_slice.result c.unwrap.result _ _ _ c.extend_from_slice.ensures.items c.unwrap.ensures c.in-Ok.ensures.items ∙ text)) c.in-Ok-add_tunnel.ensures.added;
     }
 
 pub returns-in-Err-add_tunnel-clause-connected : goal.returns-in-Err-add_tunnel-clause-connected
 returns-in-Err-add_tunnel-clause-connected g c =
-    let o = c.in-Ok-open_form.ensures.opened in
-    let moves = c.in-Ok-open_form.ensures.moves in
+    let o = c.in-Ok-open_form.ensures.answers.opened in
+    let moves = c.in-Ok-open_form.ensures.answers.moves in
     let gives = c.in-Err-add_tunnel.ensures.gives in
     record {
       opened = Ok c.in-Ok-open_form.welcome;
@@ -61,4 +61,4 @@ returns-in-Err-add_tunnel-clause-connected g c =
     }
 
 pub returns-in-Err-add_tunnel-clause-faults : goal.returns-in-Err-add_tunnel-clause-faults
-returns-in-Err-add_tunnel-clause-faults g c = counted_as _ _ _ c.in-Err-add_tunnel.ensures.gives.helper (λ e. not_dialed c.in-Err-add_tunnel.refusal _ c.in-Err-add_tunnel.ensures.kind e) (λ e. not_started c.in-Err-add_tunnel.refusal _ c.in-Err-add_tunnel.ensures.kind e) c.in-Ok-open_form.ensures.faults
+returns-in-Err-add_tunnel-clause-faults g c = counted_as _ _ _ c.in-Err-add_tunnel.ensures.gives.helper (λ e. not_dialed c.in-Err-add_tunnel.refusal _ c.in-Err-add_tunnel.ensures.kind e) (λ e. not_started c.in-Err-add_tunnel.refusal _ c.in-Err-add_tunnel.ensures.kind e) c.in-Ok-open_form.ensures.answers.faults

@@ -1,5 +1,5 @@
 use Rattle.std.proofs.Common.{refl, inl, inr}
-use Rattle.http_tunnel.proofs.Writing.{body_written, no_body}
+use Rattle.http_tunnel.proofs.Writing.{body_written, no_body, no_room}
 use Rattle.http_tunnel.proofs.write.write_body.Goals as goal
 
 pub write_wish-requires : goal.write_wish-requires
@@ -12,4 +12,4 @@ pub returns-in-Err-Form-clause-wrote : goal.returns-in-Err-Form-clause-wrote
 returns-in-Err-Form-clause-wrote g c = inl (refl, refl, no_body _ _ c.in-Err-Form.field-0-is c.in-Err-Form.ensures)
 
 pub returns-in-Err-NoMemory-clause-wrote : goal.returns-in-Err-NoMemory-clause-wrote
-returns-in-Err-NoMemory-clause-wrote g c = inr (inl (refl, refl))
+returns-in-Err-NoMemory-clause-wrote g c = inr (inl (refl, refl, no_room _ _ c.in-Err-NoMemory.field-0-is c.in-Err-NoMemory.ensures))

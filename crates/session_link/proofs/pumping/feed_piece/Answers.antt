@@ -11,4 +11,4 @@ pub returns-in-Err-Worn-clause-step : goal.returns-in-Err-Worn-clause-step
 returns-in-Err-Worn-clause-step g c = refused_worn _ _ c.args.piece.now c.args.now _ c.requires c.in-Err-Worn.ensures.called _ c.in-Err-Worn.field-0-is
 
 pub returns-in-Err-NoMemory-clause-step : goal.returns-in-Err-NoMemory-clause-step
-returns-in-Err-NoMemory-clause-step g c = refused_memory _ _ c.args.piece.now c.args.now _ c.requires c.in-Err-NoMemory.ensures.called
+returns-in-Err-NoMemory-clause-step g c = refused_memory _ _ c.args.piece.now c.args.now _ c.requires c.in-Err-NoMemory.ensures.called c.in-Err-NoMemory.field-0-is

@@ -10,5 +10,14 @@ visit-end-requires g c = record { one = record { session = sym c.requires.fresh.
 pub returns-clause-ran : goal.returns-clause-ran
 returns-clause-ran g c =
     let s = c.visit-end.ensures.ran in
-    let e = c.visit-end.ensures in
-    (s.0, s.1, s.2, s.3, (refl, record { id_is = refl; fresh = c.requires.fresh; stays = e.stays; role = refl; ran = subst (λ (bs : List ℕ). HasVisited c.args.welcome.place.reader.viewer c.args.welcome.place.reader.view.seen c.args.welcome.id bs c.visit-end.new.reader.view c.visit-end.new.writer.view (g.M.Messages.left c.visit-end.new.link) s.0 s.1 c.visit-end.result) c.as_slice.ensures s.4 }))
+    let e = c.visit-end.ensures in (
+      s.0,
+      s.1,
+      s.2,
+      s.3,
+      record {
+        id_is = refl;
+        place_is = record { fresh = c.requires.fresh; stays = e.stays; role = refl; later = s.4.2.later };
+        ran = subst (λ (bs : List ℕ). HasVisited c.args.welcome.place.reader.viewer c.args.welcome.place.reader.view.seen c.args.welcome.id bs c.visit-end.new.reader.view c.visit-end.new.writer.view (g.M.Messages.left c.visit-end.new.link) s.0 s.1 c.visit-end.result) c.as_slice.ensures s.4;
+      },
+    )
