@@ -14,6 +14,7 @@ pub mod OnePlay
 pub mod OneAnswer
 pub mod OneRun
 pub mod OneFault
+pub mod OneLoad
 pub mod LoadLaws
 pub mod LoadEndings
 pub mod LoadRun

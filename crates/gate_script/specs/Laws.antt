@@ -6,7 +6,7 @@ use Rattle.script_grammar.specs.declared.text_form.TextForm.{TextForm}
 use Rattle.script_grammar.specs.declared.text_form.TextForm.TheVariants.{Script}
 use Rattle.script_grammar.specs.declared.order.Order.{Order}
 use Rattle.gate_script.specs.declared.refused.Refused.{Refused}
-use Rattle.gate_script.specs.Outcomes.{CutInNewest, CutShort, Finished, Halted, Interrupted, LastCutShort, Refuses}
+use Rattle.gate_script.specs.Outcomes.{CutInNewest, CutShort, Finished, Halted, Interrupted, LastCutShort, Loaded, Refuses}
 use Rattle.gate_script.specs.Plays.{Play, Plays}
 
 -- ---- given orders
@@ -41,6 +41,10 @@ RefusesIsOnePlay = (form : TextForm) (bytes a b f : List ℕ) (left : Option (Li
 -- so are two runs of a script that want of memory ended, where they wrote the same answers too
 abbrev pub HaltedIsOnePlay : Type 0
 HaltedIsOnePlay = (entries : ℕ) (bytes a f : List ℕ) (left : Option (List ℕ)) (one other : Halted (Script entries) bytes a f left) → one.play ≡ other.play
+
+-- two whole loads of the same words that wrote the same frames are one play, and have the same answers
+abbrev pub LoadedIsOnePlay : Type 0
+LoadedIsOnePlay = (seed rounds : ℕ) (a b f : List ℕ) (one : Loaded seed rounds a f) (other : Loaded seed rounds b f) → (one.play ≡ other.play) × (a ≡ b)
 
 -- ---- runs that a fault of a sink ended
 
