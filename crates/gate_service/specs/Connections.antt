@@ -98,8 +98,8 @@ UnlessMessages Ended P = P
 UnlessMessages ReadFault P = P
 UnlessMessages NoMemory P = P
 
--- what a connection left alone, of the sink, the door and the rest: a viewer's and one of messages the rest, one that was served nothing all of
--- them, and one that was refused for want of memory the door and the rest
+-- what a connection left alone, of the sink, the door and the rest: a viewer's and one of messages the rest, one that
+-- was served nothing all of them, and one that was refused for want of memory the door and the rest
 abbrev pub LeavesAlone : Type 0 → Type 0 → Type 0 → ConnEnd → Type 0
 LeavesAlone sink door rest (User end) = rest
 LeavesAlone sink door rest (Http end) = OnSilent end (sink × door × rest)

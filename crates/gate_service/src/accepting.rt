@@ -30,9 +30,10 @@ const LOOKS: u32 = 5;
 
 const PAUSE: u64 = 20;
 
-/// What the service has for every connection: the tables of sessions, of tunnels and of links, a helper of its own, the one
-/// bell, the host and the port of the recorder of sessions, where one is wanted, the faces of each session, the page, where it
-/// is, where it notes, the list of what runs, and the threads that have served a connection and wait for the next.
+/// What the service has for every connection: the tables of sessions, of tunnels and of links, a helper of its own, the
+/// one bell, the host and the port of the recorder of sessions, where one is wanted, the faces of each session, the
+/// page, where it is, where it notes, the list of what runs, and the threads that have served a connection and wait for
+/// the next.
 #[derive(Drop)]
 pub(crate) struct Service<H: Helper, B, L> {
     pub(crate) alloc: Global,

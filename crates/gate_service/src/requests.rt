@@ -37,9 +37,10 @@ pub enum HttpEnd {
     NoMemory,
 }
 
-/// Writes the response that is due for what came: that of `link_request` for a whole request whose path is `/links`, that of
-/// `tunnel_request` for any other whole request, the refusal's status with code 768 for one that is refused, and 500 with code 512 where memory is wanting. Bytes that end early, and a read
-/// that fails, are answered by nothing, and then nothing else is done (this project's own).
+/// Writes the response that is due for what came: that of `link_request` for a whole request whose path is `/links`,
+/// that of `tunnel_request` for any other whole request, the refusal's status with code 768 for one that is refused,
+/// and 500 with code 512 where memory is wanting. Bytes that end early, and a read that fails, are answered by nothing,
+/// and then nothing else is done (this project's own).
 pub(crate) fn answer<R, K, D, T, X, B>(
     rt: &R,
     alloc: Global,

@@ -50,13 +50,13 @@ pub enum ConnEnd {
 /// Serves one connection. It looks at the first byte; where that is a digit, it serves a viewer by `serve_user`, over
 /// that byte and what comes behind it, in which what is pasted is typed as keys, and the place of a visit is for the
 /// caller to give back to the door. Where there is no memory for the pastes, the viewer is refused by the `error` of
-/// 512. Where it is another byte, it reads one request. One whose path is `/websocket-tunnel` is the handshake of a WebSocket
-/// (RFC 6455), over which a viewer is served by `ws_tunnel::ws_serve`; nothing is said of the bytes that are read and written
-/// then. To every other one response is written: that of `share_links::link_request` for a whole request whose path is
-/// `/links`, that of `http_tunnel::tunnel_request` for any other whole request, whose condition
-/// and promise on the tunnels it has, the refusal's status with code 768 for a request that is refused, and 500 with code
-/// 512 where memory is wanting. A connection that ends early, or whose read fails, is answered nothing (this project's
-/// own).
+/// 512. Where it is another byte, it reads one request. One whose path is `/websocket-tunnel` is the handshake of a
+/// WebSocket (RFC 6455), over which a viewer is served by `ws_tunnel::ws_serve`; nothing is said of the bytes that are
+/// read and written then. To every other one response is written: that of `share_links::link_request` for a whole
+/// request whose path is `/links`, that of `http_tunnel::tunnel_request` for any other whole request, whose condition
+/// and promise on the tunnels it has, the refusal's status with code 768 for a request that is refused, and 500 with
+/// code 512 where memory is wanting. A connection that ends early, or whose read fails, is answered nothing (this
+/// project's own).
 pub fn connection<R, S, K, D, T, X, B>(
     rt: &R,
     alloc: Global,

@@ -7,8 +7,9 @@ use std::sync::Wait;
 use std::thread::Threads;
 use thread_pool::Pool;
 
-/// What a thread does: it serves a connection and then, where it has a pool, each that it is given there. Nothing is said of
-/// it: `connection` says what is read and written, a thread hands nothing back, and a pool doesn't tell whom it calls.
+/// What a thread does: it serves a connection and then, where it has a pool, each that it is given there. Nothing is
+/// said of it: `connection` says what is read and written, a thread hands nothing back, and a pool doesn't tell whom it
+/// calls.
 #[derive(Drop)]
 pub(crate) struct Worker<S, K, H, B, L> {
     pub(crate) job: ConnectionJob<S, K, H, B, L>,

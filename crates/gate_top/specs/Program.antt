@@ -3,8 +3,8 @@ use Rattle.std.specs.Prelude.{◌≡◌, ◌↔◌, ℕ, List, Option, Some, Non
 use Rattle.script_grammar.specs.declared.form.Form.{Form}
 use Rattle.script_grammar.specs.Words.{form_of}
 
--- all words but those of the service, as `gate_script::command` has it: 2 tells exactly that they are none of the forms, and then nothing was
--- done; else the outcome is that of their form
+-- all words but those of the service, as `gate_script::command` has it: 2 tells exactly that they are none of the
+-- forms, and then nothing was done; else the outcome is that of their form
 pub record IsCommandStatus (words : List (List ℕ)) (idle : Type 0) (has_outcome : Form → Type 0) (status : ℕ) : Type 0 where
   pub usage : (form_of words ≡ None) ↔ (status ≡ 2)
   pub nothing : status ≡ 2 → idle
