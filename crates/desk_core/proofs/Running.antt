@@ -1,6 +1,7 @@
 -- What each call of a list of calls leaves, from what the call by itself leaves.
-use Rattle.std.proofs.Common.{◌≡◌, ℕ, ◌+◌, ◌<◌, List, [], ◌∷◌, ◌++◌, length, take, get_or, refl, ap, sym, ◌∙◌, subst, append-nil, append_assoc}
+use Rattle.std.proofs.Common.{◌≡◌, ℕ, suc, ◌+◌, ◌<◌, ◌≤◌, ◌⊎◌, List, [], ◌∷◌, ◌++◌, length, take, drop, get_or, refl, ap, sym, ◌∙◌, subst, append-nil, append_assoc, arith}
 use Rattle.std.proofs.lemmas.List.{take_more}
+use Rattle.std.proofs.Math.Seq.{split_at}
 use Rattle.std.specs.Prelude.{false, true, Result, Ok, Err}
 use Rattle.std.specs.Result.{IsErr}
 use Rattle.gate_model.specs.declared.answer.Answer.{Answer}
@@ -12,7 +13,7 @@ use Rattle.gate_model.specs.text.Text.{texts}
 use Rattle.gate_model.specs.session.Calls.{Step}
 use Rattle.gate_model.specs.session.History.{History}
 use Rattle.gate_model.specs.session.Runs.{Runs, handed_out}
-use Rattle.desk_core.specs.Calls.{Answered, Ended, HasRun, RunEnds}
+use Rattle.desk_core.specs.Calls.{Answered, Ended, HasRun, RanShort, RunEnds, StoppedShort}
 use Rattle.desk_core.specs.Desk.{DeskState, Stands}
 use Rattle.desk_core.proofs.FrameTexts.{texts-append}
 
@@ -63,12 +64,32 @@ has_run_more h events i other told mid new before held after lt k a ends =
     subst (λ (es : List Event). HasRun h es (told ++ a ∷ []) new before after) (sym (take_more events i other lt))
     (has_run_one h (take i events) told mid new before held after k (get_or events i other) a (ends k.longer k.stands))
 
--- a list of calls that stops at one
-pub has_run_short : (h : History) (es : List Event) (told : List Answer) (mid new : DeskState) (before held after : List ℕ) → HasRun h es told mid before held → new ≡ mid → after ≡ held → HasRun h es told new before after
-has_run_short h es told mid new before held after k same kept =
-    subst (λ (d : DeskState). HasRun h es told d before after) (sym same) (subst (λ (w : List ℕ). HasRun h es told mid before w) (sym kept) k)
+-- some first calls of a list were made, and the answers have room for the others
+pub record RunAt (old : DeskState) (events : List Event) (i capacity len : ℕ) (told : List Answer) (new : DeskState) (before after : List ℕ) : Type 0 where
+  pub room : length events ≤ capacity
+  pub place : len ≡ i
+  pub ran : (h : History) → Stands old h → HasRun h (take i events) told new before after
 
--- it stops at a call, and what was done before it stands
-pub run_stops : (h : History) (events : List Event) (count : ℕ) (told : List Answer) (r : Result (List Answer) NoMemory) (new : DeskState) (before after : List ℕ) → IsErr r → count < length events → HasRun h (take count events) told new before after → RunEnds h events r new before after
-run_stops h events count told (Ok answers) new before after e at k = absurd (let w : false ≡ true = e in cc)
-run_stops h events count told (Err want) new before after e at k = (count, told, at, k)
+-- memory ran short at the call behind them
+pub run_short : (h : History) (events : List Event) (i : ℕ) (other : Event) (told : List Answer) (mid new : DeskState) (before held after : List ℕ) → i < length events → (front : HasRun h (take i events) told mid before held) → RanShort front.longer (get_or events i other) mid new held after
+    → StoppedShort h events new before after
+run_short h events i other told mid new before held after lt front kept = record {
+  front = take i events;
+  event = get_or events i other;
+  others = drop (i + 1) events;
+  split = let next : suc i ≡ i + 1 = omega arith in split_at events i other lt ∙ ap (λ (n : ℕ). take i events ++ get_or events i other ∷ drop n events) next;
+  answers = told;
+  made = record {
+    longer = front.longer;
+    out = front.out;
+    runs = front.runs;
+    stands = subst (λ (d : DeskState). Stands d front.longer) (sym kept.desk) front.stands;
+    appended = kept.buffer ∙ front.appended;
+  };
+  unstopped = kept.unstopped;
+}
+
+-- it stops, and what was done before stands
+pub run_stops : (h : History) (events : List Event) (r : Result (List Answer) NoMemory) (old new : DeskState) (before after : List ℕ) → IsErr r → ((new ≡ old) × (after ≡ before)) ⊎ StoppedShort h events new before after → RunEnds h events r old new before after
+run_stops h events (Ok answers) old new before after e k = absurd (let w : false ≡ true = e in cc)
+run_stops h events (Err want) old new before after e k = k

@@ -1,5 +1,5 @@
 -- How each call of a desk ends that stood for a history (this project's own).
-use Rattle.std.specs.Prelude.{◌≡◌, ◌<◌, ℕ, List, [], ◌∷◌, ◌++◌, length, take, None, Result, Ok, Err}
+use Rattle.std.specs.Prelude.{◌≡◌, ◌⊎◌, ℕ, List, [], ◌∷◌, ◌++◌, None, Result, Ok, Err}
 use Rattle.gate_model.specs.declared.answer.Answer.{Answer}
 use Rattle.gate_model.specs.declared.answer.Answer.TheVariants.{Feed as fed, Join as joined_as, Read as was_read, Write as was_written, Resize as was_resized}
 use Rattle.gate_model.specs.declared.event.Event.{Event}
@@ -98,7 +98,18 @@ pub record HasRun (h : History) (events : List Event) (answers : List Answer) (n
   pub stands : Stands new longer
   pub appended : after ≡ before ++ texts out
 
--- all the calls were made; or memory ran short at one: those before it were made, and what they did stands
-abbrev pub RunEnds : History → List Event → Result (List Answer) NoMemory → DeskState → List ℕ → List ℕ → Type 0
-RunEnds h events (Ok answers) new before after = HasRun h events answers new before after
-RunEnds h events (Err refused) new before after = (count : ℕ) × (answers : List Answer) × (count < length events) × HasRun h (take count events) answers new before after
+-- memory ran short at one of these calls, where nothing else stopped it: those before it were made, what they did
+-- stands, and it did nothing
+pub record StoppedShort (h : History) (events : List Event) (new : DeskState) (before after : List ℕ) : Type 0 where
+  pub front : List Event
+  pub event : Event
+  pub others : List Event
+  pub split : events ≡ front ++ event ∷ others
+  pub answers : List Answer
+  pub made : HasRun h front answers new before after
+  pub unstopped : stop_of made.longer event ≡ None
+
+-- all the calls were made; or memory ran short, for the answers before the first was made, or at one
+abbrev pub RunEnds : History → List Event → Result (List Answer) NoMemory → DeskState → DeskState → List ℕ → List ℕ → Type 0
+RunEnds h events (Ok answers) old new before after = HasRun h events answers new before after
+RunEnds h events (Err refused) old new before after = ((new ≡ old) × (after ≡ before)) ⊎ StoppedShort h events new before after

@@ -19,8 +19,9 @@ impl Desk {
     ghost use Rattle.desk_core.specs.Calls.{Ended, RunEnds};
 
     /// Makes the calls one after the other, answers each in order, and appends what its joins and reads
-    /// append. It stops at the first call that lacks memory, for itself or for its answer: what was done before
-    /// it stands, and it does nothing (this project's own rule).
+    /// append. It takes the memory of the answers before the first call, and stops at the first call that lacks
+    /// memory, where nothing else stops it: what was done before it stands, and it does nothing (this project's
+    /// own rule).
     pub fn run(
         &mut self,
         alloc: Global,
@@ -28,12 +29,11 @@ impl Desk {
         into: &mut Vec<u8>,
     ) -> Result<Answers, NoMemory>
         requires { (i : ℕ) (other : Event) → i < length events.now → MeetsCondition (get_or events.now i other) }
-        ensures step { (h : History) → Stands self.old h → RunEnds h events.now result self.new into.old.items into.new.items }
+        ensures step { (h : History) → Stands self.old h → RunEnds h events.now result self.old self.new into.old.items into.new.items }
     {
-        let mut answers = Vec::new(alloc);
+        // So a call that was made is answered.
+        let mut answers = Vec::with_capacity(alloc, events.len())?;
         for event in events {
-            // So a call that was made is answered.
-            answers.reserve(1)?;
             let answer = self.call(alloc, event, into)?;
             answers.push(answer)?;
         }
