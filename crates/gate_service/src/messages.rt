@@ -55,7 +55,7 @@ where
     D: Door<Place = Place>,
     B: Bell,
     ensures served { (received : List (List ℕ)) × (sent : List (List ℕ)) × HasServed result.0 None received sent }
-    ensures asked { AsksDoor D.id_of (Grants D.id_of (D.begun door.new) (D.joined door.new)) (D.view door.old) (D.view door.new) None result.0 }
+    ensures asked { AsksDoor D.id_of (Grants (D.begun door.new) (D.joined door.new)) (D.view door.old) (D.view door.new) None result.0 }
 {
     let run = ws_serve(rt, alloc, link, door, bell);
     link.close();
@@ -82,7 +82,7 @@ where
     D: Door<Place = Place>,
     B: Bell,
     ensures served { (received : List (List ℕ)) × (sent : List (List ℕ)) × HasServed result None received sent }
-    ensures asked { AsksDoor D.id_of (Grants D.id_of (D.begun door.new) (D.joined door.new)) (D.view door.old) (D.view door.new) None result }
+    ensures asked { AsksDoor D.id_of (Grants (D.begun door.new) (D.joined door.new)) (D.view door.old) (D.view door.new) None result }
 {
     let mut link = WsLink::new(alloc, first, source, sink);
     let (run, silent) = serve_over(rt, alloc, &mut link, door, bell);

@@ -60,7 +60,7 @@ where
     B: Bell,
     requires { AreHome (T.told tunnels.old) }
     ensures home { AreHome (T.told tunnels.new) }
-    ensures ran { (written : List ℕ) × (K.written sink.new ≡ gained (K.written sink.old) written) × HasAnswered (IsDue D.id_of (Grants D.id_of (D.begun door.new.door) (IsJoinedAs (D.joined door.new.door))) (gate_view (D.view door.old.door) (T.told tunnels.old) (X.helper dice.old)) (gate_view (D.view door.new.door) (T.told tunnels.new) (X.helper dice.new)) ((door.new ≡ door.old) × (tunnels.new ≡ tunnels.old) × (dice.new ≡ dice.old))) incoming.entry result written }
+    ensures ran { (written : List ℕ) × (K.written sink.new ≡ gained (K.written sink.old) written) × HasAnswered (IsDue D.id_of (Grants (D.begun door.new.door) (IsJoinedAs (D.joined door.new.door))) (gate_view (D.view door.old.door) (T.told tunnels.old) (X.helper dice.old)) (gate_view (D.view door.new.door) (T.told tunnels.new) (X.helper dice.new)) ((door.new ≡ door.old) × (tunnels.new ≡ tunnels.old) × (dice.new ≡ dice.old))) incoming.entry result written }
     ensures silent { OnSilent result ((sink.new ≡ sink.old) × (door.new ≡ door.old) × (tunnels.new ≡ tunnels.old) × (dice.new ≡ dice.old)) }
     ensures later { NeverFell (D.view door.old.door).helper (D.view door.new.door).helper }
     ensures writes { CountsFault (result ≡ HttpEnd.WriteFault) (K.faults sink.old) (K.faults sink.new) }
@@ -89,7 +89,7 @@ where
     B: Bell,
     requires { AreHome (T.told tunnels.old) }
     ensures home { AreHome (T.told tunnels.new) }
-    ensures due { IfOk result (IsDue D.id_of (Grants D.id_of (D.begun door.new.door) (IsJoinedAs (D.joined door.new.door))) (gate_view (D.view door.old.door) (T.told tunnels.old) (X.helper dice.old)) (gate_view (D.view door.new.door) (T.told tunnels.new) (X.helper dice.new)) ((door.new ≡ door.old) × (tunnels.new ≡ tunnels.old) × (dice.new ≡ dice.old)) incoming.entry) }
+    ensures due { IfOk result (IsDue D.id_of (Grants (D.begun door.new.door) (IsJoinedAs (D.joined door.new.door))) (gate_view (D.view door.old.door) (T.told tunnels.old) (X.helper dice.old)) (gate_view (D.view door.new.door) (T.told tunnels.new) (X.helper dice.new)) ((door.new ≡ door.old) × (tunnels.new ≡ tunnels.old) × (dice.new ≡ dice.old)) incoming.entry) }
     ensures silent { IfErr result (IsSilent incoming.entry) }
     ensures nothing { OnErr result ((door.new ≡ door.old) × (tunnels.new ≡ tunnels.old) × (dice.new ≡ dice.old)) }
     ensures later { NeverFell (D.view door.old.door).helper (D.view door.new.door).helper }

@@ -77,11 +77,11 @@ where
     B: Bell + Send,
     requires { AreHome (T.told tunnels.old) }
     ensures home { AreHome (T.told tunnels.new) }
-    ensures ran { UnlessMessages result ((read : List ℕ) × (written : List ℕ) × (K.written sink.new ≡ gained (K.written sink.old) written) × ConnRun (IsDue D.id_of (Grants D.id_of (D.begun door.new.door) (IsJoinedAs (D.joined door.new.door))) (gate_view (D.view door.old.door) (T.told tunnels.old) (X.helper dice.old)) (gate_view (D.view door.new.door) (T.told tunnels.new) (X.helper dice.new)) ((door.new ≡ door.old) × (tunnels.new ≡ tunnels.old) × (dice.new ≡ dice.old))) (left_of S.left source.old) (typed_of S.left source.old) (left_of S.left source.new) result read written) }
+    ensures ran { UnlessMessages result ((read : List ℕ) × (written : List ℕ) × (K.written sink.new ≡ gained (K.written sink.old) written) × ConnRun (IsDue D.id_of (Grants (D.begun door.new.door) (IsJoinedAs (D.joined door.new.door))) (gate_view (D.view door.old.door) (T.told tunnels.old) (X.helper dice.old)) (gate_view (D.view door.new.door) (T.told tunnels.new) (X.helper dice.new)) ((door.new ≡ door.old) × (tunnels.new ≡ tunnels.old) × (dice.new ≡ dice.old))) (left_of S.left source.old) (typed_of S.left source.old) (left_of S.left source.new) result read written) }
     ensures untouched { LeavesAlone (sink.new ≡ sink.old) (door.new ≡ door.old) ((tunnels.new ≡ tunnels.old) × (dice.new ≡ dice.old)) result }
     ensures ended { result ≡ ConnEnd.Http ends.Ended → AtEnd (left_of S.left source.new) }
-    ensures viewer { IfUser result (ServesViewer D.id_of (Grants D.id_of (D.begun door.new.door) (IsJoinedAs (D.joined door.new.door))) (D.view door.old.door) (D.view door.new.door) (typed_of S.left source.old) (left_of S.left source.new) (K.written sink.old) (K.written sink.new)) }
-    ensures messages { IfMessages result (HasMessages D.id_of (Grants D.id_of (D.begun door.new.door) (IsJoinedAs (D.joined door.new.door))) (D.view door.old.door) (D.view door.new.door) (left_of S.left source.old)) }
+    ensures viewer { IfUser result (ServesViewer D.id_of (Grants (D.begun door.new.door) (IsJoinedAs (D.joined door.new.door))) (D.view door.old.door) (D.view door.new.door) (typed_of S.left source.old) (left_of S.left source.new) (K.written sink.old) (K.written sink.new)) }
+    ensures messages { IfMessages result (HasMessages D.id_of (Grants (D.begun door.new.door) (IsJoinedAs (D.joined door.new.door))) (D.view door.old.door) (D.view door.new.door) (left_of S.left source.old)) }
     ensures later { NeverFell (D.view door.old.door).helper (D.view door.new.door).helper }
     ensures faults { UnlessMessages result (CountsFault (HasReadFault result) (faults_of S.faults source.old) (faults_of S.faults source.new) × CountsFault (HasWriteFault result) (K.faults sink.old) (K.faults sink.new)) }
 {

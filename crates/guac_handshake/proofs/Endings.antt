@@ -14,8 +14,9 @@ use Rattle.guac_handshake.specs.declared.stop.Stop.{Stop}
 use Rattle.guac_handshake.specs.declared.stop.Stop.TheVariants as stop
 use Rattle.guac_handshake.specs.declared.welcome.Welcome.{Welcome}
 use Rattle.guac_handshake.specs.Asks.{Wish, Refuses, Unfinished, Wants, asks, selected}
-use Rattle.guac_handshake.specs.Doors.{MayRefuse, Names, Sessions, asked_more, logged_for}
+use Rattle.guac_handshake.specs.Doors.{asked_more, logged_for}
 use Rattle.guac_handshake.specs.Greetings.{AskedAsWished, AskedAtMost, AskedOnce, Broken, ByDoor, ByForm, EarlyReply, Ends, HasAsked, IsGreeting, IsReplyTo, IsServed, IsToldError, IsToldReady, NoReply, NotAsked, OnReady, OutOfForm, ReadyReply, RefusalReply, RefusedEarly, Unasked, UnlessWanted, Wished}
+use Rattle.guac_handshake.specs.Views.{DoorView, MayRefuse, Names}
 use Rattle.guac_handshake.specs.Statuses.{status_of}
 use Rattle.guac_handshake.specs.Splits.{Splits}
 use Rattle.guac_handshake.specs.Texts.{args_for, error_text, ready_text}
@@ -35,7 +36,7 @@ at_most before now request refused.Worn e = AskedOnce e
 pub serve_ok : {P D : Type 0} (May : Request → Refused → Type 0) (Named : Request → List ℕ → Type 0) (Gives : D → Request → Welcome P → Type 0) (d now : D) (request : Request) (w v : Option (List ℕ)) (a b : Option (List Request)) (welcome : Welcome P) (result : Greeted P)
     → b ≡ asked_more a request → Named request welcome.id → Gives d request welcome → OnReady result (now ≡ d) → IsToldReady welcome w v result → IsServed May Named (Gives now) request w v a b result
 serve_ok {P = P} {D = D} May Named Gives d now request w v a b welcome (greeted.Ready other) e named given same t =
-    (t.1, e, subst (λ (x : D). Gives x request other) (sym same) (subst (λ (x : Welcome P). Gives d request x) (sym t.0) given))
+    (t.1, e, subst (λ (x : Welcome P). Named request x.id) (sym t.0) named, subst (λ (x : D). Gives x request other) (sym same) (subst (λ (x : Welcome P). Gives d request x) (sym t.0) given))
 serve_ok May Named Gives d now request w v a b welcome (greeted.Refused status) e named given same t = absurd t
 serve_ok May Named Gives d now request w v a b welcome greeted.Ended e named given same t = absurd t
 serve_ok May Named Gives d now request w v a b welcome greeted.ReadFault e named given same t = absurd t
@@ -78,7 +79,7 @@ reply_to May Named wish rest text request is (RefusalReply q r same may e) = Ref
 reply_to May Named wish rest text request is (ReadyReply q id same named e) = ReadyReply q id (is ∙ same) named e
 
 ends_served : {P : Type 0} (May : Request → Refused → Type 0) (Named : Request → List ℕ → Type 0) (Gives : Request → Welcome P → Type 0) (wish : Wish) (args rest : List ℕ) (left w m v : Option (List ℕ)) (a b : Option (List Request)) (request : Request) (result : Greeted P) → wish ≡ Wants request → m ≡ gained w args → IsServed May Named Gives request m v a b result → Ends May Named Gives wish args rest left w v a b result
-ends_served May Named Gives wish args rest left w m v a b request (greeted.Ready welcome) is e s = (request, is, gained_on w m v args (ready_text welcome.id) e s.0, s.1, s.2)
+ends_served May Named Gives wish args rest left w m v a b request (greeted.Ready welcome) is e s = (request, is, gained_on w m v args (ready_text welcome.id) e s.0, s.1, s.2, s.3)
 ends_served May Named Gives wish args rest left w m v a b request (greeted.Refused status) is e s = (gained_on w m v args (error_text status) e s.3, ByDoor request s.0 is s.1 s.2 s.4)
 ends_served May Named Gives wish args rest left w m v a b request greeted.Ended is e s = absurd s
 ends_served May Named Gives wish args rest left w m v a b request greeted.ReadFault is e s = absurd s
@@ -105,8 +106,8 @@ whatever Unfinished F f = f
 whatever (Refuses status) F f = f
 whatever (Wants request) F f = tt
 
-module _ {P : Type 0} (id_of : List ℕ → Option (List ℕ)) (sessions sessions_new : Option Sessions) (draws : Option (ℕ → List ℕ)) (gives : Request → Welcome P → Type 0) (a b w m v : Option (List ℕ)) (asked_old asked_mid asked_new : Option (List Request)) (unread rest : List ℕ) (empty : unread ≡ []) (same : asked_mid ≡ asked_old) where
-  made : (result : Result Request Stop) (greeted : Greeted P) (h : HasAsked id_of sessions a b w m unread rest result) → UnlessWanted (asks h.known h.instructions) (Told sessions sessions_new Same) → Ends (MayRefuse id_of sessions draws sessions_new) (Names id_of) gives (asks h.known h.instructions) (args_for (selected h.known h.instructions)) rest b w v asked_old asked_new greeted → IsGreeting id_of sessions sessions_new draws gives a b w v asked_old asked_new rest greeted
+module _ {P : Type 0} (id_of : List ℕ → Option (List ℕ)) (gives : Request → Welcome P → Type 0) (before after : DoorView) (a b w m v : Option (List ℕ)) (asked_mid : Option (List Request)) (unread rest : List ℕ) (empty : unread ≡ []) (same : asked_mid ≡ before.asked) where
+  made : (result : Result Request Stop) (greeted : Greeted P) (h : HasAsked id_of before.sessions a b w m unread rest result) → UnlessWanted (asks h.known h.instructions) (Told before.sessions after.sessions Same) → Ends (MayRefuse id_of before after) (Names id_of before after) gives (asks h.known h.instructions) (args_for (selected h.known h.instructions)) rest b w v before.asked after.asked greeted → IsGreeting id_of gives before after a b w v rest greeted
   made result greeted h unasked ends = record {
     bytes = h.bytes;
     instructions = h.instructions;
@@ -119,39 +120,38 @@ module _ {P : Type 0} (id_of : List ℕ → Option (List ℕ)) (sessions session
     ends = ends;
   }
 
-  pub greeted_ok : (request : Request) (greeted : Greeted P) → HasAsked id_of sessions a b w m unread rest (Ok request) → IsServed (MayRefuse id_of sessions draws sessions_new) (Names id_of) gives request m v asked_mid asked_new greeted → IsGreeting id_of sessions sessions_new draws gives a b w v asked_old asked_new rest greeted
+  pub greeted_ok : (request : Request) (greeted : Greeted P) → HasAsked id_of before.sessions a b w m unread rest (Ok request) → IsServed (MayRefuse id_of before after) (Names id_of before after) gives request m v asked_mid after.asked greeted → IsGreeting id_of gives before after a b w v rest greeted
   greeted_ok request greeted h s = made (Ok request) greeted h (wants_so _ request _ h.answers)
-      (ends_served _ _ _ _ _ rest b w m v asked_old asked_new request greeted h.answers h.wrote
-      (subst (λ (x : Option (List Request)). IsServed (MayRefuse id_of sessions draws sessions_new) (Names id_of) gives request m v x asked_new greeted) same s))
+      (ends_served _ _ _ _ _ rest b w m v before.asked after.asked request greeted h.answers h.wrote
+      (subst (λ (x : Option (List Request)). IsServed (MayRefuse id_of before after) (Names id_of before after) gives request m v x after.asked greeted) same s))
 
-  pub greeted_refused : (status : ℕ) (s : Stop) (greeted : Greeted P) → Told sessions sessions_new Same → asked_new ≡ asked_mid → HasAsked id_of sessions a b w m unread rest (Err s) → s ≡ stop.Refused status → IsToldError status m v greeted → IsGreeting id_of sessions sessions_new draws gives a b w v asked_old asked_new rest greeted
+  pub greeted_refused : (status : ℕ) (s : Stop) (greeted : Greeted P) → Told before.sessions after.sessions Same → after.asked ≡ asked_mid → HasAsked id_of before.sessions a b w m unread rest (Err s) → s ≡ stop.Refused status → IsToldError status m v greeted → IsGreeting id_of gives before after a b w v rest greeted
   greeted_refused status s greeted still kept h0 is t =
-      let h = subst (λ (x : Stop). HasAsked id_of sessions a b w m unread rest (Err x)) is h0 in
+      let h = subst (λ (x : Stop). HasAsked id_of before.sessions a b w m unread rest (Err x)) is h0 in
       made (Err (stop.Refused status)) greeted h (whatever (asks h.known h.instructions) _ still)
-      (ends_refused _ _ _ _ _ rest b w m v asked_old asked_new status greeted h.answers h.wrote (kept ∙ same) t)
+      (ends_refused _ _ _ _ _ rest b w m v before.asked after.asked status greeted h.answers h.wrote (kept ∙ same) t)
 
-  module _ (still : Told sessions sessions_new Same) (kept : asked_new ≡ asked_mid) (written : v ≡ m) (s : Stop) (h0 : HasAsked id_of sessions a b w m unread rest (Err s)) where
-    pub greeted_ended : s ≡ stop.Ended → IsGreeting {P = P} id_of sessions sessions_new draws gives a b w v asked_old asked_new rest greeted.Ended
+  module _ (still : Told before.sessions after.sessions Same) (kept : after.asked ≡ asked_mid) (written : v ≡ m) (s : Stop) (h0 : HasAsked id_of before.sessions a b w m unread rest (Err s)) where
+    pub greeted_ended : s ≡ stop.Ended → IsGreeting {P = P} id_of gives before after a b w v rest greeted.Ended
     greeted_ended is =
-        let h = subst (λ (x : Stop). HasAsked id_of sessions a b w m unread rest (Err x)) is h0 in
+        let h = subst (λ (x : Stop). HasAsked id_of before.sessions a b w m unread rest (Err x)) is h0 in
         made (Err stop.Ended) greeted.Ended h (whatever (asks h.known h.instructions) _ still) (h.answers.0, h.answers.1, h.answers.2, written ∙ h.wrote, kept ∙ same)
 
-    pub greeted_unread : s ≡ stop.ReadFault → IsGreeting {P = P} id_of sessions sessions_new draws gives a b w v asked_old asked_new rest greeted.ReadFault
+    pub greeted_unread : s ≡ stop.ReadFault → IsGreeting {P = P} id_of gives before after a b w v rest greeted.ReadFault
     greeted_unread is =
-        let h = subst (λ (x : Stop). HasAsked id_of sessions a b w m unread rest (Err x)) is h0 in
+        let h = subst (λ (x : Stop). HasAsked id_of before.sessions a b w m unread rest (Err x)) is h0 in
         made (Err stop.ReadFault) greeted.ReadFault h (whatever (asks h.known h.instructions) _ still) (h.answers, written ∙ h.wrote, kept ∙ same)
 
-    pub greeted_unwritten : s ≡ stop.WriteFault → IsGreeting {P = P} id_of sessions sessions_new draws gives a b w v asked_old asked_new rest greeted.WriteFault
+    pub greeted_unwritten : s ≡ stop.WriteFault → IsGreeting {P = P} id_of gives before after a b w v rest greeted.WriteFault
     greeted_unwritten is =
-        let h = subst (λ (x : Stop). HasAsked id_of sessions a b w m unread rest (Err x)) is h0 in
+        let h = subst (λ (x : Stop). HasAsked id_of before.sessions a b w m unread rest (Err x)) is h0 in
         made (Err stop.WriteFault) greeted.WriteFault h (whatever (asks h.known h.instructions) _ still) ([], NoReply h.answers refl, no_reply w m v _ written h.wrote, Unasked (kept ∙ same))
 
-    pub greeted_short : s ≡ stop.NoMemory → IsGreeting {P = P} id_of sessions sessions_new draws gives a b w v asked_old asked_new rest greeted.NoMemory
+    pub greeted_short : s ≡ stop.NoMemory → IsGreeting {P = P} id_of gives before after a b w v rest greeted.NoMemory
     greeted_short is =
-        let h = subst (λ (x : Stop). HasAsked id_of sessions a b w m unread rest (Err x)) is h0 in
+        let h = subst (λ (x : Stop). HasAsked id_of before.sessions a b w m unread rest (Err x)) is h0 in
         made (Err stop.NoMemory) greeted.NoMemory h (whatever (asks h.known h.instructions) _ still) ([], NoReply h.answers refl, no_reply w m v _ written h.wrote, Unasked (kept ∙ same))
 
 -- the rest under another name
-pub with_rest : {P : Type 0} (id_of : List ℕ → Option (List ℕ)) (sessions sessions_new : Option Sessions) (draws : Option (ℕ → List ℕ)) (gives : Request → Welcome P → Type 0) (a b w v : Option (List ℕ)) (p q : Option (List Request)) (rest now : List ℕ) (result : Greeted P)
-    → now ≡ rest → IsGreeting id_of sessions sessions_new draws gives a b w v p q rest result → IsGreeting id_of sessions sessions_new draws gives a b w v p q now result
-with_rest id_of sessions sessions_new draws gives a b w v p q rest now result same g = subst (λ (l : List ℕ). IsGreeting id_of sessions sessions_new draws gives a b w v p q l result) (sym same) g
+pub with_rest : {P : Type 0} (id_of : List ℕ → Option (List ℕ)) (gives : Request → Welcome P → Type 0) (before after : DoorView) (a b w v : Option (List ℕ)) (rest now : List ℕ) (result : Greeted P) → now ≡ rest → IsGreeting id_of gives before after a b w v rest result → IsGreeting id_of gives before after a b w v now result
+with_rest id_of gives before after a b w v rest now result same g = subst (λ (l : List ℕ). IsGreeting id_of gives before after a b w v l result) (sym same) g

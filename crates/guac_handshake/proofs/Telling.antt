@@ -18,10 +18,10 @@ use Rattle.guac_handshake.specs.declared.request.Selected.TheVariants.{Telnet, K
 use Rattle.guac_handshake.specs.declared.welcome.Welcome.{Welcome}
 use Rattle.guac_handshake.specs.Asks.{Wish, Refuses, asks, asks_behind, asks_first, asks_selected, before_connect, begin_wish, beginning, connect_wish, connects_as, is_connect, join_wish, joining, last_size, most_between, selected_by, selected}
 use Rattle.gate_outside.specs.Edge.{Rose}
-use Rattle.guac_handshake.specs.Views.{DoorView}
+use Rattle.guac_handshake.specs.Views.{DoorView, MayRefuse, Names}
 use Rattle.guac_handshake.specs.Causes.{HasCause, IfRefused}
-use Rattle.guac_handshake.specs.Doors.{AreTaken, HasConflict, HasRefused, IsBeginRefusal, IsJoinRefusal, MayRefuse, Names, RefusesAt, Sessions, at_name, refused_of}
-use Rattle.guac_handshake.specs.Greetings.{Broken, ByDoor, ByForm, Ends, Greets, IsGreeting, OutOfForm, RefusedEarly, RefusedFor}
+use Rattle.guac_handshake.specs.Doors.{AreTaken, HasConflict, HasRefused, IsBeginRefusal, IsJoinRefusal, RefusesAt, Sessions, at_name, refused_of}
+use Rattle.guac_handshake.specs.Greetings.{Broken, ByDoor, ByForm, Ends, IsGreeting, OutOfForm, RefusedEarly, RefusedFor}
 use Rattle.gate_model.specs.text.Statuses.{bad_request}
 use Rattle.guac_handshake.specs.Statuses.{status_of}
 use Rattle.guac_handshake.specs.Texts.{args_for}
@@ -135,41 +135,41 @@ has_refused id None role r na ns is = tt
 has_refused None (Some n) role r na ns e = absurd (na e)
 has_refused (Some id) (Some n) role r na ns is = let t = there_at (n id) role r na ns is in (id, t.0, role, t.1, t.2)
 
-module _ (id_of : List ℕ → Option (List ℕ)) (before after : Option Sessions) (draws : Option (ℕ → List ℕ)) where
-  conflict_of : (request : Request) (r : Refused) → r ≡ Conflict → MayRefuse id_of before draws after request r → HasConflict before × AreTaken before draws
-  conflict_of (Begin ask) r is may = may.1 is
+module _ (id_of : List ℕ → Option (List ℕ)) (before after : DoorView) where
+  conflict_of : (request : Request) (r : Refused) → r ≡ Conflict → MayRefuse id_of before after request r → HasConflict before.sessions × AreTaken before.sessions before.helper.draws
+  conflict_of (Begin ask) r is may = may.conflict is
   conflict_of (Join name role) r is may = absurd (subst IsJoinRefusal is may.0)
 
-  refused_as : (request : Request) (r : Refused) → (IsBeginRefusal r → ⊥) → (r ≡ Absent → ⊥) → (r ≡ NoMemory → ⊥) → MayRefuse id_of before draws after request r → HasRefused after r
-  refused_as (Begin ask) r nb na ns may = absurd (nb may.0)
-  refused_as (Join name role) r nb na ns may = has_refused (id_of name) after role r na ns may.2
+  refused_as : (request : Request) (r : Refused) → (IsBeginRefusal r → ⊥) → (r ≡ Absent → ⊥) → (r ≡ NoMemory → ⊥) → MayRefuse id_of before after request r → HasRefused after.sessions r
+  refused_as (Begin ask) r nb na ns may = absurd (nb may.kind)
+  refused_as (Join name role) r nb na ns may = has_refused (id_of name) after.sessions role r na ns may.2
 
-  closed_of : (request : Request) (r : Refused) → r ≡ Closed → MayRefuse id_of before draws after request r → HasRefused after Closed
-  closed_of request r is may = refused_as request Closed (λ x. x) (λ e. cc) (λ e. cc) (subst (MayRefuse id_of before draws after request) is may)
+  closed_of : (request : Request) (r : Refused) → r ≡ Closed → MayRefuse id_of before after request r → HasRefused after.sessions Closed
+  closed_of request r is may = refused_as request Closed (λ x. x) (λ e. cc) (λ e. cc) (subst (MayRefuse id_of before after request) is may)
 
-  worn_of : (request : Request) (r : Refused) → r ≡ Worn → MayRefuse id_of before draws after request r → HasRefused after Worn
-  worn_of request r is may = refused_as request Worn (λ x. x) (λ e. cc) (λ e. cc) (subst (MayRefuse id_of before draws after request) is may)
+  worn_of : (request : Request) (r : Refused) → r ≡ Worn → MayRefuse id_of before after request r → HasRefused after.sessions Worn
+  worn_of request r is may = refused_as request Worn (λ x. x) (λ e. cc) (λ e. cc) (subst (MayRefuse id_of before after request) is may)
 
-  forbidden_of : (request : Request) (r : Refused) → r ≡ Forbidden → MayRefuse id_of before draws after request r → HasRefused after Forbidden
-  forbidden_of request r is may = refused_as request Forbidden (λ x. x) (λ e. cc) (λ e. cc) (subst (MayRefuse id_of before draws after request) is may)
+  forbidden_of : (request : Request) (r : Refused) → r ≡ Forbidden → MayRefuse id_of before after request r → HasRefused after.sessions Forbidden
+  forbidden_of request r is may = refused_as request Forbidden (λ x. x) (λ e. cc) (λ e. cc) (subst (MayRefuse id_of before after request) is may)
 
-  many_of : (request : Request) (r : Refused) → r ≡ TooMany → MayRefuse id_of before draws after request r → HasRefused after TooMany
-  many_of request r is may = refused_as request TooMany (λ x. x) (λ e. cc) (λ e. cc) (subst (MayRefuse id_of before draws after request) is may)
+  many_of : (request : Request) (r : Refused) → r ≡ TooMany → MayRefuse id_of before after request r → HasRefused after.sessions TooMany
+  many_of request r is may = refused_as request TooMany (λ x. x) (λ e. cc) (λ e. cc) (subst (MayRefuse id_of before after request) is may)
 
-  module _ {P : Type 0} (gives : Request → Welcome P → Type 0) (a b w v : Option (List ℕ)) (p q : Option (List Request)) (rest : List ℕ) (result : Greeted P) (g : IsGreeting id_of before after draws gives a b w v p q rest result) where
-    door_told : (s : ℕ) → (IsFormStatus s → ⊥) → result ≡ greeted.Refused s → (request : Request) × (refusal : Refused) × MayRefuse id_of before draws after request refusal × (s ≡ status_of refusal)
+  module _ {P : Type 0} (gives : Request → Welcome P → Type 0) (a b w v : Option (List ℕ)) (rest : List ℕ) (result : Greeted P) (g : IsGreeting id_of gives before after a b w v rest result) where
+    door_told : (s : ℕ) → (IsFormStatus s → ⊥) → result ≡ greeted.Refused s → (request : Request) × (refusal : Refused) × MayRefuse id_of before after request refusal × (s ≡ status_of refusal)
     door_told s other is =
-        let ends = subst (λ (r : Greeted P). Ends (MayRefuse id_of before draws after) (Names id_of) gives (asks g.known g.instructions) (args_for (selected g.known g.instructions)) rest b w v p q r) is g.ends in
-        by_door (MayRefuse id_of before draws after) (asks g.known g.instructions) rest s p q other (refuses g.known g.instructions s) ends.1
+        let ends = subst (λ (r : Greeted P). Ends (MayRefuse id_of before after) (Names id_of before after) gives (asks g.known g.instructions) (args_for (selected g.known g.instructions)) rest b w v before.asked after.asked r) is g.ends in
+        by_door (MayRefuse id_of before after) (asks g.known g.instructions) rest s before.asked after.asked other (refuses g.known g.instructions s) ends.1
 
     not_form : (s : ℕ) → (s ≡ 516 → ⊥) → (s ≡ 768 → ⊥) → IsFormStatus s → ⊥
     not_form s n f (inl e) = n e
     not_form s n f (inr e) = f e
 
-    told_conflict : result ≡ greeted.Refused 517 → HasConflict before × AreTaken before draws
+    told_conflict : result ≡ greeted.Refused 517 → HasConflict before.sessions × AreTaken before.sessions before.helper.draws
     told_conflict is = let d = door_told 517 (not_form 517 (λ e. absurd (omega arith)) (λ e. absurd (omega arith))) is in conflict_of d.0 d.1 (conflict_status d.1 (sym d.3)) d.2
 
-    told_closed : result ≡ greeted.Refused 523 → HasRefused after Closed ⊎ HasRefused after Worn
+    told_closed : result ≡ greeted.Refused 523 → HasRefused after.sessions Closed ⊎ HasRefused after.sessions Worn
     told_closed is =
         let d = door_told 523 (not_form 523 (λ e. absurd (omega arith)) (λ e. absurd (omega arith))) is in
         elim (closed_status d.1 (sym d.3)) [
@@ -177,28 +177,24 @@ module _ (id_of : List ℕ → Option (List ℕ)) (before after : Option Session
           | inr e ↦ inr (worn_of d.0 d.1 e d.2)
         ]
 
-    told_forbidden : result ≡ greeted.Refused 771 → HasRefused after Forbidden
+    told_forbidden : result ≡ greeted.Refused 771 → HasRefused after.sessions Forbidden
     told_forbidden is = let d = door_told 771 (not_form 771 (λ e. absurd (omega arith)) (λ e. absurd (omega arith))) is in forbidden_of d.0 d.1 (forbidden_status d.1 (sym d.3)) d.2
 
-    told_many : result ≡ greeted.Refused 797 → HasRefused after TooMany
+    told_many : result ≡ greeted.Refused 797 → HasRefused after.sessions TooMany
     told_many is = let d = door_told 797 (not_form 797 (λ e. absurd (omega arith)) (λ e. absurd (omega arith))) is in many_of d.0 d.1 (many_status d.1 (sym d.3)) d.2
 
 -- what stands behind the code of a refusal, by the greeting and the counts
-pub caused : {P : Type 0} (id_of : List ℕ → Option (List ℕ)) (gives : Request → Welcome P → Type 0) (before after : DoorView) (a b w v : Option (List ℕ)) (rest : List ℕ) (result : Greeted P) → Greets id_of gives before after a b w v rest result
+pub caused : {P : Type 0} (id_of : List ℕ → Option (List ℕ)) (gives : Request → Welcome P → Type 0) (before after : DoorView) (a b w v : Option (List ℕ)) (rest : List ℕ) (result : Greeted P) → IsGreeting id_of gives before after a b w v rest result
     → (result ≡ greeted.Refused 519 → Rose before.helper.dial_faults after.helper.dial_faults) → (result ≡ greeted.Refused 513 → Rose before.helper.start_faults after.helper.start_faults) → IfRefused result (HasCause before after)
 caused id_of gives before after a b w v rest (greeted.Ready welcome) g d s = tt
-caused id_of gives before after a b w v rest (greeted.Refused code) g d s =
-    let o = before.sessions in
-    let p = after.sessions in
-    let draws = before.helper.draws in
-    record {
-      dial = λ e. d (ap (λ (n : ℕ). greeted.Refused n) e);
-      busy = λ e. s (ap (λ (n : ℕ). greeted.Refused n) e);
-      conflict = λ e. told_conflict id_of o p draws gives a b w v before.asked after.asked rest (greeted.Refused code) g (ap (λ (n : ℕ). greeted.Refused n) e);
-      closed = λ e. told_closed id_of o p draws gives a b w v before.asked after.asked rest (greeted.Refused code) g (ap (λ (n : ℕ). greeted.Refused n) e);
-      forbidden = λ e. told_forbidden id_of o p draws gives a b w v before.asked after.asked rest (greeted.Refused code) g (ap (λ (n : ℕ). greeted.Refused n) e);
-      too_many = λ e. told_many id_of o p draws gives a b w v before.asked after.asked rest (greeted.Refused code) g (ap (λ (n : ℕ). greeted.Refused n) e);
-    }
+caused id_of gives before after a b w v rest (greeted.Refused code) g d s = record {
+  dial = λ e. d (ap (λ (n : ℕ). greeted.Refused n) e);
+  busy = λ e. s (ap (λ (n : ℕ). greeted.Refused n) e);
+  conflict = λ e. told_conflict id_of before after gives a b w v rest (greeted.Refused code) g (ap (λ (n : ℕ). greeted.Refused n) e);
+  closed = λ e. told_closed id_of before after gives a b w v rest (greeted.Refused code) g (ap (λ (n : ℕ). greeted.Refused n) e);
+  forbidden = λ e. told_forbidden id_of before after gives a b w v rest (greeted.Refused code) g (ap (λ (n : ℕ). greeted.Refused n) e);
+  too_many = λ e. told_many id_of before after gives a b w v rest (greeted.Refused code) g (ap (λ (n : ℕ). greeted.Refused n) e);
+}
 caused id_of gives before after a b w v rest greeted.Ended g d s = tt
 caused id_of gives before after a b w v rest greeted.ReadFault g d s = tt
 caused id_of gives before after a b w v rest greeted.WriteFault g d s = tt

@@ -3,6 +3,7 @@ use Rattle.std.proofs.Common.{◌≡◌, ◌≢◌, ℕ, List, Option, Some, Non
 use Rattle.std.specs.Prelude.{Result, IfErr, IfOk, IfSome, IsSome, is_some}
 use Rattle.gate_model.specs.session.History.{History}
 use Rattle.gate_model.specs.declared.sharing.Asked.{Asked}
+use Rattle.gate_outside.specs.Helpers.{CountsFaults}
 use Rattle.id_table.specs.Maps.{Same, Told}
 use Rattle.guac_handshake.specs.declared.greeted.Greeted.{Greeted}
 use Rattle.guac_handshake.specs.declared.greeted.Greeted.TheVariants as greeted
@@ -11,8 +12,8 @@ use Rattle.guac_handshake.specs.declared.refused.Refused.TheVariants.{Absent, Co
 use Rattle.guac_handshake.specs.declared.request.Request.{Request}
 use Rattle.guac_handshake.specs.declared.request.Request.TheVariants.{Begin, Join}
 use Rattle.guac_handshake.specs.declared.welcome.Welcome.{Welcome}
-use Rattle.guac_handshake.specs.Doors.{AddedBy, AddedOne, AreTaken, Grants, IsAbsent, IsBeginRefusal, IsJoinRefusal, JoinRefuses, KeepsIds, MayRefuse, MeetsConflict, MeetsHistory, MeetsTold, Names, RefusesAt, SameId, Sessions, TellsConflict, TouchesOne, at_name}
-use Rattle.guac_handshake.specs.Views.{IsLetIn}
+use Rattle.guac_handshake.specs.Doors.{AddedBy, AddedOne, AreTaken, Grants, IsAbsent, IsBeginRefusal, IsBusy, IsDial, IsJoinRefusal, JoinRefuses, KeepsIds, MeetsConflict, MeetsHistory, MeetsTold, PlacesIn, RefusesAt, SameId, Sessions, TellsConflict, TouchesOne, at_name}
+use Rattle.guac_handshake.specs.Views.{DoorView, IsLetIn, MayRefuse, Names}
 use Rattle.guac_handshake.specs.Greetings.{HasAnswered, HasTouched, IsToldError, IsToldReady}
 use Rattle.guac_handshake.specs.Opening.{HasMoved}
 use Rattle.gate_model.specs.text.Statuses.{bad_request}
@@ -76,13 +77,21 @@ some_other : (name : Option (List ℕ)) (id k : List ℕ) → name ≡ Some id �
 some_other name id k is ne = λ e. ne (let same : Some k ≡ Some id = sym e ∙ is in cc)
 
 -- a session that was added, or whose history alone may be another, is touched once more
+added_on : (name : Option (List ℕ)) (m n l : Sessions) → AddedOne name m n → KeepsIds name n l → AddedOne name m l
+added_on name m n l a k = (a.0, a.1, a.2, some_on (n a.0) (l a.0) (k a.0).0 a.3, λ id ne. (k id).1 (some_other name a.0 id a.1 ne) ∙ a.4 id ne)
+
 touched_on : (name : Option (List ℕ)) (m n l : Sessions) → TouchesOne name m n → KeepsIds name n l → TouchesOne name m l
-touched_on name m n l (inl a) k = inl (a.0, a.1, a.2, some_on (n a.0) (l a.0) (k a.0).0 a.3, λ id ne. (k id).1 (some_other name a.0 id a.1 ne) ∙ a.4 id ne)
+touched_on name m n l (inl a) k = inl (added_on name m n l a k)
 touched_on name m n l (inr h) k = inr (kept_on name m n l h k)
 
 touched_after : (name : Option (List ℕ)) (m n l : Sessions) → Same m n → TouchesOne name n l → TouchesOne name m l
 touched_after name m n l same (inl a) = inl (a.0, a.1, sym (same a.0) ∙ a.2, a.3, λ id ne. a.4 id ne ∙ same id)
 touched_after name m n l same (inr k) = inr (kept_after name m n l same k)
+
+-- where a place was given in it, it is touched
+places_so : (request : Request) (name : Option (List ℕ)) (m n : Sessions) → PlacesIn request name m n → TouchesOne name m n
+places_so (Begin ask) name m n h = inl h
+places_so (Join asked role) name m n h = inr h
 
 -- no refusal of a door is told as a bad form
 not_bad : (r : Refused) → status_of r ≡ bad_request → ⊥
@@ -107,13 +116,18 @@ touched_none o p same = told_as o p Same (λ m n. (name : Option (List ℕ)) × 
 
 module _ {P : Type 0} (id_of : List ℕ → Option (List ℕ)) (o p : Option Sessions) where
   -- an answer to one that asks for a session that is to begin, and to a joiner
-  pub begin_answered : (result : Result (Welcome P) Refused) → Told o p (AddedBy (λ (welcome : Welcome P). id_of welcome.id) result) → Told o p (HasAnswered id_of result)
-  begin_answered (Ok welcome) added = told_as o p (AddedOne (id_of welcome.id)) (HasAnswered id_of (Ok welcome)) (λ m n h. inl h) added
-  begin_answered (Err refusal) same = told_as o p Same (HasAnswered {P = P} id_of (Err refusal)) (λ m n h. (None, kept_same None m n h)) same
+  pub begin_answered : (request : Request) (ask : Ask) (result : Result (Welcome P) Refused) → request ≡ Begin ask → Told o p (AddedBy (λ (welcome : Welcome P). id_of welcome.id) result) → Told o p (HasAnswered id_of request result)
+  begin_answered request ask (Ok welcome) is added = subst (λ (q : Request). Told o p (HasAnswered id_of q (Ok welcome))) (sym is) added
+  begin_answered request ask (Err refusal) is same = told_as o p Same (HasAnswered {P = P} id_of request (Err refusal)) (λ m n h. (None, kept_same None m n h)) same
 
-  pub join_answered : (name : Option (List ℕ)) (result : Result (Welcome P) Refused) → IfOk result (λ welcome. id_of welcome.id ≡ name) → Told o p (KeepsIds name) → Told o p (HasAnswered id_of result)
-  join_answered name (Ok welcome) is kept = told_as o p (KeepsIds name) (HasAnswered id_of (Ok welcome)) (λ m n h. inr (subst (λ (x : Option (List ℕ)). KeepsIds x m n) (sym is) h)) kept
-  join_answered name (Err refusal) is kept = told_as o p (KeepsIds name) (HasAnswered {P = P} id_of (Err refusal)) (λ m n h. (name, h)) kept
+  pub join_answered : (request : Request) (asked : List ℕ) (role : Asked) (name : Option (List ℕ)) (result : Result (Welcome P) Refused) → request ≡ Join asked role → IfOk result (λ welcome. id_of welcome.id ≡ name) → Told o p (KeepsIds name) → Told o p (HasAnswered id_of request result)
+  join_answered request asked role name (Ok welcome) is same kept =
+      subst (λ (q : Request). Told o p (HasAnswered id_of q (Ok welcome))) (sym is) (subst (λ (x : Option (List ℕ)). Told o p (KeepsIds x)) (sym same) kept)
+  join_answered request asked role name (Err refusal) is same kept = told_as o p (KeepsIds name) (HasAnswered {P = P} id_of request (Err refusal)) (λ m n h. (name, h)) kept
+
+  -- a place of a form
+  pub moved_ok : (request : Request) (welcome : Welcome P) → Told o p (HasAnswered id_of request (Ok welcome)) → Told o p (HasMoved id_of (Ok welcome))
+  moved_ok request welcome = told_as o p (HasAnswered id_of request (Ok welcome)) (HasMoved id_of (Ok welcome)) (λ m n h. places_so request (id_of welcome.id) m n h)
 
   module _ (w v : Option (List ℕ)) where
     -- the client was told of a refusal, before the door was asked and after
@@ -125,25 +139,25 @@ module _ {P : Type 0} (id_of : List ℕ → Option (List ℕ)) (o p : Option Ses
     touched_early status greeted.WriteFault same t = touched_none o p same
     touched_early status greeted.NoMemory same t = touched_none o p same
 
-    pub touched_refused : (status : ℕ) (refusal : Refused) (result : Greeted P) → status ≡ status_of refusal → Told o p (HasAnswered {P = P} id_of (Err refusal)) → IsToldError status w v result → Told o p (HasTouched id_of result)
-    touched_refused status refusal (greeted.Ready welcome) is a t = absurd t
-    touched_refused status refusal (greeted.Refused told) is a t = told_as o p (HasAnswered {P = P} id_of (Err refusal)) (HasTouched {P = P} id_of (greeted.Refused told)) (λ m n h. (h, λ e. absurd (not_bad refusal (sym is ∙ (sym t.0 ∙ e))))) a
-    touched_refused status refusal greeted.Ended is a t = absurd t
-    touched_refused status refusal greeted.ReadFault is a t = absurd t
-    touched_refused status refusal greeted.WriteFault is a t = told_as o p (HasAnswered {P = P} id_of (Err refusal)) (HasTouched {P = P} id_of greeted.WriteFault) (λ m n h. (h.0, inr h.1)) a
-    touched_refused status refusal greeted.NoMemory is a t = told_as o p (HasAnswered {P = P} id_of (Err refusal)) (HasTouched {P = P} id_of greeted.NoMemory) (λ m n h. (h.0, inr h.1)) a
+    pub touched_refused : (request : Request) (status : ℕ) (refusal : Refused) (result : Greeted P) → status ≡ status_of refusal → Told o p (HasAnswered {P = P} id_of request (Err refusal)) → IsToldError status w v result → Told o p (HasTouched id_of result)
+    touched_refused request status refusal (greeted.Ready welcome) is a t = absurd t
+    touched_refused request status refusal (greeted.Refused told) is a t = told_as o p (HasAnswered {P = P} id_of request (Err refusal)) (HasTouched {P = P} id_of (greeted.Refused told)) (λ m n h. (h, λ e. absurd (not_bad refusal (sym is ∙ (sym t.0 ∙ e))))) a
+    touched_refused request status refusal greeted.Ended is a t = absurd t
+    touched_refused request status refusal greeted.ReadFault is a t = absurd t
+    touched_refused request status refusal greeted.WriteFault is a t = told_as o p (HasAnswered {P = P} id_of request (Err refusal)) (HasTouched {P = P} id_of greeted.WriteFault) (λ m n h. (h.0, inr h.1)) a
+    touched_refused request status refusal greeted.NoMemory is a t = told_as o p (HasAnswered {P = P} id_of request (Err refusal)) (HasTouched {P = P} id_of greeted.NoMemory) (λ m n h. (h.0, inr h.1)) a
 
   module _ (q : Option Sessions) where
     -- the client was told of its session, or the place went back there
-    pub touched_ready : (w v : Option (List ℕ)) (told : Welcome P) (result : Greeted P) → Told o p (HasAnswered id_of (Ok told)) → Told p q (KeepsIds (id_of told.id)) → IsToldReady told w v result → Told o q (HasTouched id_of result)
-    touched_ready w v told (greeted.Ready welcome) a k t =
-        told_on o p q (HasAnswered id_of (Ok told)) (KeepsIds (id_of told.id)) (HasTouched id_of (greeted.Ready welcome))
-        (λ m n l h g. subst (λ (x : Welcome P). TouchesOne (id_of x.id) m l) (sym t.0) (touched_on (id_of told.id) m n l h g)) a k
-    touched_ready w v told (greeted.Refused status) a k t = absurd t
-    touched_ready w v told greeted.Ended a k t = absurd t
-    touched_ready w v told greeted.ReadFault a k t = absurd t
-    touched_ready w v told greeted.WriteFault a k t = told_on o p q (HasAnswered id_of (Ok told)) (KeepsIds (id_of told.id)) (HasTouched {P = P} id_of greeted.WriteFault) (λ m n l h g. (id_of told.id, touched_on (id_of told.id) m n l h g)) a k
-    touched_ready w v told greeted.NoMemory a k t = told_on o p q (HasAnswered id_of (Ok told)) (KeepsIds (id_of told.id)) (HasTouched {P = P} id_of greeted.NoMemory) (λ m n l h g. (id_of told.id, touched_on (id_of told.id) m n l h g)) a k
+    pub touched_ready : (request : Request) (w v : Option (List ℕ)) (told : Welcome P) (result : Greeted P) → Told o p (HasAnswered id_of request (Ok told)) → Told p q (KeepsIds (id_of told.id)) → IsToldReady told w v result → Told o q (HasTouched id_of result)
+    touched_ready request w v told (greeted.Ready welcome) a k t =
+        told_on o p q (PlacesIn request (id_of told.id)) (KeepsIds (id_of told.id)) (HasTouched id_of (greeted.Ready welcome))
+        (λ m n l h g. subst (λ (x : Welcome P). TouchesOne (id_of x.id) m l) (sym t.0) (touched_on (id_of told.id) m n l (places_so request (id_of told.id) m n h) g)) a k
+    touched_ready request w v told (greeted.Refused status) a k t = absurd t
+    touched_ready request w v told greeted.Ended a k t = absurd t
+    touched_ready request w v told greeted.ReadFault a k t = absurd t
+    touched_ready request w v told greeted.WriteFault a k t = told_on o p q (PlacesIn request (id_of told.id)) (KeepsIds (id_of told.id)) (HasTouched {P = P} id_of greeted.WriteFault) (λ m n l h g. (id_of told.id, touched_on (id_of told.id) m n l (places_so request (id_of told.id) m n h) g)) a k
+    touched_ready request w v told greeted.NoMemory a k t = told_on o p q (PlacesIn request (id_of told.id)) (KeepsIds (id_of told.id)) (HasTouched {P = P} id_of greeted.NoMemory) (λ m n l h g. (id_of told.id, touched_on (id_of told.id) m n l (places_so request (id_of told.id) m n h) g)) a k
 
     -- the door was only looked at before
     pub touched_behind : (result : Greeted P) → Told o p Same → Told p q (HasTouched id_of result) → Told o q (HasTouched id_of result)
@@ -207,9 +221,9 @@ join_refuses {A = A} name (Some m) (Some n) role (Err r) is absent kept meets =
     (is, absent_as A r (is_some (at_name name m)) absent, refuses_at A (at_name name n) role r is (subst (λ (b : Bool). IsAbsent {A = A} (Err r) b) (sym (there_on name m n kept)) absent) meets)
 
 -- the same of what the door was asked
-pub join_may : {A : Type 0} (id_of : List ℕ → Option (List ℕ)) (o p : Option Sessions) (draws : Option (ℕ → List ℕ)) (request : Request) (id name : List ℕ) (role : Asked) (result : Result A Refused) → request ≡ Join id role → name ≡ id → IfErr result (JoinRefuses (id_of name) o p role) → IfErr result (MayRefuse id_of o draws p request)
-join_may id_of o p draws request id name role result is same h =
-    subst (λ (q : Request). IfErr result (MayRefuse id_of o draws p q)) (sym is) (subst (λ (n : List ℕ). IfErr result (JoinRefuses (id_of n) o p role)) same h)
+pub join_may : {A : Type 0} (id_of : List ℕ → Option (List ℕ)) (before after : DoorView) (request : Request) (id name : List ℕ) (role : Asked) (result : Result A Refused) → request ≡ Join id role → name ≡ id → IfErr result (JoinRefuses (id_of name) before.sessions after.sessions role) → IfErr result (MayRefuse id_of before after request)
+join_may id_of before after request id name role result is same h =
+    subst (λ (q : Request). IfErr result (MayRefuse id_of before after q)) (sym is) (subst (λ (n : List ℕ). IfErr result (JoinRefuses (id_of n) before.sessions after.sessions role)) same h)
 
 -- the same of a session that is to begin
 taken_of : (A : Type 0) (o : Option Sessions) (draws : Option (ℕ → List ℕ)) → TellsConflict {A = A} o draws (Err Conflict) → AreTaken o draws
@@ -217,32 +231,47 @@ taken_of A None draws h = tt
 taken_of A (Some m) None h = tt
 taken_of A (Some m) (Some d) h = h
 
-pub begin_may : {A : Type 0} (id_of : List ℕ → Option (List ℕ)) (o p : Option Sessions) (draws : Option (ℕ → List ℕ)) (request : Request) (ask : Ask) (result : Result A Refused) → request ≡ Begin ask → IfErr result IsBeginRefusal → MeetsConflict o draws result → IfErr result (MayRefuse id_of o draws p request)
-begin_may id_of o p draws request ask (Ok a) is kind meets = tt
-begin_may {A = A} id_of o p draws request ask (Err r) is kind meets =
-    subst (λ (q : Request). MayRefuse id_of o draws p q r) (sym is)
-    (kind, λ e. let h = subst (λ (x : Refused). MeetsConflict {A = A} o draws (Err x)) e meets in (h.0 refl, taken_of A o draws h.1))
+pub begin_may : {A : Type 0} (id_of : List ℕ → Option (List ℕ)) (before after : DoorView) (request : Request) (ask : Ask) (result : Result A Refused) → request ≡ Begin ask → IfErr result IsBeginRefusal → MeetsConflict before.sessions before.helper.draws result
+    → CountsFaults (IsDial result) (IsBusy result) before.helper after.helper → IfErr result (MayRefuse id_of before after request)
+begin_may id_of before after request ask (Ok a) is kind meets faults = tt
+begin_may {A = A} id_of before after request ask (Err r) is kind meets faults =
+    subst (λ (q : Request). MayRefuse id_of before after q r) (sym is) record {
+      kind = kind;
+      dial = λ e. faults.dials.0 (ap (λ (x : Refused). Err x) e);
+      busy = λ e. faults.starts.0 (ap (λ (x : Refused). Err x) e);
+      conflict = λ e. let h = subst (λ (x : Refused). MeetsConflict {A = A} before.sessions before.helper.draws (Err x)) e meets in (h.0 refl, taken_of A before.sessions before.helper.draws h.1);
+    }
 
 -- ---- what a door says of itself once it gave a welcome
 
-pub begin_granted : {P : Type 0} (id_of : List ℕ → Option (List ℕ)) (begun : Ask → Welcome P → Type 0) (joined : Asked → Welcome P → Type 0) (request : Request) (ask : Ask) (result : Result (Welcome P) Refused) → request ≡ Begin ask → IfOk result (λ welcome. begun ask welcome)
-    → IfOk result (λ welcome. Grants id_of begun joined request welcome)
-begin_granted id_of begun joined request ask (Ok welcome) is h = subst (λ (q : Request). Grants id_of begun joined q welcome) (sym is) h
-begin_granted id_of begun joined request ask (Err refused) is h = tt
+pub begin_granted : {P : Type 0} (begun : Ask → Welcome P → Type 0) (joined : Asked → Welcome P → Type 0) (request : Request) (ask : Ask) (result : Result (Welcome P) Refused) → request ≡ Begin ask → IfOk result (λ welcome. begun ask welcome) → IfOk result (λ welcome. Grants begun joined request welcome)
+begin_granted begun joined request ask (Ok welcome) is h = subst (λ (q : Request). Grants begun joined q welcome) (sym is) h
+begin_granted begun joined request ask (Err refused) is h = tt
 
-pub join_granted : {P : Type 0} (id_of : List ℕ → Option (List ℕ)) (begun : Ask → Welcome P → Type 0) (joined : Asked → Welcome P → Type 0) (request : Request) (id name : List ℕ) (role : Asked) (is_fresh : P → List ℕ → Type 0) (result : Result (Welcome P) Refused) → request ≡ Join id role → name ≡ id
-    → IfOk result (IsLetIn is_fresh id_of name (joined role)) → IfOk result (λ welcome. Grants id_of begun joined request welcome)
-join_granted id_of begun joined request id name role is_fresh (Ok welcome) is same h = subst (λ (q : Request). Grants id_of begun joined q welcome) (sym is) (h.same_id ∙ ap id_of same, h.joined)
-join_granted id_of begun joined request id name role is_fresh (Err refused) is same h = tt
+pub join_granted : {P : Type 0} (id_of : List ℕ → Option (List ℕ)) (begun : Ask → Welcome P → Type 0) (joined : Asked → Welcome P → Type 0) (request : Request) (id name : List ℕ) (role : Asked) (is_fresh : P → List ℕ → Type 0) (result : Result (Welcome P) Refused) → request ≡ Join id role
+    → IfOk result (IsLetIn is_fresh id_of name (joined role)) → IfOk result (λ welcome. Grants begun joined request welcome)
+join_granted id_of begun joined request id name role is_fresh (Ok welcome) is h = subst (λ (q : Request). Grants begun joined q welcome) (sym is) h.joined
+join_granted id_of begun joined request id name role is_fresh (Err refused) is h = tt
 
 -- of what is said of a welcome, that its ID is that of the name
 pub named : {P : Type 0} (is_fresh : P → List ℕ → Type 0) (id_of : List ℕ → Option (List ℕ)) (name : List ℕ) (says : Welcome P → Type 0) (result : Result (Welcome P) Refused) → IfOk result (IsLetIn is_fresh id_of name says) → IfOk result (λ welcome. id_of welcome.id ≡ id_of name)
 named is_fresh id_of name says (Ok welcome) h = h.same_id
 named is_fresh id_of name says (Err refused) h = tt
 
-pub granted_named : {P : Type 0} (id_of : List ℕ → Option (List ℕ)) (begun : Ask → Welcome P → Type 0) (joined : Asked → Welcome P → Type 0) (request : Request) (welcome : Welcome P) → Grants id_of begun joined request welcome → Names id_of request welcome.id
-granted_named id_of begun joined (Begin ask) welcome h = tt
-granted_named id_of begun joined (Join name role) welcome h = h.0
+-- the ID of a welcome names what was asked
+pub begin_named : {P : Type 0} (id_of : List ℕ → Option (List ℕ)) (before after : DoorView) (request : Request) (ask : Ask) (result : Result (Welcome P) Refused) → request ≡ Begin ask → Told before.sessions after.sessions (AddedBy (λ (welcome : Welcome P). id_of welcome.id) result) → IfOk result (λ welcome. Names id_of before after request welcome.id)
+begin_named id_of before after request ask (Ok welcome) is added = subst (λ (q : Request). Names id_of before after q welcome.id) (sym is) added
+begin_named id_of before after request ask (Err refused) is added = tt
+
+pub join_named : {P : Type 0} (id_of : List ℕ → Option (List ℕ)) (before after : DoorView) (request : Request) (id name : List ℕ) (role : Asked) (is_fresh : P → List ℕ → Type 0) (says : Welcome P → Type 0) (result : Result (Welcome P) Refused) → request ≡ Join id role → name ≡ id
+    → IfOk result (IsLetIn is_fresh id_of name says) → IfOk result (λ welcome. Names id_of before after request welcome.id)
+join_named id_of before after request id name role is_fresh says (Ok welcome) is same h = subst (λ (q : Request). Names id_of before after q welcome.id) (sym is) (h.same_id ∙ ap id_of same)
+join_named id_of before after request id name role is_fresh says (Err refused) is same h = tt
+
+-- it does so once the place went back, too
+pub named_on : (id_of : List ℕ → Option (List ℕ)) (before mid after : DoorView) (request : Request) (id : List ℕ) → Told mid.sessions after.sessions (KeepsIds (id_of id)) → Names id_of before mid request id → Names id_of before after request id
+named_on id_of before mid after (Begin ask) id kept h = told_on before.sessions mid.sessions after.sessions (AddedOne (id_of id)) (KeepsIds (id_of id)) (AddedOne (id_of id)) (λ m n l a k. added_on (id_of id) m n l a k) h kept
+named_on id_of before mid after (Join name role) id kept h = h
 
 -- ---- a form
 

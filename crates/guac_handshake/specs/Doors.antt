@@ -97,6 +97,11 @@ SameId (Some v) (Some w) = Unit {0}
 abbrev pub KeepsIds : Option (List ℕ) → Sessions → Sessions → Type 0
 KeepsIds name m n = (k : List ℕ) → SameId (m k) (n k) × (name ≢ Some k → n k ≡ m k)
 
+-- the sessions once a place was given in the one of this name: it was added for who asked for one that is to begin
+abbrev pub PlacesIn : Request → Option (List ℕ) → Sessions → Sessions → Type 0
+PlacesIn (Begin ask) name m n = AddedOne name m n
+PlacesIn (Join asked role) name m n = KeepsIds name m n
+
 -- one session at most is touched: it was added under this name, or its history alone may be another
 abbrev pub TouchesOne : Option (List ℕ) → Sessions → Sessions → Type 0
 TouchesOne name m n = AddedOne name m n ⊎ KeepsIds name m n
@@ -208,11 +213,6 @@ abbrev pub logged : {A : Type 0} → Option (List Request) → Request → Resul
 logged log request (Ok a) = asked_more log request
 logged log request (Err refused) = logged_for log request refused
 
--- a door that tells its sessions before and after refused a session that is to begin: for Conflict an ID was there, and
--- the IDs of the next four draws were
-abbrev pub BeginRefuses : Option Sessions → Option (ℕ → List ℕ) → Refused → Type 0
-BeginRefuses before draws refusal = IsBeginRefusal refusal × (refusal ≡ Conflict → HasConflict before × AreTaken before draws)
-
 -- what the rules refuse to a joiner after the history of a session that is there, or, where they refuse nothing, want of
 -- memory; where none is there, it is Absent
 abbrev pub RefusesAt : Option (Option History) → Asked → Refused → Type 0
@@ -230,18 +230,8 @@ abbrev pub HasRefused : Option Sessions → Refused → Type 0
 HasRefused after refusal =
     IfSome after (λ n. (id : List ℕ) × (told : Option History) × (role : Asked) × (n id ≡ Some told) × IfSome told (λ h. option_map refused_of (join_refusal h role) ≡ Some refusal))
 
--- it refused what it was asked
-abbrev pub MayRefuse : (List ℕ → Option (List ℕ)) → Option Sessions → Option (ℕ → List ℕ) → Option Sessions → Request → Refused → Type 0
-MayRefuse id_of before draws after (Begin ask) refusal = BeginRefuses before draws refusal
-MayRefuse id_of before draws after (Join name role) refusal = JoinRefuses (id_of name) before after role refusal
-
--- the ID by which a client may be told of what it asked for: where it joins, that of the session that it named
-abbrev pub Names : (List ℕ → Option (List ℕ)) → Request → List ℕ → Type 0
-Names id_of (Begin ask) id = Unit {0}
-Names id_of (Join name role) id = id_of id ≡ id_of name
-
 -- what a door says of itself once it gave a welcome to who asked for this: of a session, that it began as it was asked; of
--- a place, that it is one in the session of the ID that was asked for, of a viewer that joined as it asked
-abbrev pub Grants : {P : Type 0} → (List ℕ → Option (List ℕ)) → (Ask → Welcome P → Type 0) → (Asked → Welcome P → Type 0) → Request → Welcome P → Type 0
-Grants id_of begun joined (Begin ask) welcome = begun ask welcome
-Grants id_of begun joined (Join name role) welcome = (id_of welcome.id ≡ id_of name) × joined role welcome
+-- a viewer, that it joined as it asked
+abbrev pub Grants : {P : Type 0} → (Ask → Welcome P → Type 0) → (Asked → Welcome P → Type 0) → Request → Welcome P → Type 0
+Grants begun joined (Begin ask) welcome = begun ask welcome
+Grants begun joined (Join name role) welcome = joined role welcome

@@ -1,5 +1,5 @@
 -- What a greeting read, asked and wrote, and why it ended (this project's own).
-use Rattle.std.specs.Prelude.{◌≡◌, ℕ, ◌+◌, List, [], ◌∷◌, ◌++◌, Option, Some, None, IfSome, IfErr, Result, Ok, Err, is_some, bytes_eq, codes, if◌then◌else◌, Bool}
+use Rattle.std.specs.Prelude.{◌≡◌, ℕ, ◌+◌, List, [], ◌∷◌, ◌++◌, Option, Some, None, IfSome, IfErr, IfOk, Result, Ok, Err, is_some, bytes_eq, codes, if◌then◌else◌, Bool}
 use Rattle.std.specs.Option.{option_map}
 use Rattle.gate_model.specs.text.HelloMeaning.{Greeting, Selects, HasSize, Connects, SaysOther, greeting_of}
 use Rattle.gate_outside.specs.Edge.{AtEnd, GainedFront, came, gained}
@@ -16,8 +16,8 @@ use Rattle.guac_handshake.specs.declared.welcome.Welcome.{Welcome}
 use Rattle.guac_handshake.specs.Asks.{ReadsNoFurther, Wish, Unfinished, Wants, Refuses, asks, asks_behind, selected, selected_by}
 use Rattle.gate_outside.specs.Helpers.{CountsFaults}
 use Rattle.id_table.specs.Maps.{Same, Told}
-use Rattle.guac_handshake.specs.Doors.{IsBusy, IsDial, KeepsIds, MayRefuse, Names, Sessions, TouchesOne, asked_more, at_name, logged, logged_for, one_more_out, option_less}
-use Rattle.guac_handshake.specs.Views.{DoorView}
+use Rattle.guac_handshake.specs.Doors.{IsBusy, IsDial, KeepsIds, PlacesIn, Sessions, TouchesOne, asked_more, at_name, logged, logged_for, one_more_out, option_less}
+use Rattle.guac_handshake.specs.Views.{DoorView, MayRefuse, Names}
 use Rattle.guac_handshake.specs.Splits.{Splits}
 use Rattle.gate_model.specs.text.Statuses.{bad_request, not_found}
 use Rattle.guac_handshake.specs.Statuses.{status_of}
@@ -127,7 +127,7 @@ pub data AskedAtMost (before now : Option (List Request)) (request : Request) : 
 
 -- a door's answer to a request, refused only as it may, was told to the client, or a write failed, or memory was wanting
 abbrev pub IsServed : {P : Type 0} → (Request → Refused → Type 0) → (Request → List ℕ → Type 0) → (Request → Welcome P → Type 0) → Request → Option (List ℕ) → Option (List ℕ) → Option (List Request) → Option (List Request) → Greeted P → Type 0
-IsServed May Named Gives request before now asked_before asked_now (greeted.Ready welcome) = (now ≡ gained before (ready_text welcome.id)) × (asked_now ≡ asked_more asked_before request) × Gives request welcome
+IsServed May Named Gives request before now asked_before asked_now (greeted.Ready welcome) = (now ≡ gained before (ready_text welcome.id)) × (asked_now ≡ asked_more asked_before request) × Named request welcome.id × Gives request welcome
 IsServed May Named Gives request before now asked_before asked_now (greeted.Refused status) = (refusal : Refused) × May request refusal × (status ≡ status_of refusal) × (now ≡ gained before (error_text status)) × (asked_now ≡ logged_for asked_before request refusal)
 IsServed May Named Gives request before now asked_before asked_now greeted.Ended = ⊥
 IsServed May Named Gives request before now asked_before asked_now greeted.ReadFault = ⊥
@@ -143,11 +143,11 @@ HasOut before now greeted.ReadFault = now ≡ before
 HasOut before now greeted.WriteFault = now ≡ before
 HasOut before now greeted.NoMemory = now ≡ before
 
--- the sessions that an answer of the door touched: one at most, that of the welcome where there is one; refused, none is
--- there that wasn't
-abbrev pub HasAnswered : {P : Type 0} → (List ℕ → Option (List ℕ)) → Result (Welcome P) Refused → Sessions → Sessions → Type 0
-HasAnswered id_of (Ok welcome) m n = TouchesOne (id_of welcome.id) m n
-HasAnswered id_of (Err refusal) m n = (name : Option (List ℕ)) × KeepsIds name m n
+-- the sessions that a door's answer to a request touched: that of the welcome where there is one; refused, none is there
+-- that wasn't
+abbrev pub HasAnswered : {P : Type 0} → (List ℕ → Option (List ℕ)) → Request → Result (Welcome P) Refused → Sessions → Sessions → Type 0
+HasAnswered id_of request (Ok welcome) m n = PlacesIn request (id_of welcome.id) m n
+HasAnswered id_of request (Err refusal) m n = (name : Option (List ℕ)) × KeepsIds name m n
 
 -- the sessions that a greeting touched: one at most, that of the welcome where the client was told of it; so a place of
 -- which it couldn't be told went back to the session that gave it. Where what it asks is out of form the door wasn't asked
@@ -166,8 +166,9 @@ pub record Touches {P : Type 0} (id_of : List ℕ → Option (List ℕ)) (result
 
 -- a door's answer to a request, and what it touched
 pub record IsAnswered {P : Type 0} (id_of : List ℕ → Option (List ℕ)) (request : Request) (result : Result (Welcome P) Refused) (before after : DoorView) : Type 0 where
-  pub kind : IfErr result (MayRefuse id_of before.sessions before.helper.draws after.sessions request)
-  pub sessions : Told before.sessions after.sessions (HasAnswered id_of result)
+  pub kind : IfErr result (MayRefuse id_of before after request)
+  pub named : IfOk result (λ welcome. Names id_of before after request welcome.id)
+  pub sessions : Told before.sessions after.sessions (HasAnswered id_of request result)
   pub out : after.out ≡ one_more_out result before.out
   pub asked : after.asked ≡ logged before.asked request result
   pub helper : CountsFaults (IsDial result) (IsBusy result) before.helper after.helper
@@ -242,10 +243,10 @@ pub data AskedAsWished (wish : Wish) (asked_before asked_now : Option (List Requ
   Unasked : asked_now ≡ asked_before → AskedAsWished wish asked_before asked_now
   Wished : (request : Request) → wish ≡ Wants request → asked_now ≡ asked_more asked_before request → AskedAsWished wish asked_before asked_now
 
--- how a greeting ended, by what a door may refuse and what it says where it gives, and what was wished, left unread,
+-- how a greeting ended, by what a door may refuse, which ID it may name and what it says where it gives, and what was wished, left unread,
 -- written and asked
 abbrev pub Ends : {P : Type 0} → (Request → Refused → Type 0) → (Request → List ℕ → Type 0) → (Request → Welcome P → Type 0) → Wish → List ℕ → List ℕ → Option (List ℕ) → Option (List ℕ) → Option (List ℕ) → Option (List Request) → Option (List Request) → Greeted P → Type 0
-Ends May Named Gives wish args rest left before now asked_before asked_now (greeted.Ready welcome) = (request : Request) × (wish ≡ Wants request) × (now ≡ gained before (args ++ ready_text welcome.id)) × (asked_now ≡ asked_more asked_before request) × Gives request welcome
+Ends May Named Gives wish args rest left before now asked_before asked_now (greeted.Ready welcome) = (request : Request) × (wish ≡ Wants request) × (now ≡ gained before (args ++ ready_text welcome.id)) × (asked_now ≡ asked_more asked_before request) × Named request welcome.id × Gives request welcome
 Ends May Named Gives wish args rest left before now asked_before asked_now (greeted.Refused status) = (now ≡ gained before (args ++ error_text status)) × RefusedFor May wish rest status asked_before asked_now
 Ends May Named Gives wish args rest left before now asked_before asked_now greeted.Ended = (wish ≡ Unfinished) × IsUnfinished rest × AtEnd left × (now ≡ gained before args) × (asked_now ≡ asked_before)
 Ends May Named Gives wish args rest left before now asked_before asked_now greeted.ReadFault = (wish ≡ Unfinished) × (now ≡ gained before args) × (asked_now ≡ asked_before)
@@ -260,18 +261,13 @@ UnlessWanted (Wants request) F = Unit {0}
 
 -- a greeting: the bytes that it read are these instructions, none behind those that settle what is asked, and then the
 -- rest; and it asked, wrote and ended by them
-pub record IsGreeting {P : Type 0} (id_of : List ℕ → Option (List ℕ)) (sessions sessions_new : Option Sessions) (draws : Option (ℕ → List ℕ)) (gives : Request → Welcome P → Type 0) (left_old left_new written_old written_new : Option (List ℕ)) (asked_old asked_new : Option (List Request)) (rest : List ℕ) (result : Greeted P) : Type 0 where
+pub record IsGreeting {P : Type 0} (id_of : List ℕ → Option (List ℕ)) (gives : Request → Welcome P → Type 0) (before after : DoorView) (left_old left_new written_old written_new : Option (List ℕ)) (rest : List ℕ) (result : Greeted P) : Type 0 where
   pub bytes : List ℕ
   pub instructions : List (List (List ℕ))
   pub known : Bool
   pub came_is : left_old ≡ came bytes left_new
   pub split : Splits bytes instructions rest
   pub no_further : ReadsNoFurther (asks known) instructions
-  pub looked : IsLook id_of sessions known instructions
-  pub unasked : UnlessWanted (asks known instructions) (Told sessions sessions_new Same)
-  pub ends : Ends (MayRefuse id_of sessions draws sessions_new) (Names id_of) gives (asks known instructions) (args_for (selected known instructions)) rest left_new written_old written_new asked_old asked_new result
-
--- the same of a door by what it tells before and after
-abbrev pub Greets : {P : Type 0} → (List ℕ → Option (List ℕ)) → (Request → Welcome P → Type 0) → DoorView → DoorView → Option (List ℕ) → Option (List ℕ) → Option (List ℕ) → Option (List ℕ) → List ℕ → Greeted P → Type 0
-Greets id_of gives before after left_old left_new written_old written_new rest result =
-    IsGreeting id_of before.sessions after.sessions before.helper.draws gives left_old left_new written_old written_new before.asked after.asked rest result
+  pub looked : IsLook id_of before.sessions known instructions
+  pub unasked : UnlessWanted (asks known instructions) (Told before.sessions after.sessions Same)
+  pub ends : Ends (MayRefuse id_of before after) (Names id_of before after) gives (asks known instructions) (args_for (selected known instructions)) rest left_new written_old written_new before.asked after.asked result

@@ -3,8 +3,8 @@ use Rattle.std.specs.Prelude.{◌≡◌, ◌⊎◌, ◌+◌, ℕ, List, Bool, tr
 use Rattle.std.specs.Option.{option_map}
 use Rattle.gate_outside.specs.Helpers.{CountsFaults}
 use Rattle.id_table.specs.Maps.{Same, Told}
-use Rattle.guac_handshake.specs.Doors.{KeepsIds, MayRefuse, Sessions, TouchesOne, asked_more, at_name, logged_for}
-use Rattle.guac_handshake.specs.Views.{DoorView}
+use Rattle.guac_handshake.specs.Doors.{KeepsIds, Sessions, TouchesOne, asked_more, at_name, logged_for}
+use Rattle.guac_handshake.specs.Views.{DoorView, MayRefuse, Names}
 use Rattle.guac_handshake.specs.Forms.{IsForm, IsNoForm}
 use Rattle.guac_handshake.specs.declared.form_refusal.FormRefusal.{FormRefusal}
 use Rattle.guac_handshake.specs.declared.form_refusal.FormRefusal.TheVariants as refusal
@@ -20,17 +20,17 @@ IsThere id_of sessions (Begin ask) there = there ≡ true
 IsThere id_of sessions (Join name role) there = IfSome sessions (λ m. there ≡ is_some (at_name (id_of name) m))
 
 -- why the door gave no place: it doesn't have the session of that ID, and wasn't asked; or it was asked and refused
-abbrev pub IsRefusedBy : (List ℕ → Option (List ℕ)) → Option Sessions → Option Sessions → (Request → Refused → Type 0) → Option (List Request) → Option (List Request) → Request → Refused → Type 0
-IsRefusedBy id_of sessions sessions_new May before now request refused =
-    (IsThere id_of sessions request false × (refused ≡ Absent) × (now ≡ before) × Told sessions sessions_new Same) ⊎ (May request refused × (now ≡ logged_for before request refused))
+abbrev pub IsRefusedBy : (List ℕ → Option (List ℕ)) → DoorView → DoorView → Request → Refused → Type 0
+IsRefusedBy id_of before after request refused =
+    (IsThere id_of before.sessions request false × (refused ≡ Absent) × (after.asked ≡ before.asked) × Told before.sessions after.sessions Same) ⊎ (MayRefuse id_of before after request refused × (after.asked ≡ logged_for before.asked request refused))
 
 -- the form asks something of the door, which answered so; or it is out of form, or memory was wanting, and the door
 -- wasn't asked
-abbrev pub HasOpened : {P : Type 0} → (List ℕ → Option (List ℕ)) → Option Sessions → Option Sessions → Option (ℕ → List ℕ) → (Request → Welcome P → Type 0) → Option (List Request) → Option (List Request) → List ℕ → Result (Welcome P) FormRefusal → Type 0
-HasOpened id_of sessions sessions_new draws gives before now body (Ok welcome) = (request : Request) × IsForm body request × (now ≡ asked_more before request) × gives request welcome
-HasOpened id_of sessions sessions_new draws gives before now body (Err refusal.Form) = IsNoForm body × (now ≡ before)
-HasOpened id_of sessions sessions_new draws gives before now body (Err refusal.NoMemory) = now ≡ before
-HasOpened id_of sessions sessions_new draws gives before now body (Err (refusal.Door refused)) = (request : Request) × IsForm body request × IsRefusedBy id_of sessions sessions_new (MayRefuse id_of sessions draws sessions_new) before now request refused
+abbrev pub HasOpened : {P : Type 0} → (List ℕ → Option (List ℕ)) → (Request → Welcome P → Type 0) → DoorView → DoorView → List ℕ → Result (Welcome P) FormRefusal → Type 0
+HasOpened id_of gives before after body (Ok welcome) = (request : Request) × IsForm body request × (after.asked ≡ asked_more before.asked request) × Names id_of before after request welcome.id × gives request welcome
+HasOpened id_of gives before after body (Err refusal.Form) = IsNoForm body × (after.asked ≡ before.asked)
+HasOpened id_of gives before after body (Err refusal.NoMemory) = after.asked ≡ before.asked
+HasOpened id_of gives before after body (Err (refusal.Door refused)) = (request : Request) × IsForm body request × IsRefusedBy id_of before after request refused
 
 -- the sessions that it touched: that of the welcome; without one, no session is there that wasn't, and where the door
 -- wasn't asked each is as it was
@@ -56,6 +56,6 @@ IsDoor refused r = r ≡ Err (refusal.Door refused)
 -- what the form asks of the door, which answered so, and what it touched: Dial comes only where the count of dials that
 -- failed rose, and Busy only where that of starts did
 pub record AnswersForm {P : Type 0} (id_of : List ℕ → Option (List ℕ)) (gives : Request → Welcome P → Type 0) (before after : DoorView) (form : List ℕ) (answer : Result (Welcome P) FormRefusal) : Type 0 where
-  pub opened : HasOpened id_of before.sessions after.sessions before.helper.draws gives before.asked after.asked form answer
+  pub opened : HasOpened id_of gives before after form answer
   pub moves : Moves id_of answer before after
   pub faults : CountsFaults (IsDoor Dial answer) (IsDoor Busy answer) before.helper after.helper

@@ -1,14 +1,16 @@
 -- What a door tells of itself, and what each call does to it (this project's own).
 use Rattle.std.specs.Prelude.{◌≡◌, ℕ, List, Option, IfSome, Result, is_some}
+use Rattle.gate_outside.specs.Edge.{Rose}
 use Rattle.gate_outside.specs.Helpers.{CountsFaults, HelperView, Starts}
 use Rattle.gate_model.specs.declared.sharing.Asked.{Asked}
 use Rattle.id_table.specs.Maps.{Same, Told}
 use Rattle.guac_handshake.specs.declared.ask.Ask.{Ask}
 use Rattle.guac_handshake.specs.declared.refused.Refused.{Refused}
+use Rattle.guac_handshake.specs.declared.refused.Refused.TheVariants.{Busy, Conflict, Dial}
 use Rattle.guac_handshake.specs.declared.request.Request.{Request}
 use Rattle.guac_handshake.specs.declared.request.Request.TheVariants.{Begin, Join}
 use Rattle.guac_handshake.specs.declared.welcome.Welcome.{Welcome}
-use Rattle.guac_handshake.specs.Doors.{AddedBy, IsAbsent, IsBusy, IsDial, KeepsIds, MeetsConflict, MeetsHistory, RemovedOne, Sessions, at_name, logged, one_more_out, option_less}
+use Rattle.guac_handshake.specs.Doors.{AddedBy, AddedOne, AreTaken, HasConflict, IsAbsent, IsBeginRefusal, IsBusy, IsDial, JoinRefuses, KeepsIds, MeetsConflict, MeetsHistory, RemovedOne, Sessions, at_name, logged, one_more_out, option_less}
 
 -- the sessions by ID, each with its history, how many places are out, and what the door was asked, oldest first, but for
 -- what it refused for want of memory: each where the door tells it; and what its helper tells
@@ -69,3 +71,22 @@ pub record IsLetIn {P : Type 0} (is_fresh : P → List ℕ → Type 0) (id_of : 
   pub fresh : is_fresh welcome.place welcome.first
   pub same_id : id_of welcome.id ≡ id_of name
   pub joined : says welcome
+
+-- a door refused a session that is to begin: for Dial the count of dials that failed rose, for Busy that of starts, and for
+-- Conflict an ID was there, and the IDs of the next four draws were
+pub record BeginRefuses (before after : DoorView) (refusal : Refused) : Type 0 where
+  pub kind : IsBeginRefusal refusal
+  pub dial : refusal ≡ Dial → Rose before.helper.dial_faults after.helper.dial_faults
+  pub busy : refusal ≡ Busy → Rose before.helper.start_faults after.helper.start_faults
+  pub conflict : refusal ≡ Conflict → HasConflict before.sessions × AreTaken before.sessions before.helper.draws
+
+-- it refused what it was asked
+abbrev pub MayRefuse : (List ℕ → Option (List ℕ)) → DoorView → DoorView → Request → Refused → Type 0
+MayRefuse id_of before after (Begin ask) refusal = BeginRefuses before after refusal
+MayRefuse id_of before after (Join name role) refusal = JoinRefuses (id_of name) before.sessions after.sessions role refusal
+
+-- the ID by which a client may be told of what it asked for: that of the session that was added for it; where it joins, that
+-- of the session that it named
+abbrev pub Names : (List ℕ → Option (List ℕ)) → DoorView → DoorView → Request → List ℕ → Type 0
+Names id_of before after (Begin ask) id = Told before.sessions after.sessions (AddedOne (id_of id))
+Names id_of before after (Join name role) id = id_of id ≡ id_of name

@@ -20,7 +20,7 @@ pub(crate) fn ask<R: Threads + Wait + Copy + Send + 'static, D: Door>(
     requires may { MayAsk request.now }
     ensures answers { IsAnswered D.id_of request.now result (D.view door.old) (D.view door.new) }
     ensures fresh { IfOk result (λ welcome. D.Place.fresh welcome.place welcome.first) }
-    ensures granted { IfOk result (λ welcome. Grants D.id_of (D.begun door.new) (D.joined door.new) request.now welcome) }
+    ensures granted { IfOk result (λ welcome. Grants (D.begun door.new) (D.joined door.new) request.now welcome) }
 {
     match request {
         Request::Begin(ask) => door.begin(rt, alloc, ask),

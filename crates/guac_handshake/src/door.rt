@@ -74,9 +74,11 @@ pub trait Door: Drop {
     fn undo<R: Wait>(&mut self, rt: &R, id: &Text)
         ensures undoes { Undoes (id_of id.now) (view self.old) (view self.new) };
 
-    /// Begins a session: dials, makes it and starts its jobs, that of its recorder last. Dial and Busy come only
-    /// where their count rose in this call, Conflict only where an ID is there; refused, no session is there that
-    /// wasn't. Where the recorder's job isn't started, that is counted and the session goes on.
+    /// Begins a session: dials, makes it and starts its jobs, that of its recorder last. Its screen has 1 to 512
+    /// columns and 1 to 256 rows, its terminal type 1 to 40 visible characters (`asks` and a form give no other).
+    /// Dial and Busy come only where their count rose in this call, Conflict only where an ID is there; refused,
+    /// no session is there that wasn't. Where the recorder's job isn't started, that is counted and the session
+    /// goes on.
     final fn begin<R: Threads + Wait + Copy + Send + 'static>(
         &mut self,
         rt: &R,

@@ -5,9 +5,9 @@ ghost use Rattle.gate_outside.specs.Edge.{CountsFault};
 ghost use Rattle.gate_outside.specs.Helpers.{CountsFaults, NeverFell};
 ghost use Rattle.guac_handshake.specs.Asks.{MayAsk};
 ghost use Rattle.guac_handshake.specs.Causes.{HasCause, IfRefused, IsEarly};
-ghost use Rattle.guac_handshake.specs.Doors.{Grants, MayRefuse, Names};
-ghost use Rattle.guac_handshake.specs.Greetings.{Greets, HasAsked, HasConnected, HasKept, HasSelected, IfReady, IsFound, IsServed, IsToldError, IsToldReady, OnReady, Touches, stopped_as};
-ghost use Rattle.guac_handshake.specs.Views.{Looks};
+ghost use Rattle.guac_handshake.specs.Doors.{Grants};
+ghost use Rattle.guac_handshake.specs.Greetings.{HasAsked, HasConnected, HasKept, HasSelected, IfReady, IsFound, IsGreeting, IsServed, IsToldError, IsToldReady, OnReady, Touches, stopped_as};
+ghost use Rattle.guac_handshake.specs.Views.{Looks, MayRefuse, Names};
 
 use crate::asking::ask;
 use crate::expected::{Expected, Said};
@@ -183,7 +183,7 @@ fn serve<R: Threads + Wait + Copy + Send + 'static, K: Sink, D: Door>(
     request: &Request,
 ) -> Greeted<D::Place>
     requires may { MayAsk request.now }
-    ensures served { IsServed (MayRefuse D.id_of (D.view door.old).sessions (D.view door.old).helper.draws (D.view door.new).sessions) (Names D.id_of) (Grants D.id_of (D.begun door.new) (D.joined door.new)) request.now (K.written sink.old) (K.written sink.new) (D.view door.old).asked (D.view door.new).asked result }
+    ensures served { IsServed (MayRefuse D.id_of (D.view door.old) (D.view door.new)) (Names D.id_of (D.view door.old) (D.view door.new)) (Grants (D.begun door.new) (D.joined door.new)) request.now (K.written sink.old) (K.written sink.new) (D.view door.old).asked (D.view door.new).asked result }
     ensures touches { Touches D.id_of result (D.view door.old) (D.view door.new) }
     ensures faults { CountsFaults (result ≡ Greeted.Refused 519) (result ≡ Greeted.Refused 513) (D.view door.old).helper (D.view door.new).helper }
     ensures fresh { IfReady result (λ place first. D.Place.fresh place first) }
@@ -204,7 +204,7 @@ fn converse<R: Threads + Wait + Copy + Send + 'static, S: Source, K: Sink, D: Do
     door: &mut D,
 ) -> Greeted<D::Place>
     requires { unread.old ≡ [] }
-    ensures greeting { Greets D.id_of (Grants D.id_of (D.begun door.new) (D.joined door.new)) (D.view door.old) (D.view door.new) (S.left source.old) (S.left source.new) (K.written sink.old) (K.written sink.new) unread.new result }
+    ensures greeting { IsGreeting D.id_of (Grants (D.begun door.new) (D.joined door.new)) (D.view door.old) (D.view door.new) (S.left source.old) (S.left source.new) (K.written sink.old) (K.written sink.new) unread.new result }
     ensures touches { Touches D.id_of result (D.view door.old) (D.view door.new) }
     ensures faults { CountsFaults (result ≡ Greeted.Refused 519) (result ≡ Greeted.Refused 513) (D.view door.old).helper (D.view door.new).helper }
     ensures fresh { IfReady result (λ place first. D.Place.fresh place first) }
@@ -233,7 +233,7 @@ pub fn greet<R: Threads + Wait + Copy + Send + 'static, S: Source, K: Sink, D: D
     rest: &mut Vec<u8>,
     door: &mut D,
 ) -> Greeted<D::Place>
-    ensures greeting { Greets D.id_of (Grants D.id_of (D.begun door.new) (D.joined door.new)) (D.view door.old) (D.view door.new) (S.left source.old) (S.left source.new) (K.written sink.old) (K.written sink.new) rest.new.items result }
+    ensures greeting { IsGreeting D.id_of (Grants (D.begun door.new) (D.joined door.new)) (D.view door.old) (D.view door.new) (S.left source.old) (S.left source.new) (K.written sink.old) (K.written sink.new) rest.new.items result }
     ensures touches { Touches D.id_of result (D.view door.old) (D.view door.new) }
     ensures refused { IfRefused result (HasCause (D.view door.old) (D.view door.new)) }
     ensures fresh { IfReady result (λ place first. D.Place.fresh place first) }

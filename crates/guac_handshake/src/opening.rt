@@ -36,7 +36,7 @@ pub fn open_form<R: Threads + Wait + Copy + Send + 'static, D: Door>(
     body: &[u8],
     door: &mut D,
 ) -> Result<Welcome<D::Place>, FormRefusal>
-    ensures answers { AnswersForm D.id_of (Grants D.id_of (D.begun door.new) (D.joined door.new)) (D.view door.old) (D.view door.new) body.now result }
+    ensures answers { AnswersForm D.id_of (Grants (D.begun door.new) (D.joined door.new)) (D.view door.old) (D.view door.new) body.now result }
     ensures fresh { IfOk result (λ welcome. D.Place.fresh welcome.place welcome.first) }
 {
     let request = read_form(alloc, body)?;

@@ -3,7 +3,8 @@ use Rattle.std.proofs.Common.{◌≡◌, ◌⊎◌, inl, inr, ℕ, ◌+◌, ◌-
 use Rattle.std.specs.Prelude.{Option, Some, None, IfSome, is_some, Result, Ok, Err, IsOk, OnErr, is_ok, if◌then◌else◌}
 use Rattle.std.specs.Option.{option_map}
 use Rattle.gate_outside.specs.Helpers.{CountsFaults, HelperView}
-use Rattle.guac_handshake.specs.Doors.{Sessions, option_less}
+use Rattle.guac_handshake.specs.Doors.{option_less}
+use Rattle.guac_handshake.specs.Views.{DoorView}
 use Rattle.guac_handshake.specs.Opening.{HasOpened}
 use Rattle.guac_handshake.specs.declared.request.Request.{Request}
 use Rattle.guac_handshake.specs.declared.form_refusal.FormRefusal.{FormRefusal}
@@ -78,11 +79,10 @@ pub still_granted : {D : Type 0} (d e : D) (P : D → Type 0) → e ≡ d → P 
 still_granted d e P same p = subst P (sym same) p
 
 -- of a refusal nothing is said of what is given
-pub still_refused : (id_of : List ℕ → Option (List ℕ)) (sessions sessions_new : Option Sessions) (draws : Option (ℕ → List ℕ)) (Gives Others : Request → Welcome Place → Type 0) (before now : Option (List Request)) (body : List ℕ) (refused : FormRefusal)
-    → HasOpened id_of sessions sessions_new draws Gives before now body (Err refused) → HasOpened id_of sessions sessions_new draws Others before now body (Err refused)
-still_refused id_of sessions sessions_new draws Gives Others before now body form.Form h = h
-still_refused id_of sessions sessions_new draws Gives Others before now body form.NoMemory h = h
-still_refused id_of sessions sessions_new draws Gives Others before now body (form.Door refused) h = h
+pub still_refused : (id_of : List ℕ → Option (List ℕ)) (before after : DoorView) (Gives Others : Request → Welcome Place → Type 0) (body : List ℕ) (refused : FormRefusal) → HasOpened id_of Gives before after body (Err refused) → HasOpened id_of Others before after body (Err refused)
+still_refused id_of before after Gives Others body form.Form h = h
+still_refused id_of before after Gives Others body form.NoMemory h = h
+still_refused id_of before after Gives Others body (form.Door refused) h = h
 
 -- ---- what the door counted
 

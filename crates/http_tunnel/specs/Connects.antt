@@ -74,7 +74,7 @@ out_after (Err refused) out = out
 -- itself where it gave a place is said where an ID is answered
 pub record OpensTunnel (id_of : List ℕ → Option (List ℕ)) (gives : Request → Welcome Place → Type 0) (before after : DoorView) (drawn : Option (ℕ → List ℕ)) (told told_new : Option (Shelved Tunnel)) (body : List ℕ) (answered : Result (List ℕ) Refusal) : Type 0 where
   pub opened : Result (Welcome Place) FormRefusal
-  pub asked : HasOpened id_of before.sessions after.sessions before.helper.draws (λ request welcome. OnOk answered (gives request welcome)) before.asked after.asked body opened
+  pub asked : HasOpened id_of (λ request welcome. OnOk answered (gives request welcome)) before after body opened
   pub answers : AnswersOpened opened answered
   pub sessions : Told before.sessions after.sessions (HasMoved id_of opened)
   pub out : after.out ≡ out_after answered before.out

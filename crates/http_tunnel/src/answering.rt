@@ -54,7 +54,7 @@ where
     requires home { AreHome (T.told tunnels.old) }
     requires route { IsAsked route }
     ensures home { AreHome (T.told tunnels.new) }
-    ensures served { Serves D.id_of (Grants D.id_of (D.begun door.new) (D.joined door.new)) (D.view door.old) (D.view door.new) (X.helper dice.old).draws (T.told tunnels.old) (T.told tunnels.new) body.now result route }
+    ensures served { Serves D.id_of (Grants (D.begun door.new) (D.joined door.new)) (D.view door.old) (D.view door.new) (X.helper dice.old).draws (T.told tunnels.old) (T.told tunnels.new) body.now result route }
     ensures faults { CountsFaults (result ≡ Err Dial) (result ≡ Err Busy) (D.view door.old).helper (D.view door.new).helper }
 {
     match route {
@@ -89,7 +89,7 @@ where
     X: Dice,
     requires { AreHome (T.told tunnels.old) }
     ensures home { AreHome (T.told tunnels.new) }
-    ensures answered { (answered : Result (List ℕ) Refusal) × IsResponse answered result × Serves D.id_of (Grants D.id_of (D.begun door.new) (D.joined door.new)) (D.view door.old) (D.view door.new) (X.helper dice.old).draws (T.told tunnels.old) (T.told tunnels.new) request.now.body.now answered (route_of request.now.method request.now.target.now) }
+    ensures answered { (answered : Result (List ℕ) Refusal) × IsResponse answered result × Serves D.id_of (Grants (D.begun door.new) (D.joined door.new)) (D.view door.old) (D.view door.new) (X.helper dice.old).draws (T.told tunnels.old) (T.told tunnels.new) request.now.body.now answered (route_of request.now.method request.now.target.now) }
     ensures faults { CountsFaults (result.status ≡ 502) (result.status ≡ 503) (D.view door.old).helper (D.view door.new).helper }
 {
     let route = find_route(

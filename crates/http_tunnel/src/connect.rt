@@ -92,7 +92,7 @@ where
     X: Dice,
     requires { AreHome (T.told tunnels.old) }
     ensures home { AreHome (T.told tunnels.new) }
-    ensures connected { OpensTunnel D.id_of (Grants D.id_of (D.begun door.new) (D.joined door.new)) (D.view door.old) (D.view door.new) (X.helper dice.old).draws (T.told tunnels.old) (T.told tunnels.new) body.now result }
+    ensures connected { OpensTunnel D.id_of (Grants (D.begun door.new) (D.joined door.new)) (D.view door.old) (D.view door.new) (X.helper dice.old).draws (T.told tunnels.old) (T.told tunnels.new) body.now result }
     ensures faults { CountsFaults (result ≡ Err Dial) (result ≡ Err Busy) (D.view door.old).helper (D.view door.new).helper }
 {
     let Ok(mut answer) = Vec::with_capacity(alloc, ID_BYTES) else {

@@ -4,7 +4,7 @@ use Rattle.std.proofs.lemmas.List.{take-append-drop}
 use Rattle.gate_model.specs.Sequences.{BeginsWith}
 use Rattle.gate_outside.specs.Edge.{GainedFront, came, gained}
 use Rattle.guac_handshake.specs.Asks.{Wish, asks, selected}
-use Rattle.guac_handshake.specs.Doors.{MayRefuse, Names, Sessions}
+use Rattle.guac_handshake.specs.Views.{DoorView, MayRefuse, Names}
 use Rattle.guac_handshake.specs.Greetings.{EarlyReply, Ends, IsGreeting, IsReplyTo, NoReply, ReadyReply, RefusalReply}
 use Rattle.guac_handshake.specs.Texts.{args_for}
 use Rattle.guac_handshake.specs.declared.greeted.Greeted.{Greeted}
@@ -44,10 +44,10 @@ pub record Greeted_by {P : Type 0} (left_old left_new written_old written_new : 
   pub gained_is : written_new ≡ gained written_old written
   pub ran : GreetRun read rest written end
 
-pub greeted : {P : Type 0} (id_of : List ℕ → Option (List ℕ)) (sessions sessions_new : Option Sessions) (draws : Option (ℕ → List ℕ)) (gives : Request → Welcome P → Type 0) (left_old left_new written_old written_new : Option (List ℕ)) (asked_old asked_new : Option (List Request)) (rest : List ℕ) (end : Greeted P)
-    → IsGreeting id_of sessions sessions_new draws gives left_old left_new written_old written_new asked_old asked_new rest end → Greeted_by left_old left_new written_old written_new rest end
-greeted id_of sessions sessions_new draws gives left_old left_new written_old written_new asked_old asked_new rest end g =
-    let r = replied (MayRefuse id_of sessions draws sessions_new) (Names id_of) gives (asks g.known g.instructions) (args_for (selected g.known g.instructions)) rest left_new written_old written_new asked_old asked_new end g.ends in record {
+pub greeted : {P : Type 0} (id_of : List ℕ → Option (List ℕ)) (gives : Request → Welcome P → Type 0) (before after : DoorView) (left_old left_new written_old written_new : Option (List ℕ)) (rest : List ℕ) (end : Greeted P)
+    → IsGreeting id_of gives before after left_old left_new written_old written_new rest end → Greeted_by left_old left_new written_old written_new rest end
+greeted id_of gives before after left_old left_new written_old written_new rest end g =
+    let r = replied (MayRefuse id_of before after) (Names id_of before after) gives (asks g.known g.instructions) (args_for (selected g.known g.instructions)) rest left_new written_old written_new before.asked after.asked end g.ends in record {
       read = g.bytes;
       written = r.0;
       came_is = g.came_is;

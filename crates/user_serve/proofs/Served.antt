@@ -50,7 +50,7 @@ same_viewer one other P is p = subst P (sym is) p
 
 -- a greeting let the viewer in, and a visit followed
 pub let_in : (id_of : List ℕ → Option (List ℕ)) (gives : Request → Welcome Place → Type 0) (before after : DoorView) (left_old left left_new written_old written written_new : Option (List ℕ)) (rest : List ℕ) (welcome : Welcome Place) (visit : Visit)
-    → door.Greets id_of gives before after left_old left written_old written rest (greeted.Ready welcome) → Exchanges left left_new written written_new (λ r w. VisitRun welcome visit (rest ++ r) w left_new)
+    → door.IsGreeting id_of gives before after left_old left written_old written rest (greeted.Ready welcome) → Exchanges left left_new written written_new (λ r w. VisitRun welcome visit (rest ++ r) w left_new)
     → HasGreeted id_of gives before after left_old left_new written_old written_new (Served visit)
 let_in id_of gives before after left_old left left_new written_old written written_new rest welcome visit g v =
     record { welcome = welcome; rest = rest; left = left; behind = v.0; reads = v.2; written = written; shown = v.1; writes = v.3; greets = g; visits = v.4 }

@@ -113,7 +113,7 @@ Greeting is_greeting nothing left written NoMemory = nothing ⊎ SomeGreeting is
 -- .. so the door was asked by the greeting alone, and where a viewer was let in it has given just what was wished
 abbrev pub HasGreeted : (List ℕ → Option (List ℕ)) → (Request → Welcome Place → Type 0) → DoorView → DoorView → Option (List ℕ) → Option (List ℕ) → Option (List ℕ) → Option (List ℕ) → UserEnd → Type 0
 HasGreeted id_of gives before after left_old left_new written_old written_new end =
-    Greeting (λ rest left written g. door.Greets id_of gives before after left_old left written_old written rest g)
+    Greeting (λ rest left written g. door.IsGreeting id_of gives before after left_old left written_old written rest g)
     ((left_new ≡ left_old) × (written_new ≡ written_old) × (after.asked ≡ before.asked)) left_new written_new end
 
 -- the greeting that stands behind an end

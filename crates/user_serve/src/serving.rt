@@ -46,7 +46,7 @@ where
     D: Door<Place = Place>,
     B: Bell + Send,
     ensures ran { (read : List ℕ) × (written : List ℕ) × (S.left source.old ≡ came read (S.left source.new)) × (K.written sink.new ≡ gained (K.written sink.old) written) × UserRun (S.left source.new) result read written }
-    ensures greeting { HasGreeted D.id_of (Grants D.id_of (D.begun door.new) (D.joined door.new)) (D.view door.old) (D.view door.new) (S.left source.old) (S.left source.new) (K.written sink.old) (K.written sink.new) result }
+    ensures greeting { HasGreeted D.id_of (Grants (D.begun door.new) (D.joined door.new)) (D.view door.old) (D.view door.new) (S.left source.old) (S.left source.new) (K.written sink.old) (K.written sink.new) result }
     ensures door { LeavesDoor D.id_of (D.view door.old) (D.view door.new) result }
     ensures refused { IfRefused result (HasCause (D.view door.old) (D.view door.new)) }
     ensures later { NeverFell (D.view door.old).helper (D.view door.new).helper }

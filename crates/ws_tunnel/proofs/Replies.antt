@@ -56,7 +56,7 @@ module _ (viewer : ℕ) (r w : View Entry) (left : Option (List (List ℕ))) whe
   unread message (Bad at) k = nothing (Some message) (Bad at) (k, refl) refl tt tt refl tt
   unread message (Cut place) k = nothing (Some message) (Cut place) (k, refl) refl tt tt refl tt
   unread message TooLong k = nothing (Some message) TooLong (k, refl) refl tt tt refl tt
-  unread message NoMemory k = nothing (Some message) NoMemory (inr refl) tt tt (inl refl) refl tt
+  unread message NoMemory k = nothing (Some message) NoMemory tt tt tt (inl (k, refl)) refl tt
   unread message Ended k = absurd k
   unread message Disconnected k = absurd k
   unread message (Refused status) k = absurd k
@@ -117,7 +117,7 @@ module _ (viewer : ℕ) (r w x : View Entry) (left : Option (List (List ℕ))) (
   put_refused Left is refusal cause = unanswered Left is (inl tt) tt tt refl cause
   put_refused Worn is refusal cause = unanswered Worn is (inl tt) tt tt refl cause
   put_refused NoMemory is refusal cause =
-      unanswered NoMemory (inl is) (inl tt) tt (inr (inl record { found = x.seen; later = k.wrote.done.goes_on.later; earlier = later_refl x.seen; own_there = k.wrote.own; alone = cause })) refl tt
+      unanswered NoMemory tt (inl tt) tt (inr (is, inl record { found = x.seen; later = k.wrote.done.goes_on.later; earlier = later_refl x.seen; own_there = k.wrote.own; alone = cause })) refl tt
   put_refused Ended is refusal cause = absurd refusal
   put_refused Disconnected is refusal cause = absurd refusal
   put_refused (Refused status) is refusal cause = absurd refusal
@@ -257,7 +257,7 @@ module _ (viewer : ℕ) (r w x r_now w_now : View Entry) (message text : List �
   read_stops : (end : WsEnd) (left : Option (List (List ℕ))) → ReadsBehind viewer r x r_now w_now text (Err end) → HasStopped viewer r w r_now w_now left (Some message) [] end
   read_stops Left left b = unread_end Left left is tt tt tt b.end.1 (λ c. refl) b
   read_stops Worn left b = unread_end Worn left is tt tt tt b.end.1 (λ c. refl) b
-  read_stops NoMemory left b = unread_end NoMemory left (inl is) tt tt (inr (inr (inl (stopped_read b.end.1)))) tt (λ c. refl) b
+  read_stops NoMemory left b = unread_end NoMemory left tt tt tt (inr (is, inr (inl (stopped_read b.end.1)))) tt (λ c. refl) b
   read_stops Ended left b = absurd b.end.0
   read_stops Disconnected left b = absurd b.end.0
   read_stops (Refused status) left b = absurd b.end.0
@@ -309,7 +309,7 @@ module _ (viewer : ℕ) (r w r_now w_now : View Entry) (left : Option (List (Lis
 
   pub unsent : (end : WsEnd) → IsLinkEnd end → HasStopped viewer r w r_now w_now left (Some message) [] end
   unsent LinkFault kind = was_answered LinkFault [] (is, asks) may_lose tt tt refl tt
-  unsent NoMemory kind = was_answered NoMemory [] (inl is) (inl tt) tt (inr (inr (inr (k.found, did_later viewer w_now.mine (own_entries w) w.seen k.found k.parts k.gained k.did, k.was_read)))) refl tt
+  unsent NoMemory kind = was_answered NoMemory [] tt (inl tt) tt (inr (is, inr (inr (k.found, did_later viewer w_now.mine (own_entries w) w.seen k.found k.parts k.gained k.did, k.was_read)))) refl tt
   unsent Ended kind = absurd kind
   unsent Disconnected kind = absurd kind
   unsent (Refused status) kind = absurd kind

@@ -55,7 +55,7 @@ where
     R: Threads + Wait + Copy + Send + 'static,
     M: Messages,
     D: Door<Place = Place>,
-    ensures opened { OpensDoor D.id_of (Grants D.id_of (D.begun door.new) (D.joined door.new)) (D.view door.old) (D.view door.new) (M.left link.old) (M.left link.new) (M.sent link.old) (M.sent link.new) result }
+    ensures opened { OpensDoor D.id_of (Grants (D.begun door.new) (D.joined door.new)) (D.view door.old) (D.view door.new) (M.left link.old) (M.left link.new) (M.sent link.old) (M.sent link.new) result }
     ensures fresh { IfOk result (λ welcome. IsFresh welcome.place welcome.first) }
     ensures faults { CountsFault (result ≡ Err ends.LinkFault) (M.faults link.old) (M.faults link.new) }
 {
@@ -77,7 +77,7 @@ where
     R: Threads + Wait + Copy + Send + 'static,
     M: Messages,
     D: Door<Place = Place>,
-    ensures opened { HasAnsweredForm D.id_of (Grants D.id_of (D.begun door.new) (D.joined door.new)) (D.view door.old) (D.view door.new) form.now (M.sent link.old) (M.sent link.new) result }
+    ensures opened { HasAnsweredForm D.id_of (Grants (D.begun door.new) (D.joined door.new)) (D.view door.old) (D.view door.new) form.now (M.sent link.old) (M.sent link.new) result }
     ensures left { M.left link.new ≡ M.left link.old }
     ensures fresh { IfOk result (λ welcome. IsFresh welcome.place welcome.first) }
     ensures faults { CountsFault (result ≡ Err ends.LinkFault) (M.faults link.old) (M.faults link.new) }

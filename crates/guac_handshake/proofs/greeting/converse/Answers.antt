@@ -1,10 +1,10 @@
-use Rattle.std.proofs.Common.{ap, refl, rules}
-use Rattle.gate_outside.specs.Helpers.{HelperView}
-use Rattle.guac_handshake.specs.Doors.{Grants, MayRefuse, Names}
+use Rattle.std.proofs.Common.{refl, rules}
+use Rattle.guac_handshake.specs.Doors.{Grants}
+use Rattle.guac_handshake.specs.Views.{MayRefuse, Names}
 use Rattle.guac_handshake.proofs.Askable.{wanted}
 use Rattle.guac_handshake.proofs.Endings.{greeted_ended, greeted_ok, greeted_refused, greeted_short, greeted_unread, greeted_unwritten}
 use Rattle.guac_handshake.proofs.Causes.{error_fresh, error_read, not_early, served_read, told_status}
-use Rattle.guac_handshake.proofs.Refusing.{may_before, served_as}
+use Rattle.guac_handshake.proofs.Refusing.{may_before, names_before, served_as}
 use Rattle.guac_handshake.proofs.Touching.{touched_behind, touched_early, touched_none}
 use Rattle.guac_handshake.proofs.greeting.converse.Goals as goal
 
@@ -12,23 +12,23 @@ pub serve-requires-clause-may : goal.serve-requires-clause-may
 serve-requires-clause-may g c = let asked = c.in-Ok.ensures.request in search (rules, wanted asked.known asked.instructions c.in-Ok.request asked.answers)
 
 pub returns-in-Ok-clause-greeting : goal.returns-in-Ok-clause-greeting
-returns-in-Ok-clause-greeting g c = greeted_ok _ _ _ _ _ _ _ _ _ _ _ _ _ _ _ c.requires c.read_request.ensures.looks.asked c.in-Ok.request _ c.in-Ok.ensures.request
-    (served_as (MayRefuse g.D.Door.id_of (g.D.Door.view c.read_request.new.door).sessions (g.D.Door.view c.read_request.new.door).helper.draws (g.D.Door.view c.serve.new.door).sessions) (MayRefuse g.D.Door.id_of (g.D.Door.view c.args.door.now).sessions (g.D.Door.view c.args.door.now).helper.draws (g.D.Door.view c.serve.new.door).sessions) (Names g.D.Door.id_of) (Grants g.D.Door.id_of (g.D.Door.begun c.serve.new.door) (g.D.Door.joined c.serve.new.door)) _ _ _ _ _ _ (may_before _ _ _ _ _ _ c.read_request.ensures.looks.sessions (ap (λ (h : HelperView). h.draws) c.read_request.ensures.looks.helper)) c.serve.ensures.served)
+returns-in-Ok-clause-greeting g c = greeted_ok g.D.Door.id_of _ _ _ _ _ _ _ _ _ _ _ c.requires c.read_request.ensures.looks.asked c.in-Ok.request _ c.in-Ok.ensures.request
+    (served_as (MayRefuse g.D.Door.id_of (g.D.Door.view c.read_request.new.door) (g.D.Door.view c.serve.new.door)) (MayRefuse g.D.Door.id_of (g.D.Door.view c.args.door.now) (g.D.Door.view c.serve.new.door)) (Names g.D.Door.id_of (g.D.Door.view c.read_request.new.door) (g.D.Door.view c.serve.new.door)) (Names g.D.Door.id_of (g.D.Door.view c.args.door.now) (g.D.Door.view c.serve.new.door)) (Grants (g.D.Door.begun c.serve.new.door) (g.D.Door.joined c.serve.new.door)) _ _ _ _ _ _ (may_before g.D.Door.id_of (g.D.Door.view c.args.door.now) (g.D.Door.view c.read_request.new.door) (g.D.Door.view c.serve.new.door) c.read_request.ensures.looks) (names_before g.D.Door.id_of (g.D.Door.view c.args.door.now) (g.D.Door.view c.read_request.new.door) (g.D.Door.view c.serve.new.door) c.read_request.ensures.looks) c.serve.ensures.served)
 
 pub returns-in-Err-Refused-clause-greeting : goal.returns-in-Err-Refused-clause-greeting
-returns-in-Err-Refused-clause-greeting g c = greeted_refused _ _ _ _ _ _ _ _ _ _ _ _ _ _ _ c.requires c.read_request.ensures.looks.asked _ _ _ c.read_request.ensures.looks.sessions refl c.in-Err-Refused.ensures.request c.in-Err-Refused.field-0-is c.refuse.ensures.told
+returns-in-Err-Refused-clause-greeting g c = greeted_refused g.D.Door.id_of _ _ _ _ _ _ _ _ _ _ _ c.requires c.read_request.ensures.looks.asked _ _ _ c.read_request.ensures.looks.sessions refl c.in-Err-Refused.ensures.request c.in-Err-Refused.field-0-is c.refuse.ensures.told
 
 pub returns-in-Err-Ended-clause-greeting : goal.returns-in-Err-Ended-clause-greeting
-returns-in-Err-Ended-clause-greeting g c = greeted_ended _ _ _ _ _ _ _ _ _ _ _ _ _ _ _ c.requires c.read_request.ensures.looks.asked c.read_request.ensures.looks.sessions refl refl _ c.in-Err-Ended.ensures.request c.in-Err-Ended.field-0-is
+returns-in-Err-Ended-clause-greeting g c = greeted_ended g.D.Door.id_of _ _ _ _ _ _ _ _ _ _ _ c.requires c.read_request.ensures.looks.asked c.read_request.ensures.looks.sessions refl refl _ c.in-Err-Ended.ensures.request c.in-Err-Ended.field-0-is
 
 pub returns-in-Err-ReadFault-clause-greeting : goal.returns-in-Err-ReadFault-clause-greeting
-returns-in-Err-ReadFault-clause-greeting g c = greeted_unread _ _ _ _ _ _ _ _ _ _ _ _ _ _ _ c.requires c.read_request.ensures.looks.asked c.read_request.ensures.looks.sessions refl refl _ c.in-Err-ReadFault.ensures.request c.in-Err-ReadFault.field-0-is
+returns-in-Err-ReadFault-clause-greeting g c = greeted_unread g.D.Door.id_of _ _ _ _ _ _ _ _ _ _ _ c.requires c.read_request.ensures.looks.asked c.read_request.ensures.looks.sessions refl refl _ c.in-Err-ReadFault.ensures.request c.in-Err-ReadFault.field-0-is
 
 pub returns-in-Err-WriteFault-clause-greeting : goal.returns-in-Err-WriteFault-clause-greeting
-returns-in-Err-WriteFault-clause-greeting g c = greeted_unwritten _ _ _ _ _ _ _ _ _ _ _ _ _ _ _ c.requires c.read_request.ensures.looks.asked c.read_request.ensures.looks.sessions refl refl _ c.in-Err-WriteFault.ensures.request c.in-Err-WriteFault.field-0-is
+returns-in-Err-WriteFault-clause-greeting g c = greeted_unwritten g.D.Door.id_of _ _ _ _ _ _ _ _ _ _ _ c.requires c.read_request.ensures.looks.asked c.read_request.ensures.looks.sessions refl refl _ c.in-Err-WriteFault.ensures.request c.in-Err-WriteFault.field-0-is
 
 pub returns-in-Err-NoMemory-clause-greeting : goal.returns-in-Err-NoMemory-clause-greeting
-returns-in-Err-NoMemory-clause-greeting g c = greeted_short _ _ _ _ _ _ _ _ _ _ _ _ _ _ _ c.requires c.read_request.ensures.looks.asked c.read_request.ensures.looks.sessions refl refl _ c.in-Err-NoMemory.ensures.request c.in-Err-NoMemory.field-0-is
+returns-in-Err-NoMemory-clause-greeting g c = greeted_short g.D.Door.id_of _ _ _ _ _ _ _ _ _ _ _ c.requires c.read_request.ensures.looks.asked c.read_request.ensures.looks.sessions refl refl _ c.in-Err-NoMemory.ensures.request c.in-Err-NoMemory.field-0-is
 
 pub returns-in-Ok-clause-touches : goal.returns-in-Ok-clause-touches
 returns-in-Ok-clause-touches g c = record { out = search rules; sessions = touched_behind g.D.Door.id_of _ _ _ _ c.read_request.ensures.looks.sessions c.serve.ensures.touches.sessions }
@@ -44,7 +44,7 @@ returns-in-Err-NoMemory-clause-touches g c = record { out = c.read_request.ensur
 
 pub returns-in-Ok-clause-reads : goal.returns-in-Ok-clause-reads
 returns-in-Ok-clause-reads g c = (
-  λ e. absurd (served_read _ _ (MayRefuse g.D.Door.id_of (g.D.Door.view c.read_request.new.door).sessions (g.D.Door.view c.read_request.new.door).helper.draws (g.D.Door.view c.serve.new.door).sessions) (Names g.D.Door.id_of) (Grants g.D.Door.id_of (g.D.Door.begun c.serve.new.door) (g.D.Door.joined c.serve.new.door)) _ _ _ _ c.serve.ensures.served e),
+  λ e. absurd (served_read _ _ (MayRefuse g.D.Door.id_of (g.D.Door.view c.read_request.new.door) (g.D.Door.view c.serve.new.door)) (Names g.D.Door.id_of (g.D.Door.view c.read_request.new.door) (g.D.Door.view c.serve.new.door)) (Grants (g.D.Door.begun c.serve.new.door) (g.D.Door.joined c.serve.new.door)) _ _ _ _ c.serve.ensures.served e),
   c.read_request.ensures.reads.1,
 )
 

@@ -3,7 +3,7 @@ use Rattle.guac_handshake.proofs.Telling.{caused}
 use Rattle.guac_handshake.proofs.greeting.greet.Goals as goal
 
 pub returns-clause-greeting : goal.returns-clause-greeting
-returns-clause-greeting g c = with_rest _ _ _ _ _ _ _ _ _ _ _ _ _ _ c.into_vec.ensures c.converse-greeted.ensures.greeting
+returns-clause-greeting g c = with_rest _ _ _ _ _ _ _ _ _ _ _ c.into_vec.ensures c.converse-greeted.ensures.greeting
 
 pub returns-clause-refused : goal.returns-clause-refused
 returns-clause-refused g c =

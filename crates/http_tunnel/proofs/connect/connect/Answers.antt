@@ -3,7 +3,8 @@ use Rattle.uuid.specs.Text.{hyphenated_text, lower}
 use Rattle.id_table.specs.Maps.{Same, Told}
 use Rattle.guac_handshake.specs.Doors.{Grants}
 use Rattle.guac_handshake.specs.Opening.{HasMoved}
-use Rattle.guac_handshake.specs.Views.{DoorView}
+use Rattle.guac_handshake.specs.Views.{DoorView, Names}
+use Rattle.guac_handshake.proofs.Touching.{named_on}
 use Rattle.guac_handshake.specs.declared.form_refusal.FormRefusal.TheVariants as form
 use Rattle.http_tunnel.proofs.Connecting.{counted_as, dialed, extended, has_room, less_more, long_id, not_dialed, not_started, started, still_granted, still_refused, text_added, text_refused}
 use Rattle.http_tunnel.proofs.Places.{moved_back, moved_none}
@@ -16,7 +17,7 @@ returns-in_default-clause-connected g c = record { opened = Err form.NoMemory; a
 pub returns-in-Err-clause-connected : goal.returns-in-Err-clause-connected
 returns-in-Err-clause-connected g c = record {
   opened = Err c.in-Err.refusal;
-  asked = still_refused g.D.Door.id_of _ _ _ (Grants g.D.Door.id_of (g.D.Door.begun c.open_form.new.door) (g.D.Door.joined c.open_form.new.door)) (λ request welcome. Unit {0}) _ _ _ c.in-Err.refusal c.in-Err.ensures.answers.opened;
+  asked = still_refused g.D.Door.id_of _ _ (Grants (g.D.Door.begun c.open_form.new.door) (g.D.Door.joined c.open_form.new.door)) (λ request welcome. Unit {0}) _ c.in-Err.refusal c.in-Err.ensures.answers.opened;
   answers = ap Err c.refused_form.ensures;
   sessions = c.in-Err.ensures.answers.moves.sessions;
   out = c.in-Err.ensures.answers.moves.out;
@@ -38,7 +39,7 @@ returns-in-Ok-add_tunnel-clause-connected g c =
     let before = g.D.Door.view c.args.door.now in
     record {
       opened = Ok welcome;
-      asked = (o.0, o.1, ap (λ (d : g.row.D.Denot). (g.D.Door.view d).asked) same ∙ o.2, still_granted c.open_form.new.door c.add_tunnel.new.door (λ d. Grants g.D.Door.id_of (g.D.Door.begun d) (g.D.Door.joined d) o.0 welcome) same o.3);
+      asked = (o.0, o.1, ap (λ (d : g.row.D.Denot). (g.D.Door.view d).asked) same ∙ o.2, still_granted c.open_form.new.door c.add_tunnel.new.door (λ d. Names g.D.Door.id_of before (g.D.Door.view d) o.0 welcome.id) same o.3, still_granted c.open_form.new.door c.add_tunnel.new.door (λ d. Grants (g.D.Door.begun d) (g.D.Door.joined d) o.0 welcome) same o.4);
       answers = c.in-Ok-open_form.ensures.fresh;
       sessions = still_granted c.open_form.new.door c.add_tunnel.new.door (λ d. Told before.sessions (g.D.Door.view d).sessions (HasMoved g.D.Door.id_of (Ok welcome))) same c.in-Ok-open_form.ensures.answers.moves.sessions;
       out = ap (λ (d : g.row.D.Denot). (g.D.Door.view d).out) same ∙ c.in-Ok-open_form.ensures.answers.moves.out;
@@ -53,7 +54,7 @@ returns-in-Err-add_tunnel-clause-connected g c =
     let gives = c.in-Err-add_tunnel.ensures.gives in
     record {
       opened = Ok c.in-Ok-open_form.welcome;
-      asked = (o.0, o.1, gives.asked ∙ o.2, tt);
+      asked = (o.0, o.1, gives.asked ∙ o.2, named_on g.D.Door.id_of (g.D.Door.view c.args.door.now) (g.D.Door.view c.open_form.new.door) (g.D.Door.view c.add_tunnel.new.door) o.0 _ gives.ids o.3, tt);
       answers = c.in-Err-add_tunnel.ensures.kind;
       sessions = moved_back g.D.Door.id_of c.in-Ok-open_form.welcome _ _ _ moves.sessions gives.ids;
       out = less_more _ _ _ moves.out gives.out;
