@@ -1,15 +1,17 @@
 -- The text of a script's line `write N TEXT`, instruction by instruction.
-use Rattle.std.proofs.Common.{◌≡◌, ℕ, ◌+◌, ◌-◌, ◌≤◌, List, [], ◌∷◌, ◌++◌, length, drop, take, refl, ap, sym, ◌∙◌, subst, append_assoc, append-nil, length-append, length-drop, arith}
-use Rattle.std.proofs.lemmas.List.{take_all, drop-drop, take-append-drop}
+use Rattle.std.proofs.Common.{◌≡◌, ℕ, ◌+◌, ◌-◌, ◌≤◌, List, [], ◌∷◌, ◌++◌, length, drop, take, refl, ap, sym, ◌∙◌, append_assoc, append-nil, length-append, arith}
 use Rattle.gate_model.proofs.MeaningLaws.{act_in_utf8}
 use Rattle.guac_framing.specs.Answers.{IsWhole}
-use Rattle.std.specs.Prelude.{Option, Some, None}
+use Rattle.std.specs.Prelude.{Option, Some, None, IsSome, Result, Ok, Err, OnErr, false, true}
 use Rattle.gate_model.specs.text.ClientMeaning.{act_of}
-use Rattle.gate_model.specs.text.Spelling.{Spells}
 use Rattle.gate_model.specs.declared.act.Act.{Act}
 use Rattle.guac_framing.specs.Splits.{Splits}
-use Rattle.guac_framing.proofs.Streams.{left_at, splits_on}
-use Rattle.script_grammar.specs.Acts.{HasTooMany, acts_from, acts_of, passed_from, passed_of}
+use Rattle.guac_framing.proofs.Streams.{splits_on}
+use Rattle.script_grammar.specs.Acts.{AsksRoom, HasTooMany, acts_from, acts_of, passed_from, passed_of}
+
+pub on_err : {A E : Type 0} (r : Result A E) (P : Type 0) → P → OnErr r P
+on_err (Ok a) P p = tt
+on_err (Err e) P p = p
 
 pub acts_more : (es : List (List (List ℕ))) (e : List (List ℕ)) → acts_of (es ++ e ∷ []) ≡ acts_of es ++ acts_from (act_of e)
 acts_more [] e = append-nil (acts_from (act_of e))
@@ -61,3 +63,18 @@ module _ (text : List ℕ) (at count : ℕ) (acts : List Act) (passed : ℕ) (so
   one_too_many all values size whole =
       let next = reads_one values size whole in
       record { instructions = next.instructions; rest = drop (at + size) text; splits = next.splits; many = next.count_is ∙ ap (λ (n : ℕ). n + 1) all }
+
+  -- the next one has an act, for which there may be no room
+  pub next_asks : count + 1 ≤ 4096 → (values : List (List ℕ)) (size : ℕ) (act : Option Act) → IsWhole (take (length text - at) (drop at text)) values size → act ≡ act_of values → IsSome act → AsksRoom text
+  next_asks few values size None whole is some = absurd (let z : false ≡ true = some in cc)
+  next_asks few values size (Some act) whole is some =
+      let e = whole.elements in
+      record {
+        before = so_far.instructions;
+        last = e;
+        rest = drop (at + size) text;
+        splits = splits_on text at values size whole so_far.instructions so_far.splits;
+        few = omega (arith, so_far.count_is, few);
+        act = act;
+        act_is = sym (is ∙ (ap act_of whole.texts ∙ act_in_utf8 e));
+      }

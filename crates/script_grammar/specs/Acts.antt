@@ -70,6 +70,16 @@ pub record HasTooMany (text : List ℕ) : Type 0 where
   pub splits : Splits text instructions rest
   pub many : length instructions ≡ most_instructions + 1
 
+-- at the front, instructions of which the last has an act: it asks room in the list of acts
+pub record AsksRoom (text : List ℕ) : Type 0 where
+  pub before : List (List (List ℕ))
+  pub last : List (List ℕ)
+  pub rest : List ℕ
+  pub splits : Splits text (before ++ last ∷ []) rest
+  pub few : length before + 1 ≤ most_instructions
+  pub act : Act
+  pub act_is : act_of last ≡ Some act
+
 abbrev pub IsReading : List ℕ → Reading → Type 0
 IsReading text (Whole acts passed) = IsWhole text acts passed
 IsReading text (Cut place) = IsCut text place

@@ -1,7 +1,7 @@
 //! The text of a script's line `write N TEXT`, read as instructions of a client.
 
-ghost use Rattle.std.specs.Prelude.{◌≡◌, ◌++◌, ◌+◌, ◌<◌, IfOk, OnOk};
-ghost use Rattle.script_grammar.specs.Acts.{HasFewActs, IsReading, acts_from, passed_from};
+ghost use Rattle.std.specs.Prelude.{◌≡◌, ◌++◌, ◌+◌, ◌<◌, IfOk, IsSome, OnErr, OnOk};
+ghost use Rattle.script_grammar.specs.Acts.{AsksRoom, HasFewActs, IsReading, acts_from, passed_from};
 
 use crate::reading::Reading;
 use gate_model::{Act, Acts, NoMemory};
@@ -17,10 +17,11 @@ const MOST_INSTRUCTIONS: u32 = 4096;
 /// how many have none; an empty text is no instructions. Else the place where the instruction begins that
 /// isn't finished at the end, or the place of the first bad byte and why it is bad; both are counted in
 /// bytes from the text's beginning. Where a 4,097th whole instruction is met there are too many, whatever
-/// stands behind it. The only error is want of memory.
+/// stands behind it. The only error is want of memory, for the act of one of the first 4,096 instructions.
 pub fn read_acts(alloc: Global, text: &[u8]) -> Result<Reading, NoMemory>
     ensures reading { IfOk result (IsReading text.now) }
     ensures few { IfOk result HasFewActs }
+    ensures wanting { OnErr result (AsksRoom text.now) }
 {
     let mut acts = Vec::new(alloc);
     let mut passed: u32 = 0;
@@ -56,6 +57,7 @@ fn keep(acts: &mut Vec<Act>, passed: &mut u32, act: Option<Act>) -> Result<(), N
     requires room { passed.old < 4096 }
     ensures acts { OnOk result (acts.new.items ≡ acts.old.items ++ acts_from act) }
     ensures passed { OnOk result (passed.new ≡ passed.old + passed_from act) }
+    ensures wanting { OnErr result (IsSome act) }
 {
     match act {
         Some(act) => acts.push(act)?,

@@ -3,7 +3,7 @@
 //!
 //! The definitions that the contracts cite: `lines_of` and `judged` (`specs/Grammar.antt`), `form_of`
 //! (`specs/Words.antt`), `first_piece` (`specs/Pieces.antt`), `digits_of` (`specs/Hexadecimal.antt`), and
-//! `IsReading` (`specs/Acts.antt`).
+//! `IsReading` and `AsksRoom` (`specs/Acts.antt`).
 #![tactic(auto)]
 
 mod acts;

@@ -24,7 +24,7 @@ use Rattle.viewer_acts.specs.Parts.{joined}
 use Rattle.viewer_acts.specs.Doing.{Did, GoesOn}
 use Rattle.viewer_acts.proofs.Doings.{call_goes_on, goes_further, goes_nowhere}
 use Rattle.ws_tunnel.specs.Answered.{IsPartStopped, IsReadStopped, WasRead}
-use Rattle.ws_tunnel.specs.Runs.{AreCounted, HasRun, IsReadAt, IsSent, IsSentAt, IsWanting, IsWantingAt, LeftNow, Leaves, MayEnd, MessagesRun, WsCause, joined_texts}
+use Rattle.ws_tunnel.specs.Runs.{AreCounted, HasRun, IsReadAt, IsSent, IsSentAt, IsWanting, IsWantingAt, IsWantingBehind, LeftNow, Leaves, MayEnd, MessagesRun, WsCause, joined_texts}
 use Rattle.ws_tunnel.specs.declared.ends.WsEnd.{WsEnd}
 use Rattle.ws_tunnel.specs.declared.ends.WsEnd.TheVariants.{Ended, Disconnected, Refused, Bad, Cut, TooLong, LinkFault, Left, Worn, NoMemory}
 use Rattle.ws_tunnel.proofs.Going.{all_acts, all_parts, answered_last, answered_on, answered_placed_on, did_by, heard_all, joined_last, only_both, read_on, texts-append}
@@ -129,14 +129,17 @@ module _ (viewer : ℕ) (w w_now : View Entry) (goes : GoesOn w w_now) (start be
   read_stopped_on : IsReadStopped viewer written before w.seen → IsReadStopped viewer written_now start w_now.seen
   read_stopped_on s = record { found = s.found; later = later_trans start before s.found begins s.later; earlier = later_trans s.found w.seen w_now.seen s.earlier goes.later; all = s.all ∙ written_is; alone = s.alone }
 
-  wanting_at : (acts : List Act) → IsWantingAt acts viewer w.mine own written before w.seen → IsWantingAt acts viewer w_now.mine own_now written_now start w_now.seen
-  wanting_at acts (inl none) = inl none
-  wanting_at acts (inr (inl s)) = inr (inl (part_on s))
-  wanting_at acts (inr (inr (inl s))) = inr (inr (inl (read_stopped_on s)))
-  wanting_at acts (inr (inr (inr k))) = inr (inr (inr (k.0, later_trans start before k.0 begins k.1, subst (λ (es : List Entry). WasRead viewer es k.0 w_now.seen) written_is (read_on viewer written k.0 w.seen w_now.seen goes.later k.2))))
+  wanting_behind : IsWantingBehind viewer w.mine own written before w.seen → IsWantingBehind viewer w_now.mine own_now written_now start w_now.seen
+  wanting_behind (inl s) = inl (part_on s)
+  wanting_behind (inr (inl s)) = inr (inl (read_stopped_on s))
+  wanting_behind (inr (inr k)) = inr (inr (k.0, later_trans start before k.0 begins k.1, subst (λ (es : List Entry). WasRead viewer es k.0 w_now.seen) written_is (read_on viewer written k.0 w.seen w_now.seen goes.later k.2)))
+
+  wanting_at : (message : List ℕ) (acts : List Act) → IsWantingAt message acts viewer w.mine own written before w.seen → IsWantingAt message acts viewer w_now.mine own_now written_now start w_now.seen
+  wanting_at message acts (inl unlisted) = inl unlisted
+  wanting_at message acts (inr k) = inr (k.0, wanting_behind k.1)
 
   wanting_on : (end : WsEnd) (last : Option (List ℕ)) (acts : List Act) → IsWanting end last acts viewer w.mine own written before w.seen → IsWanting end last acts viewer w_now.mine own_now written_now start w_now.seen
-  wanting_on NoMemory (Some message) acts k = wanting_at acts k
+  wanting_on NoMemory (Some message) acts k = wanting_at message acts k
   wanting_on NoMemory None acts k = tt
   wanting_on Ended last acts k = tt
   wanting_on Disconnected last acts k = tt

@@ -19,7 +19,7 @@ use Rattle.turn_lock.specs.declared.view.View.{View}
 use Rattle.shared_desk.specs.Meetings.{written_by}
 use Rattle.shared_desk.specs.Members.{IsSound, ViewerState}
 use Rattle.shared_desk.specs.Own.{own_entries}
-use Rattle.script_grammar.specs.Acts.{HasTooMany, IsBad, IsCut}
+use Rattle.script_grammar.specs.Acts.{AsksRoom, HasTooMany, IsBad, IsCut}
 use Rattle.viewer_acts.specs.Parts.{AreParts, Part, joined}
 use Rattle.viewer_acts.specs.Doing.{Did, GoesOn, StopCause as PartCause, WritesParts}
 use Rattle.ws_tunnel.specs.Answered.{Answered, IsPartStopped, IsReadStopped, WasRead}
@@ -49,8 +49,8 @@ listed (Some message) = message ∷ []
 
 -- ---- the message at which it ended
 
--- its acts, by its bytes. At Bad, Cut and TooLong, and where memory was wanting while it was read, it has none. At
--- Disconnected it asks for the end, or the link was closed: none is left
+-- its acts, by its bytes; `IsWanting` tells them at NoMemory. At Bad, Cut and TooLong it has none. At Disconnected it asks
+-- for the end, or the link was closed: none is left
 abbrev pub EndsAt : WsEnd → Option (List (List ℕ)) → Option (List ℕ) → List Act → Type 0
 EndsAt Ended left (Some message) acts = IsMessage message acts × (asks_end acts ≡ false)
 EndsAt Ended left None acts = ⊥
@@ -69,7 +69,7 @@ EndsAt Left left (Some message) acts = IsMessage message acts
 EndsAt Left left None acts = ⊥
 EndsAt Worn left (Some message) acts = IsMessage message acts
 EndsAt Worn left None acts = ⊥
-EndsAt NoMemory left (Some message) acts = IsMessage message acts ⊎ (acts ≡ [])
+EndsAt NoMemory left (Some message) acts = Unit {0}
 EndsAt NoMemory left None acts = acts ≡ []
 
 -- of its acts up to the end that it asks, those that weren't done: none, but where one was refused
@@ -84,15 +84,22 @@ abbrev pub IsReadAt : WsEnd → ℕ → List Entry → History → Type 0
 IsReadAt Ended viewer gained seen = (found : History) × WasRead viewer gained found seen
 IsReadAt end viewer gained seen = Unit {0}
 
--- where memory was wanting at a message: in the list of its acts, of which none was done; in the call of a part of them; in
--- the read behind them; or in what its answer is sent by, once a read had found what they wrote
-abbrev pub IsWantingAt : List Act → ℕ → List ℕ → List Entry → List Entry → History → History → Type 0
-IsWantingAt acts viewer mine own written before seen =
-    (acts ≡ []) ⊎ (IsPartStopped viewer mine own before seen ⊎ (IsReadStopped viewer written before seen ⊎ ((found : History) × IsLater before found × WasRead viewer written found seen)))
+-- an act of the message asked room in the list of its acts, and none was done
+abbrev pub IsUnlisted : List ℕ → List Act → Type 0
+IsUnlisted message acts = AsksRoom message × (acts ≡ [])
+
+-- memory was wanting in the call of a part of a message's acts; in the read behind them; or in what its answer is sent by,
+-- once a read had found what they wrote
+abbrev pub IsWantingBehind : ℕ → List ℕ → List Entry → List Entry → History → History → Type 0
+IsWantingBehind viewer mine own written before seen = IsPartStopped viewer mine own before seen ⊎ (IsReadStopped viewer written before seen ⊎ ((found : History) × IsLater before found × WasRead viewer written found seen))
+
+-- where it was wanting at a message: in the list of its acts, or once they were read
+abbrev pub IsWantingAt : List ℕ → List Act → ℕ → List ℕ → List Entry → List Entry → History → History → Type 0
+IsWantingAt message acts viewer mine own written before seen = IsUnlisted message acts ⊎ (IsMessage message acts × IsWantingBehind viewer mine own written before seen)
 
 -- .. at NoMemory. Where none came it was wanting in the buffer for the next
 abbrev pub IsWanting : WsEnd → Option (List ℕ) → List Act → ℕ → List ℕ → List Entry → List Entry → History → History → Type 0
-IsWanting NoMemory (Some message) acts viewer mine own written before seen = IsWantingAt acts viewer mine own written before seen
+IsWanting NoMemory (Some message) acts viewer mine own written before seen = IsWantingAt message acts viewer mine own written before seen
 IsWanting end last acts viewer mine own written before seen = Unit {0}
 
 -- so many answers were sent to messages of which so many were answered before the last
@@ -282,7 +289,7 @@ abbrev pub IsUnread : WsEnd → List ℕ → Type 0
 IsUnread (Bad at) message = IsBad message at
 IsUnread (Cut place) message = IsCut message place
 IsUnread TooLong message = HasTooMany message
-IsUnread NoMemory message = Unit {0}
+IsUnread NoMemory message = AsksRoom message
 IsUnread end message = ⊥
 
 abbrev pub HasRead : List ℕ → Result (List Act) WsEnd → Type 0

@@ -209,7 +209,7 @@ where
     D: Door<Place = Place>,
     B: Bell,
     ensures served { Exchanges (M.left link.old) (M.left link.new) (M.sent link.old) (M.sent link.new) (λ received sent. HasServed result (M.left link.new) received sent) }
-    ensures asked { AsksDoor D.id_of (Grants D.id_of (D.begun door.new) (D.joined door.new)) (D.view door.old) (D.view door.new) (M.left link.old) result }
+    ensures asked { AsksDoor D.id_of (Grants (D.begun door.new) (D.joined door.new)) (D.view door.old) (D.view door.new) (M.left link.old) result }
     ensures faults { CountsFault (result.end ≡ ends.LinkFault) (M.faults link.old) (M.faults link.new) }
 {
     match open(rt, alloc, link, door) {
