@@ -1,8 +1,8 @@
 -- Bytes that are fed, what is given of them, and how `clip` ends.
-use Rattle.std.proofs.Common.{◌≡◌, ℕ, ◌+◌, ◌-◌, ◌<◌, ◌≤◌, List, [], ◌++◌, length, length-append, length-take, take, drop, ◌⊎◌, inl, inr, refl, ap, sym, ◌∙◌, subst, arith, append_assoc, append-nil}
+use Rattle.std.proofs.Common.{◌≡◌, ℕ, ◌+◌, ◌-◌, ◌<◌, ◌≤◌, List, [], ◌++◌, length, length-append, take, drop, ◌⊎◌, inl, inr, refl, ap, sym, ◌∙◌, subst, arith, append_assoc, append-nil}
 use Rattle.std.proofs.lemmas.List.{take-append-drop, take-take, take_all, take_min, length-take-le}
 use Rattle.std.proofs.Math.Seq.{take-add, take-append-add}
-use Rattle.std.specs.Prelude.{Option, Result, Ok, Err, min}
+use Rattle.std.specs.Prelude.{Option, Ok, Err, min}
 use Rattle.clip_stream.specs.Pasted.{pasted}
 use Rattle.clip_stream.specs.Sources.{Gave, IsOver, rest_of}
 use Rattle.clip_stream.specs.declared.paster.Paster.{Paster}

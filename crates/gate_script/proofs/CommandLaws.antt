@@ -1,11 +1,10 @@
 -- What each status says, from how the run ended and what its last answer wrote.
 use Rattle.std.proofs.Common.{◌≡◌, ℕ, ◌≤◌, List, [], ◌∷◌, ◌++◌, ◌⊎◌, inl, inr, take, refl, ap, sym, ◌∙◌, subst, append_assoc, arith}
-use Rattle.std.specs.Prelude.{Option, Some, None, Result, Ok, Err}
+use Rattle.std.specs.Prelude.{Option, Result, Ok, Err}
 use Rattle.gate_model.specs.Sequences.{IsLater}
 use Rattle.gate_outside.specs.Edge.{AtEnd, Rose, came, gained}
 use Rattle.gate_outside.proofs.Moved.{gained-gained, came-none}
 use Rattle.script_grammar.specs.declared.text_form.TextForm.{TextForm}
-use Rattle.script_grammar.specs.declared.text_form.TextForm.TheVariants.{Draw, Script}
 use Rattle.gate_script.specs.declared.refused.Refused.{Refused as Refusal}
 use Rattle.gate_script.specs.declared.refused.Refused.TheVariants.{BadLine, Worn}
 use Rattle.gate_script.specs.declared.stop.Stop.{Stop}

@@ -1,13 +1,11 @@
 -- What each status says of a load.
 use Rattle.std.proofs.Common.{◌≡◌, ℕ, ◌≤◌, List, [], ◌∷◌, ◌⊎◌, inl, inr, refl, ap, sym, ◌∙◌, subst, arith}
 use Rattle.std.specs.Prelude.{◌↔◌, Option, Some, None, Result, Ok, Err}
-use Rattle.gate_outside.specs.Edge.{Rose, gained}
 use Rattle.gate_outside.proofs.Moved.{came-none}
 use Rattle.script_grammar.specs.declared.form.Form.{Form}
 use Rattle.script_grammar.specs.declared.form.Form.TheVariants.{Text, Load}
 use Rattle.script_grammar.specs.declared.text_form.TextForm.{TextForm}
 use Rattle.script_grammar.specs.declared.order.Order.{Order}
-use Rattle.gate_script.specs.declared.refused.Refused.TheVariants.{BadLine, Worn}
 use Rattle.gate_script.specs.declared.stop.Stop.{Stop}
 use Rattle.gate_script.specs.declared.stop.Stop.TheVariants.{ReadFault, WriteFault, NoMemory, Refused}
 use Rattle.gate_script.specs.Outcomes.{IsStatus, LinesOutcome, LoadCutShort, LoadHalted, LoadOutcome, Loaded, Outcome, Ran, WroteSo}

@@ -1,7 +1,7 @@
 -- What each line of a load does: it adds one entry at most, and to the totals what its kind says. And no line of a
 -- load is refused.
-use Rattle.std.proofs.Common.{◌≡◌, ℕ, zero, suc, ◌+◌, ◌-◌, ◌<◌, ◌≤◌, ◌^◌, List, [], ◌∷◌, ◌++◌, ◌⊎◌, inl, inr, length, take, drop, map, reverse, Bool, true, false, refl, ap, sym, ◌∙◌, subst, append-nil, append_assoc, add-one, arith, length-append, length-take, length-drop}
-use Rattle.std.specs.Prelude.{Result, Ok, Err, All, Option, Some, None, OnOk, ◌||◌, ◌&&◌, not, count_by, ◌==◌, nat_le, if◌then◌else◌, slice_index_or}
+use Rattle.std.proofs.Common.{◌≡◌, ℕ, zero, suc, ◌+◌, ◌-◌, ◌<◌, ◌≤◌, ◌^◌, List, [], ◌∷◌, ◌++◌, ◌⊎◌, inl, inr, length, take, drop, map, Bool, true, false, refl, ap, sym, ◌∙◌, subst, append-nil, append_assoc, add-one, arith, length-append, length-take, length-drop}
+use Rattle.std.specs.Prelude.{Result, Ok, Err, All, Option, Some, None, OnOk, ◌||◌, ◌&&◌, count_by, ◌==◌, if◌then◌else◌, slice_index_or}
 use Rattle.std.specs.List.{list_any}
 use Rattle.std.specs.Option.{is_some, option_map}
 use Rattle.std.proofs.lemmas.Bool.{leb-true}
@@ -14,7 +14,7 @@ use Rattle.gate_model.specs.declared.answer.Answer.TheVariants.{Feed as fed, Joi
 use Rattle.gate_model.specs.declared.cause.Cause.{Cause}
 use Rattle.gate_model.specs.declared.closed.Closed.{Closed}
 use Rattle.gate_model.specs.declared.entry.Entry.{Entry}
-use Rattle.gate_model.specs.declared.entry.Entry.TheVariants.{Start, Feed, Join, Read, Write, Take, Leave, Close}
+use Rattle.gate_model.specs.declared.entry.Entry.TheVariants.{Take}
 use Rattle.gate_model.specs.declared.event.Event.{Event}
 use Rattle.gate_model.specs.declared.event.Event.TheVariants.{Feed as feed, Join as join_in, Read as read_as, Write as write_acts, Resize as resize_to, Take as take_most, Leave as leave_as, Close as close_for}
 use Rattle.gate_model.specs.declared.feed_refusal.FeedRefusal.TheVariants.{Closed as feed_closed, Worn as feed_worn}
@@ -22,7 +22,6 @@ use Rattle.gate_model.specs.declared.join_refusal.JoinRefusal.TheVariants.{Close
 use Rattle.gate_model.specs.declared.no_viewer.NoViewer.{NoViewer}
 use Rattle.gate_model.specs.declared.read_answer.ReadAnswer.TheVariants.{Ended, Empty, Hold}
 use Rattle.gate_model.specs.declared.read_refusal.ReadRefusal.TheVariants.{NoViewer as read_no_viewer, Worn as read_worn}
-use Rattle.gate_model.specs.declared.setup.Setup.{Setup}
 use Rattle.gate_model.specs.declared.sharing.Asked.{Asked}
 use Rattle.gate_model.specs.declared.sharing.Share.{Share}
 use Rattle.gate_model.specs.declared.resize_refusal.ResizeRefusal.TheVariants.{NoViewer as resize_no_viewer, Closed as resize_closed, Denied, Same, Worn as resize_worn}
@@ -30,7 +29,7 @@ use Rattle.gate_model.specs.declared.write_refusal.WriteRefusal.TheVariants.{NoV
 use Rattle.gate_model.specs.session.Calls.{Step, stop_of, take_entry}
 use Rattle.gate_model.specs.session.History.{History, capacity, is_full}
 use Rattle.gate_model.specs.session.Output.{out, taken, untaken}
-use Rattle.gate_model.specs.session.Refusals.{close_cause, first_of, only_if, feed_refusal, join_refusal, read_stop, write_refusal, leave_refusal, close_refusal}
+use Rattle.gate_model.specs.session.Refusals.{first_of, only_if}
 use Rattle.script_grammar.specs.declared.line.Line.{Line}
 use Rattle.script_grammar.specs.declared.line.Line.TheVariants.{Blank as blank, Bad as bad, At as moment, Start as start, Server as server, Join as join, Read as read, Write as write, Resize as resize, Take as take_up_to, Leave as leave, Close as close, Pixel as pixel, Same as same, Acknowledge as acknowledge, Done as done, Press as press_key, Totals as tell_totals}
 use Rattle.script_grammar.specs.declared.order.Order.{Order}
@@ -48,16 +47,15 @@ use Rattle.gate_script.specs.declared.load.Load.{Load}
 use Rattle.gate_script.specs.declared.refused.Refused.{Refused as Refusal}
 use Rattle.gate_script.specs.declared.refused.Refused.TheVariants.{BadLine, Worn}
 use Rattle.gate_script.specs.declared.run.Run.{Run}
-use Rattle.gate_script.specs.declared.session.Session.{Session}
 use Rattle.gate_script.specs.declared.stop.Stop.{Stop}
 use Rattle.gate_script.specs.declared.stop.Stop.TheVariants.{ReadFault, WriteFault, NoMemory, Refused}
 use Rattle.gate_script.specs.Told.{worn_by}
-use Rattle.gate_script.specs.Plays.{AreTotals, Answers, Begins, Calls, Does, Play, Plays, Writes, acknowledgement, event_of, feeds, is_press, press, presses}
-use Rattle.gate_script.specs.Outcomes.{Answered, IsRefused, IsTooLong, Makes}
+use Rattle.gate_script.specs.Plays.{AreTotals, Calls, Does, Play, Plays, Writes, acknowledgement, feeds, is_press, press, presses}
+use Rattle.gate_script.specs.Outcomes.{IsRefused, IsTooLong, Makes}
 use Rattle.gate_script.specs.Sinks.{Sinks}
 use Rattle.gate_script.specs.declared.sight.Sight.TheVariants.{Played}
-use Rattle.gate_script.specs.Running.{AllDone, At, Ends, Goes, RefusedOf, StandsAt, StoppedIn}
-use Rattle.gate_script.specs.Loading.{AreLoads, IsLevel, LoadAt, LoadEnds, LoadStopped, MayFollow, TotalsEnd, counted, is_some_list, kind_of, takes_behind}
+use Rattle.gate_script.specs.Running.{At, Ends, Goes, StoppedIn}
+use Rattle.gate_script.specs.Loading.{AreLoads, IsLevel, LoadAt, LoadStopped, MayFollow, TotalsEnd, counted, is_some_list, kind_of, takes_behind}
 use Rattle.gate_script.proofs.OneFault.{line_adds}
 use Rattle.gate_script.proofs.RunLaws.{none_done, nothing_done, stopped-later}
 use Rattle.gate_script.proofs.StepLaws.{take_is}

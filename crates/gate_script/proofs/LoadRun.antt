@@ -1,12 +1,12 @@
 -- A whole load: what was done is some first orders of all.
-use Rattle.std.proofs.Common.{◌≡◌, ℕ, zero, suc, ◌+◌, ◌≤◌, List, [], ◌∷◌, ◌++◌, map, reverse, Bool, true, false, refl, ap, sym, ◌∙◌, subst, append_assoc, add-one, arith}
+use Rattle.std.proofs.Common.{◌≡◌, ℕ, zero, suc, ◌+◌, ◌≤◌, List, [], ◌∷◌, ◌++◌, map, reverse, Bool, true, false, refl, ap, sym, ◌∙◌, subst, add-one, arith}
 use Rattle.std.specs.Prelude.{Result, Ok, Err, nat_le}
 use Rattle.std.proofs.lemmas.Bool.{leb-true, leb-false}
 use Rattle.gate_model.specs.Sequences.{IsLater}
 use Rattle.gate_model.specs.session.History.{History}
 use Rattle.gate_model.specs.session.Output.{untaken}
 use Rattle.script_grammar.specs.declared.line.Line.{Line}
-use Rattle.script_grammar.specs.declared.line.Line.TheVariants.{Take as take_up_to, Totals as tell_totals}
+use Rattle.script_grammar.specs.declared.line.Line.TheVariants.{Totals as tell_totals}
 use Rattle.script_grammar.specs.declared.order.Order.{Order}
 use Rattle.script_grammar.specs.declared.order.Order.TheVariants.{Told, Untold}
 use Rattle.script_grammar.specs.declared.totals.Totals.{Totals}
@@ -21,10 +21,8 @@ use Rattle.gate_script.specs.Plays.{AreTotals}
 use Rattle.gate_script.specs.Sinks.{Sinks}
 use Rattle.gate_script.specs.Running.{Told as all_told}
 use Rattle.gate_script.specs.Loading.{LoadAt, LoadRunEnds, LoadStopped, LoadTaken, TotalsEnd, takes_behind}
+use Rattle.gate_script.proofs.OneRun.{later_still}
 use Rattle.gate_script.proofs.LoadLaws.{no_memory_behind, stopped_more, takes_are}
-
-later : (xs ys zs : List Order) → IsLater xs ys → IsLater ys zs → IsLater xs zs
-later xs ys zs p q = (q.0 ++ p.0, q.1 ∙ (ap (λ (l : List Order). q.0 ++ l) p.1 ∙ sym (append_assoc q.0 p.0 xs)))
 
 -- nothing was counted
 none_counted : Totals
@@ -32,7 +30,7 @@ none_counted = record { feeds = 0; keys = 0; out = 0 }
 
 module _ (word : Words) where
   one_later : (xs : List Order) (n : ℕ) → IsLater xs (rounds_done word n) → IsLater xs (rounds_done word (suc n))
-  one_later xs n p = later xs (rounds_done word n) (rounds_done word (suc n)) p (map Untold (reverse (round_lines word (n + 1) (stand_after word n))), refl)
+  one_later xs n p = later_still xs (rounds_done word n) (rounds_done word (suc n)) p (map Untold (reverse (round_lines word (n + 1) (stand_after word n))), refl)
 
   rounds_later : (k rounds : ℕ) → k ≤ rounds → IsLater (rounds_done word k) (rounds_done word rounds)
   rounds_later k zero le =
@@ -50,7 +48,7 @@ module _ (word : Words) where
   -- so many rounds are some first ones of all, and of the turn behind them
   pub turn_later : (k rounds : ℕ) → k ≤ rounds → IsLater (rounds_done word k) (takes_done word rounds 0)
   turn_later k rounds le =
-      later (rounds_done word k) (rounds_done word rounds) (takes_done word rounds 0) (rounds_later k rounds le) (map Untold (reverse (turn (stand_after word rounds).others)), refl)
+      later_still (rounds_done word k) (rounds_done word rounds) (takes_done word rounds 0) (rounds_later k rounds le) (map Untold (reverse (turn (stand_after word rounds).others)), refl)
 
 -- the lines that were drawn are those of the next round, and of the turn behind the last one
 pub one_round : (seed k : ℕ) (r : Rounds) (lines : List Line) → r.seed ≡ seed → r.round ≡ k → lines ≡ round_lines (drawn r.seed) (r.round + 1) (stand_of r) → untold lines (rounds_done (drawn seed) k) ≡ rounds_done (drawn seed) (k + 1)
@@ -75,7 +73,7 @@ module _ (seed rounds : ℕ) (b n : Sinks) where
   -- .. in some first orders
   stopped_in : (orders : List Order) (takes : ℕ) → IsLater orders (takes_done (drawn seed) rounds takes) → (stop : Stop) → LoadStopped orders stop b n → LoadRunEnds seed rounds (Err stop) b n
   stopped_in orders takes first stop s =
-      (takes, none_counted, stopped_more orders (load_orders (drawn seed) rounds takes none_counted) stop b n (later orders (takes_done (drawn seed) rounds takes) (load_orders (drawn seed) rounds takes none_counted) first (Told (tell_totals none_counted) ∷ [], refl)) s)
+      (takes, none_counted, stopped_more orders (load_orders (drawn seed) rounds takes none_counted) stop b n (later_still orders (takes_done (drawn seed) rounds takes) (load_orders (drawn seed) rounds takes none_counted) first (Told (tell_totals none_counted) ∷ [], refl)) s)
 
   -- .. before the first round
   pub stopped_in_open : (stop : Stop) → LoadStopped load_begins stop b n → LoadRunEnds seed rounds (Err stop) b n

@@ -40,7 +40,7 @@ use Rattle.gate_script.specs.Told.{answer_to, worn_by, write_answer}
 use Rattle.gate_script.proofs.InputLaws.{ending-later, lines-later}
 use Rattle.gate_script.proofs.OnePlay.{IsOne, behind, does_same, plays_same}
 use Rattle.gate_script.proofs.OneReading.{reading_same}
-use Rattle.gate_script.proofs.OneStep.{some_answer}
+use Rattle.gate_script.proofs.OneStep.{not_both, some_answer}
 use Rattle.gate_script.proofs.OneAnswer.{silent}
 use Rattle.gate_script.proofs.TakenLaws.{taken_first}
 
@@ -84,7 +84,7 @@ interrupted_once form bytes a b f one other =
 
 -- ---- first orders of the same orders
 
-later_still : (xs ys zs : List Order) → IsLater xs ys → IsLater ys zs → IsLater xs zs
+pub later_still : (xs ys zs : List Order) → IsLater xs ys → IsLater ys zs → IsLater xs zs
 later_still xs ys zs p q = (q.0 ++ p.0, q.1 ∙ (ap (λ (l : List Order). q.0 ++ l) p.1 ∙ sym (append_assoc q.0 p.0 xs)))
 
 whole_are_first : (form : TextForm) (bytes : List ℕ) → IsLater (whole_lines form bytes) (all_lines form bytes)
@@ -153,9 +153,6 @@ began (order ∷ more) orders q a f bytes w =
     moved (untold line) answer rest first p q own_f t e does before = absurd t
 
 -- ---- a refused order
-
-not_both : {A : Type 0} → (r : Answer) (o : Option Answer) → o ≡ Some r → o ≡ None → A
-not_both r o e f = absurd (let w : Some r ≡ None = sym e ∙ f in cc)
 
 -- a call that was refused isn't answered otherwise
 answered_once : (h : History) (event : Event) (r s : Answer) (added : List Entry) → Step h event r [] → Step h event s added → r ≡ s

@@ -98,7 +98,7 @@ alone h a b x y e = ap (λ (l : List ℕ). l ++ x) (sym (append-nil (framing h a
 pub some_answer : (r s : Answer) → Some r ≡ Some s → r ≡ s
 some_answer r s e = cc
 
-not_both : {A : Type 0} → (r : Answer) (o : Option Answer) → o ≡ Some r → o ≡ None → A
+pub not_both : {A : Type 0} → (r : Answer) (o : Option Answer) → o ≡ Some r → o ≡ None → A
 not_both r o e f = absurd (let w : Some r ≡ None = sym e ∙ f in cc)
 
 pub step_same : (h : History) (event : Event) (r s : Answer) (added others : List Entry) (x y : List ℕ) → Step h event r added → Step h event s others → framings h added ++ x ≡ framings h others ++ y → (r ≡ s) × (added ≡ others)

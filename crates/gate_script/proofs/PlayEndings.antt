@@ -2,7 +2,7 @@
 use Rattle.std.proofs.Common.{◌≡◌, ℕ, ◌<◌, List, [], ◌⊎◌, inl, inr, length, take, refl, sym, ◌∙◌, subst, arith}
 use Rattle.std.specs.Prelude.{Option}
 use Rattle.gate_model.specs.Sequences.{BeginsWith}
-use Rattle.gate_outside.specs.Edge.{AtEnd, came, gained}
+use Rattle.gate_outside.specs.Edge.{AtEnd, came}
 use Rattle.gate_outside.proofs.Moved.{gained-none}
 use Rattle.record_play.specs.Recorded.{most_recorded}
 use Rattle.script_grammar.specs.declared.form.Form.TheVariants.{Play}

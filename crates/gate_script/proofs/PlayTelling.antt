@@ -1,5 +1,5 @@
 -- What `play` tells of a recording that was read.
-use Rattle.std.proofs.Common.{◌≡◌, ℕ, ◌<◌, List, length, refl, ap, sym, ◌∙◌, subst}
+use Rattle.std.proofs.Common.{◌≡◌, ℕ, ◌<◌, List, length, ap, sym, ◌∙◌, subst}
 use Rattle.std.specs.Prelude.{Bool, Option, Result, Ok, Err, IfOk, get_or, slice_index_or}
 use Rattle.std.proofs.lemmas.List.{get_or_default}
 use Rattle.gate_model.specs.picture.Layers.{Layers, draw, nothing, visible}

@@ -1,7 +1,6 @@
 -- Canvases that show the same.
 use Rattle.std.proofs.Common.{◌≡◌, ℕ, ◌<◌, List, length, Bool, true, false, refl, sym, ◌∙◌, subst}
 use Rattle.std.specs.Prelude.{◌↔◌, ◌&&◌, Option, Some, None, IfSome, IsTrue, slice_index_or}
-use Rattle.std.specs.Option.{is_some}
 use Rattle.std.proofs.lemmas.List.{get_or_default}
 use Rattle.gate_model.specs.picture.Layers.{Layers, Same}
 use Rattle.canvas.specs.Kept.{KeptLayer}

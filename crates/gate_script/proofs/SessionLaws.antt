@@ -65,8 +65,7 @@ use Rattle.canvas.specs.Standing.{Stands as stands_for, dot_at}
 use Rattle.canvas.specs.declared.dot.Dot.{Dot}
 use Rattle.script_grammar.specs.declared.reading.Reading.TheVariants.{Whole}
 use Rattle.script_grammar.specs.Acts.{IsReading}
-use Rattle.gate_model.specs.picture.Shape.{AreReadable}
-use Rattle.gate_model.specs.picture.Layers.{Layers, Same, draw, nothing, visible}
+use Rattle.gate_model.specs.picture.Layers.{Layers, Same, visible}
 use Rattle.gate_script.specs.declared.session.Session.{Session}
 use Rattle.script_grammar.specs.declared.totals.Totals.{Totals}
 use Rattle.std.proofs.lemmas.Bool.{leb-true, leb-false}

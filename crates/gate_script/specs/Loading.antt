@@ -19,7 +19,7 @@ use Rattle.gate_script.specs.declared.load.Load.{Load}
 use Rattle.gate_script.specs.declared.sight.Sight.TheVariants.{Played}
 use Rattle.gate_script.specs.declared.stop.Stop.{Stop}
 use Rattle.gate_script.specs.declared.stop.Stop.TheVariants.{Refused}
-use Rattle.gate_script.specs.Plays.{AreTotals, feeds, presses}
+use Rattle.gate_script.specs.Plays.{AreTotals, feeds}
 use Rattle.gate_script.specs.Sinks.{Sinks}
 use Rattle.gate_script.specs.Running.{AllDone, At, StoppedIn}
 

@@ -1,5 +1,5 @@
 -- What is pasted is typed from the byte on that was looked at.
-use Rattle.std.proofs.Common.{◌≡◌, ◌<◌, ℕ, List, [], ◌∷◌, ◌++◌, Bool, Option, Some, None, take, refl, ap, sym, ◌∙◌, arith}
+use Rattle.std.proofs.Common.{◌≡◌, ◌<◌, ℕ, List, [], ◌∷◌, ◌++◌, Bool, Option, Some, None, refl, ap, sym, ◌∙◌}
 use Rattle.std.specs.Prelude.{option_map}
 use Rattle.clip_stream.specs.Pasted.{pasted}
 use Rattle.clip_stream.specs.Sources.{IsOver, on_left, rest_of}

@@ -1,5 +1,5 @@
 -- How `serve` ends, by the words of its options (this project's own).
-use Rattle.std.specs.Prelude.{◌≡◌, ◌⊎◌, ℕ, List, Option, None}
+use Rattle.std.specs.Prelude.{◌≡◌, ◌⊎◌, ℕ, List, None}
 use Rattle.serve_options.specs.Given.{options_given}
 
 -- it ends with 2, 6 or 8 alone. Options that are faulty are told by 2, or for want of memory by 6; 2 tells nothing else,

@@ -1,5 +1,5 @@
 -- What the program has done, by its words and its status (this project's own).
-use Rattle.std.specs.Prelude.{◌≡◌, ◌↔◌, ℕ, List, Option, Some, None}
+use Rattle.std.specs.Prelude.{◌≡◌, ◌↔◌, ℕ, List, Some, None}
 use Rattle.script_grammar.specs.declared.form.Form.{Form}
 use Rattle.script_grammar.specs.Words.{form_of}
 

@@ -11,5 +11,5 @@ pub mod Telling
 pub mod InMemory
 mod Askable
 mod AskFacts
-mod Undone
+pub mod Undone
 pub mod PairLaws

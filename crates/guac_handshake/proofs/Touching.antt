@@ -29,7 +29,7 @@ told_as None (Some n) P Q f t = absurd t
 told_as (Some m) None P Q f t = absurd t
 told_as (Some m) (Some n) P Q f t = f m n t
 
-told_on : (o p q : Option Sessions) (P Q R : Sessions → Sessions → Type 0) → ((m n l : Sessions) → P m n → Q n l → R m l) → Told o p P → Told p q Q → Told o q R
+pub told_on : (o p q : Option Sessions) (P Q R : Sessions → Sessions → Type 0) → ((m n l : Sessions) → P m n → Q n l → R m l) → Told o p P → Told p q Q → Told o q R
 told_on None None None P Q R f t u = tt
 told_on None None (Some l) P Q R f t u = absurd u
 told_on None (Some n) q P Q R f t u = absurd t
@@ -44,7 +44,7 @@ same_id None (Some w) e = cc
 same_id (Some v) None e = cc
 same_id (Some v) (Some w) e = tt
 
-id_on : {V : Type 0} (a b c : Option V) → SameId a b → SameId b c → SameId a c
+pub id_on : {V : Type 0} (a b c : Option V) → SameId a b → SameId b c → SameId a c
 id_on None None None h k = tt
 id_on None None (Some w) h k = absurd k
 id_on None (Some v) c h k = absurd h

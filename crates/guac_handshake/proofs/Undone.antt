@@ -11,7 +11,7 @@ bool_cases true = inl refl
 bool_cases false = inr refl
 
 -- an ID is this one or another
-by_id : (k id : List ℕ) (P : Type 0) → (k ≡ id → P) → (k ≢ id → P) → P
+pub by_id : (k id : List ℕ) (P : Type 0) → (k ≡ id → P) → (k ≢ id → P) → P
 by_id k id P same other = ⊎_elim
     (λ yes. same ((bytes_eq-Decides k id).0 yes))
     (λ no. other (λ e. true≢false (sym ((bytes_eq-Decides k id).1 e) ∙ no)))

@@ -243,8 +243,8 @@ pub data AskedAsWished (wish : Wish) (asked_before asked_now : Option (List Requ
   Unasked : asked_now ≡ asked_before → AskedAsWished wish asked_before asked_now
   Wished : (request : Request) → wish ≡ Wants request → asked_now ≡ asked_more asked_before request → AskedAsWished wish asked_before asked_now
 
--- how a greeting ended, by what a door may refuse, which ID it may name and what it says where it gives, and what was wished, left unread,
--- written and asked
+-- how a greeting ended, by what a door may refuse, which ID it may name and what it says where it gives, and what was
+-- wished, left unread, written and asked
 abbrev pub Ends : {P : Type 0} → (Request → Refused → Type 0) → (Request → List ℕ → Type 0) → (Request → Welcome P → Type 0) → Wish → List ℕ → List ℕ → Option (List ℕ) → Option (List ℕ) → Option (List ℕ) → Option (List Request) → Option (List Request) → Greeted P → Type 0
 Ends May Named Gives wish args rest left before now asked_before asked_now (greeted.Ready welcome) = (request : Request) × (wish ≡ Wants request) × (now ≡ gained before (args ++ ready_text welcome.id)) × (asked_now ≡ asked_more asked_before request) × Named request welcome.id × Gives request welcome
 Ends May Named Gives wish args rest left before now asked_before asked_now (greeted.Refused status) = (now ≡ gained before (args ++ error_text status)) × RefusedFor May wish rest status asked_before asked_now

@@ -1,6 +1,6 @@
 -- What the steps of a request for a tunnel come to.
 use Rattle.std.proofs.Common.{◌≡◌, ◌⊎◌, inl, inr, ℕ, ◌+◌, ◌-◌, ◌<◌, List, [], ◌++◌, length, refl, ap, sym, ◌∙◌, subst, arith}
-use Rattle.std.specs.Prelude.{Option, Some, None, IfSome, is_some, Result, Ok, Err, IsOk, OnErr, is_ok, if◌then◌else◌}
+use Rattle.std.specs.Prelude.{Option, Some, None, IfSome, Result, Ok, Err, IsOk, OnErr, is_ok, if◌then◌else◌}
 use Rattle.std.specs.Option.{option_map}
 use Rattle.gate_outside.specs.Helpers.{CountsFaults, HelperView}
 use Rattle.guac_handshake.specs.Doors.{option_less}
@@ -14,7 +14,7 @@ use Rattle.guac_handshake.specs.declared.refused.Refused.TheVariants as door
 use Rattle.guac_handshake.specs.declared.welcome.Welcome.{Welcome}
 use Rattle.id_table.specs.Draws.{AreNext, AreThere, IsFirstAbsent}
 use Rattle.id_table.specs.Maps.{Changed, Same, Shelved, Told}
-use Rattle.id_table.specs.Refused.{IfConflict, value_of}
+use Rattle.id_table.specs.Refused.{IfConflict}
 use Rattle.id_table.specs.declared.add_refusal.AddRefusal.{AddRefusal}
 use Rattle.id_table.specs.declared.add_refusal.AddRefusal.TheVariants as refusal
 use Rattle.shared_desk.specs.declared.place.Place.{Place}

@@ -1,12 +1,12 @@
 -- What one look of a reader's pass comes to, and two of them.
-use Rattle.std.proofs.Common.{◌≡◌, ◌⊎◌, ℕ, ◌+◌, ◌≤◌, List, [], ◌∷◌, ◌++◌, length, Bool, true, false, inl, inr, refl, ap, sym, ◌∙◌, subst, append_assoc, arith}
+use Rattle.std.proofs.Common.{◌≡◌, ◌⊎◌, ℕ, ◌+◌, ◌≤◌, List, [], ◌∷◌, ◌++◌, length, Bool, true, false, inl, inr, refl, ap, sym, ◌∙◌, subst, append-nil, append_assoc, length-append, arith}
 use Rattle.std.specs.Prelude.{Option, Some, None, Result, Ok, Err, Contains, not, ◌&&◌, ◌||◌, ◌==◌, nat_lt, if◌then◌else◌}
 use Rattle.std.specs.Option.{option_map}
 use Rattle.std.proofs.lemmas.Bool.{eq-eqb, eqb-true}
 use Rattle.turn_lock.proofs.Elements.{contains_head, contains_tail, later_trans}
 use Rattle.gate_model.specs.declared.answer.Answer.TheVariants.{Read as was_read}
 use Rattle.gate_model.specs.declared.entry.Entry.{Entry}
-use Rattle.gate_model.specs.declared.entry.Entry.TheVariants.{Start, Feed, Size, Join, Read, Write, Take, Leave, Close}
+use Rattle.gate_model.specs.declared.entry.Entry.TheVariants.{Read}
 use Rattle.gate_model.specs.declared.event.Event.TheVariants.{Read as read}
 use Rattle.gate_model.specs.declared.how.How.{How}
 use Rattle.gate_model.specs.declared.how.How.TheVariants.{Suffix, Fresh as Picture}
@@ -17,7 +17,7 @@ use Rattle.gate_model.specs.declared.read_refusal.ReadRefusal.{ReadRefusal}
 use Rattle.gate_model.specs.declared.read_refusal.ReadRefusal.TheVariants.{NoViewer as read_no_viewer, Worn as read_worn, NoMemory as read_no_memory}
 use Rattle.gate_model.specs.session.Calls.{Step, Updates, stop_of, updated_as}
 use Rattle.gate_model.specs.session.Runs.{handed_out}
-use Rattle.gate_model.specs.session.Delivered.{closed_by, closing, delivered, ended, farewell_to, given, is_some_list, last_sync, position}
+use Rattle.gate_model.specs.session.Delivered.{delivered, ended, given, last_sync, position}
 use Rattle.gate_model.specs.session.History.{History, is_closed, is_full, newest}
 use Rattle.gate_model.specs.session.Refusals.{first_of, only_if, read_stop}
 use Rattle.gate_model.specs.session.Rights.{is_live}
@@ -28,10 +28,11 @@ use Rattle.gate_model.specs.text.Text.{text, texts}
 use Rattle.gate_model.specs.Sequences.{IsLater}
 use Rattle.gate_model.proofs.Truth.{facts_of, read_position}
 use Rattle.desk_core.specs.Calls.{read_answer}
+use Rattle.desk_core.proofs.FrameTexts.{texts-append}
 use Rattle.turn_lock.specs.declared.view.View.{View}
 use Rattle.shared_desk.specs.Called.{Answers, Gives, Turned, after_turn}
 use Rattle.shared_desk.specs.Own.{entries_at, is_place, own_entries}
-use Rattle.shared_desk.proofs.Lasting.{ReadOn, read_adds, turn_later, turn_sound}
+use Rattle.shared_desk.proofs.Lasting.{ReadOn, ended_as, mapped_read, read_adds, read_inj, turn_later, turn_sound}
 use Rattle.http_tunnel.specs.Reads.{EndCause, GivesNothing, HasLooked, HasRead, IsOneRead, IsWanting, LookCause, LooksNothing, TunnelCause, end_of, look_of, second}
 use Rattle.http_tunnel.specs.declared.reading.TunnelEnd.{TunnelEnd}
 use Rattle.http_tunnel.specs.declared.reading.TunnelEnd.TheVariants.{Open, Ended}
@@ -44,23 +45,15 @@ no_length : {A : Type 0} (xs : List A) → length xs ≡ 0 → xs ≡ []
 no_length {A} [] e = refl
 no_length {A} (x ∷ xs) e = absurd (omega (arith, e))
 
-length-append : {A : Type 0} (xs ys : List A) → length (xs ++ ys) ≡ length xs + length ys
-length-append {A} [] ys = omega arith
-length-append {A} (x ∷ xs) ys = let ih = length-append xs ys in omega (arith, ih)
-
 right_none : {A : Type 0} (xs ys : List A) → xs ++ ys ≡ xs → ys ≡ []
 right_none {A} xs ys e = no_length ys (omega (arith, length-append xs ys, ap length e))
 
 both_none : {A : Type 0} (xs ys : List A) → xs ++ ys ≡ [] → ys ≡ []
 both_none {A} xs ys e = no_length ys (omega (arith, length-append xs ys, ap length e))
 
-pub append_nil : {A : Type 0} (xs : List A) → xs ++ [] ≡ xs
-append_nil {A} [] = refl
-append_nil {A} (x ∷ xs) = ap (λ (ys : List A). x ∷ ys) (append_nil xs)
-
 -- what a viewer was given begins what it was given later
 later_given : (added g : History) (v : ℕ) → (m : List Instr) × (delivered (added ++ g) v ≡ delivered g v ++ m)
-later_given [] g v = ([], sym (append_nil (delivered g v)))
+later_given [] g v = ([], sym (append-nil (delivered g v)))
 later_given (e ∷ added) g v =
     let k = later_given added g v in
     let more = given (added ++ g) (delivered (added ++ g) v) v e in
@@ -110,13 +103,6 @@ unstopped false false false held full m n e = (refl, refl)
 unstopped_after : (h : History) (viewer : ℕ) → stops_after h viewer ≡ None → (ended h viewer ≡ false) × ((not (is_closed h) && position h viewer == newest h) ≡ false)
 unstopped_after h viewer e = unstopped (not (is_live h viewer)) (ended h viewer) (not (is_closed h) && position h viewer == newest h) (not (is_closed h) && nat_lt most_waiting (waiting h viewer)) (not (is_closed h) && is_full h) (waiting h viewer) (length h) e
 
-read_inj : (x y : Result ReadAnswer ReadRefusal) → was_read x ≡ was_read y → x ≡ y
-read_inj x y e = cc
-
-pub mapped_read : (o : Option (Result ReadAnswer ReadRefusal)) (r : Result ReadAnswer ReadRefusal) → option_map was_read o ≡ Some (was_read r) → o ≡ Some r
-mapped_read None r e = absurd (let w : None ≡ Some (was_read r) = e in cc)
-mapped_read (Some x) r e = ap Some (read_inj x r (let w : Some (was_read x) ≡ Some (was_read r) = e in cc))
-
 mapped_none : (o : Option (Result ReadAnswer ReadRefusal)) → option_map was_read o ≡ None → o ≡ None
 mapped_none None e = refl
 mapped_none (Some x) e = absurd (let w : Some (was_read x) ≡ None = e in cc)
@@ -144,36 +130,7 @@ stopped_nothing (Err read_no_memory) xs e = tt
 
 -- ---- a read that adds its entry
 
-not_some : (xs : List Instr) → is_some_list xs ≡ false → xs ≡ []
-not_some [] e = refl
-not_some (x ∷ xs) e = absurd (let z : true ≡ false = e in cc)
-
-some_last : (xs ys : List Instr) → is_some_list ys ≡ true → is_some_list (xs ++ ys) ≡ true
-some_last [] ys some = some
-some_last (x ∷ xs) ys some = refl
-
-closing_as : (g : History) (closed : Bool) → is_closed g ≡ closed → is_some_list (closing g) ≡ closed
-closing_as [] closed e = e
-closing_as (Start c r m t k n s f ∷ g) closed e = closing_as g closed e
-closing_as (Feed b s f ∷ g) closed e = closing_as g closed e
-closing_as (Size w c r s f ∷ g) closed e = closing_as g closed e
-closing_as (Join w role first ∷ g) closed e = closing_as g closed e
-closing_as (Read w how ∷ g) closed e = closing_as g closed e
-closing_as (Write w acts ∷ g) closed e = closing_as g closed e
-closing_as (Take n ∷ g) closed e = closing_as g closed e
-closing_as (Leave w ∷ g) closed e = closing_as g closed e
-closing_as (Close c ∷ g) closed e = e
-
 module _ (g : History) (viewer : ℕ) (how : How) where
-  own_closing : closed_by g viewer (Read viewer how) ≡ closing g
-  own_closing = ap (λ (b : Bool). if b then closing g else []) (eq-eqb viewer viewer refl)
-
-  -- its viewer is at its end where the session is closed
-  ended_as : (closed : Bool) → ended g viewer ≡ false → is_closed g ≡ closed → ended (Read viewer how ∷ g) viewer ≡ closed
-  ended_as closed before is =
-      ap (λ (xs : List Instr). is_some_list (xs ++ closed_by g viewer (Read viewer how))) (not_some (farewell_to g viewer) before)
-      ∙ (ap is_some_list own_closing ∙ closing_as g closed is)
-
   -- it gives something where the session is open and the viewer lacked something
   gave : Legal g → Updates g (position g viewer) how → (not (is_closed g) && position g viewer == newest g) ≡ false → is_closed g ≡ false → delivered (Read viewer how ∷ g) viewer ≡ delivered g viewer → ⊥
   gave legal updates lacks shut same =
@@ -184,15 +141,15 @@ module _ (g : History) (viewer : ℕ) (how : How) where
   added_cause : (first : History) → IsLater first g → Legal g → Updates g (position g viewer) how → stop_of g (read viewer) ≡ None → (more : List Instr) → delivered (Read viewer how ∷ g) viewer ≡ delivered first viewer ++ more
       → (closed : Bool) → is_closed g ≡ closed → TunnelCause (Ok (if closed then Ended else Open)) viewer (Read viewer how ∷ g) more
   added_cause first later legal updates stop more is true closed =
-      ended_as true (unstopped_after g viewer (mapped_none (read_stop g viewer) stop)).0 closed
+      ended_as g viewer how (unstopped_after g viewer (mapped_none (read_stop g viewer) stop)).0 ∙ closed
   added_cause first later legal updates stop more is false closed =
       let free = unstopped_after g viewer (mapped_none (read_stop g viewer) stop) in
       let k = later_given later.0 first viewer in
       let found : delivered g viewer ≡ delivered first viewer ++ k.0 = ap (λ (h : History). delivered h viewer) later.1 ∙ k.1 in
       let own = given g (delivered g viewer) viewer (Read viewer how) in
       let all : delivered (Read viewer how ∷ g) viewer ≡ delivered first viewer ++ (k.0 ++ own) = ap (λ (xs : List Instr). xs ++ own) found ∙ append_assoc (delivered first viewer) k.0 own in
-      let nothing : more ≡ [] → own ≡ [] = λ none. both_none k.0 own (right_none (delivered first viewer) (k.0 ++ own) (sym all ∙ (is ∙ (ap (λ (xs : List Instr). delivered first viewer ++ xs) none ∙ append_nil (delivered first viewer))))) in
-      (ended_as false free.0 closed, λ none. absurd (gave legal updates free.1 closed (ap (λ (xs : List Instr). delivered g viewer ++ xs) (nothing none) ∙ append_nil (delivered g viewer))))
+      let nothing : more ≡ [] → own ≡ [] = λ none. both_none k.0 own (right_none (delivered first viewer) (k.0 ++ own) (sym all ∙ (is ∙ (ap (λ (xs : List Instr). delivered first viewer ++ xs) none ∙ append-nil (delivered first viewer))))) in
+      (ended_as g viewer how free.0 ∙ closed, λ none. absurd (gave legal updates free.1 closed (ap (λ (xs : List Instr). delivered g viewer ++ xs) (nothing none) ∙ append-nil (delivered g viewer))))
 
 ended_or_open : (g : History) (viewer : ℕ) (how : How) → end_of (updated_as g viewer how) ≡ Some (if is_closed g then Ended else Open)
 ended_or_open g viewer Suffix = refl
@@ -246,7 +203,7 @@ module _ (v w : View Entry) (viewer : ℕ) (more : List Instr) (given_more : del
         few = inl refl;
         own = own_same v w _ t none;
         cause = subst (λ (h : History). LookCause (look_of r) viewer h more []) (sym seen) (stopped_cause t.before viewer more r s.1 (said_after t.before viewer r (mapped_read (read_stop t.before viewer) r s.1)));
-        nothing = stopped_nothing r (texts more) (right_none before (texts more) (sym wrote ∙ (t.did_it.1 ∙ (ap (λ (es : List Entry). before ++ texts (handed_out t.before (read viewer) (was_read r) es)) none ∙ append_nil before))));
+        nothing = stopped_nothing r (texts more) (right_none before (texts more) (sym wrote ∙ (t.did_it.1 ∙ (ap (λ (es : List Entry). before ++ texts (handed_out t.before (read viewer) (was_read r) es)) none ∙ append-nil before))));
       }
       by (e ∷ []) is s seen =
           let g = t.before in
@@ -321,10 +278,6 @@ module _ (viewer : ℕ) (v w : View Entry) (text : List ℕ) where
   -- want of memory comes with any text
   pub read_unmarked : (end : TunnelEnd) → HasRead viewer v w text (Ok end) → HasRead viewer v w text (Err NoMemory)
   read_unmarked end k = record { later = k.later; known = k.known; reads = k.reads; few = k.few; own = k.own; more = k.more; given = k.given; wrote = k.wrote; cause = inr (end, k.cause); refused = tt; sound = k.sound }
-
-texts-append : (xs ys : List Instr) → texts (xs ++ ys) ≡ texts xs ++ texts ys
-texts-append [] ys = refl
-texts-append (x ∷ xs) ys = ap (λ (bs : List ℕ). text x ++ bs) (texts-append xs ys) ∙ sym (append_assoc (text x) (texts xs) (texts ys))
 
 -- the first look gave nothing
 module _ (viewer : ℕ) (seen : History) (first more : List Instr) (none_first : texts first ≡ []) where

@@ -6,7 +6,7 @@ use Rattle.guac_handshake.specs.Opening.{HasMoved}
 use Rattle.guac_handshake.specs.Views.{DoorView, Gives}
 use Rattle.guac_handshake.specs.declared.form_refusal.FormRefusal.{FormRefusal}
 use Rattle.guac_handshake.specs.declared.welcome.Welcome.{Welcome}
-use Rattle.guac_handshake.proofs.Touching.{moved_none as unasked}
+use Rattle.guac_handshake.proofs.Touching.{id_on, moved_none as unasked}
 use Rattle.id_table.specs.Maps.{Changed, Same, Shelved, Told, had}
 use Rattle.id_table.specs.Refused.{value_of}
 use Rattle.id_table.specs.declared.add_refusal.AddRefusal.{AddRefusal}
@@ -22,14 +22,6 @@ use Rattle.http_tunnel.proofs.Shelves.{Lends, some_inj, told_none, told_on}
 
 -- ---- sessions
 
-same_on : {V : Type 0} (a b c : Option V) → SameId a b → SameId b c → SameId a c
-same_on None None None h k = tt
-same_on None None (Some w) h k = absurd k
-same_on None (Some v) c h k = absurd h
-same_on (Some u) None c h k = absurd h
-same_on (Some u) (Some v) None h k = absurd k
-same_on (Some u) (Some v) (Some w) h k = tt
-
 there_on : {V : Type 0} (a b : Option V) → SameId a b → IsSome a → IsSome b
 there_on None (Some w) h is = absurd h
 there_on None None h is = is
@@ -42,7 +34,7 @@ other_name name id k is apart = λ e. apart (let same : Some k ≡ Some id = sym
 -- a session that was touched, and to which a place then goes back
 touched_back : (name : Option (List ℕ)) (m k n : Sessions) → TouchesOne name m k → KeepsIds name k n → TouchesOne name m n
 touched_back name m k n (inl a) g = inl (a.0, a.1, a.2, there_on (k a.0) (n a.0) (g a.0).0 a.3, λ id apart. (g id).1 (other_name name a.0 id a.1 apart) ∙ a.4 id apart)
-touched_back name m k n (inr h) g = inr (λ id. (same_on (m id) (k id) (n id) (h id).0 (g id).0, λ other. (g id).1 other ∙ (h id).1 other))
+touched_back name m k n (inr h) g = inr (λ id. (id_on (m id) (k id) (n id) (h id).0 (g id).0, λ other. (g id).1 other ∙ (h id).1 other))
 
 module _ (id_of : List ℕ → Option (List ℕ)) where
   pub moved_none : (r : FormRefusal) (o : Option Sessions) → Told o o (HasMoved {P = Place} id_of (Err r))

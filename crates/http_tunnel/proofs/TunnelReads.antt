@@ -1,5 +1,5 @@
 -- What the steps of a read of a tunnel come to.
-use Rattle.std.proofs.Common.{◌≡◌, inl, inr, ℕ, List, ◌++◌, length, Bool, true, false, refl, ap, sym, ◌∙◌, subst}
+use Rattle.std.proofs.Common.{◌≡◌, inl, inr, ℕ, List, ◌++◌, length, Bool, true, false, refl, ap, sym, ◌∙◌, subst, append-nil}
 use Rattle.std.specs.Prelude.{Option, Some, None, IfSome, is_some, Result, Ok, Err, not, ◌&&◌, ◌||◌, ◌==◌, nat_lt, if◌then◌else◌}
 use Rattle.gate_model.specs.declared.read_answer.ReadAnswer.TheVariants.{Ended as read_ended, Empty, Hold}
 use Rattle.gate_model.specs.declared.read_refusal.ReadRefusal.TheVariants.{NoViewer as read_no_viewer, Worn as read_worn}
@@ -24,7 +24,8 @@ use Rattle.http_tunnel.specs.declared.reading.TunnelRefusal.TheVariants.{NoViewe
 use Rattle.http_front.specs.declared.refusal.Refusal.{Refusal}
 use Rattle.http_front.specs.declared.refusal.Refusal.TheVariants.{NotFound}
 use Rattle.http_tunnel.specs.declared.tunnel.Tunnel.{Tunnel}
-use Rattle.http_tunnel.proofs.Looks.{append_nil, chain, mapped_read, stops_after}
+use Rattle.shared_desk.proofs.Lasting.{mapped_read}
+use Rattle.http_tunnel.proofs.Looks.{chain, stops_after}
 use Rattle.http_tunnel.proofs.Shelves.{Lends, after_told, all_changed, all_same, changed_after, changed_none, changed_twice, same_refl, same_trans, some_inj, told_as, told_none, told_on, told_with}
 
 -- ---- why it was refused
@@ -154,7 +155,7 @@ answered_as kept text all end result left is answer keeps last = record { answer
   where
     by : (e : Result TunnelEnd TunnelRefusal) → kept_with (kept ++ (text ++ mark_of e)) e ≡ kept_with (kept ++ text) e
     by (Ok end) = refl
-    by (Err refused) = ap (λ (bs : List ℕ). kept ++ bs) (append_nil text)
+    by (Err refused) = ap (λ (bs : List ℕ). kept ++ bs) (append-nil text)
 
 -- the two facts that a request keeps
 first_told : (P : Shelved Tunnel → Shelved Tunnel → Type 0) (a c : Option (Shelved Tunnel)) → Told a c (λ m n. P m n × ((i : List ℕ) → IsHome (n i))) → Told a c P

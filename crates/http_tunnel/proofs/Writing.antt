@@ -1,10 +1,7 @@
 -- What the steps of a write of a tunnel come to.
 use Rattle.std.proofs.Common.{◌≡◌, inl, inr, ℕ, List, [], ◌∷◌, ◌++◌, Bool, true, false, refl, ap, sym, ◌∙◌, subst}
-use Rattle.std.specs.Prelude.{Option, Some, None, IfSome, is_some, is_ok, Result, Ok, Err, if◌then◌else◌}
-use Rattle.gate_model.specs.declared.answer.Answer.TheVariants.{Leave as was_left}
+use Rattle.std.specs.Prelude.{Option, Some, None, IfSome, is_some, Result, Ok, Err, if◌then◌else◌}
 use Rattle.gate_model.specs.declared.entry.Entry.{Entry}
-use Rattle.gate_model.specs.declared.entry.Entry.TheVariants.{Leave}
-use Rattle.gate_model.specs.declared.event.Event.TheVariants.{Leave as leave}
 use Rattle.gate_model.specs.declared.no_viewer.NoViewer.{NoViewer}
 use Rattle.gate_model.specs.declared.write_refusal.WriteRefusal.{WriteRefusal}
 use Rattle.gate_model.specs.declared.write_refusal.WriteRefusal.TheVariants as written
@@ -12,13 +9,11 @@ use Rattle.gate_model.proofs.Causes.{closed_with_cause}
 use Rattle.gate_model.specs.session.History.{History}
 use Rattle.id_table.specs.Maps.{Changed, Shelved, Told, had}
 use Rattle.turn_lock.specs.declared.view.View.{View}
-use Rattle.shared_desk.specs.Called.{Called}
 use Rattle.shared_desk.specs.Members.{Stays, ViewerState}
-use Rattle.shared_desk.specs.Own.{own_entries}
-use Rattle.shared_desk.proofs.Lasting.{leave_gone}
 use Rattle.viewer_acts.specs.Parts.{parts_of}
+use Rattle.viewer_acts.specs.Leaving.{LeftNow}
 use Rattle.viewer_acts.specs.Doing.{HasWritten, StopCause as PartCause, WritesSome}
-use Rattle.viewer_acts.proofs.Doings.{call_goes_on, done_on, goes_nowhere}
+use Rattle.viewer_acts.proofs.Doings.{done_on, goes_nowhere}
 use Rattle.http_tunnel.specs.Bodies.{HasNoRoom, HasRead, IsBody, IsNoBody, Wish, wish_of}
 use Rattle.http_tunnel.specs.Tunnels.{AreHome, IsHome}
 use Rattle.http_tunnel.specs.Writes.{HasLeft, HasPut, StopsWish, WriteCause, WriteOf, WritesBody, WritesWish, is_ended, refused_write, without_value}
@@ -51,12 +46,11 @@ pub left_not : (viewer : ℕ) (v : View Entry) (ends : Bool) → ends ≡ false 
 left_not viewer v false e = record { goes_on = goes_nowhere v; leaves = []; may = refl; own = refl; gone = λ is. absurd (let z : false ≡ true = is in cc) }
 left_not viewer v true e = absurd (let z : true ≡ false = e in cc)
 
-left_by : (viewer : ℕ) (v w : View Entry) (r : Result (Unit {0}) NoViewer) → Called v (leave viewer) (Ok (was_left r)) w → own_entries w ≡ (if is_ok r then Leave viewer ∷ [] else []) ++ own_entries v → HasLeft viewer v w true
-left_by viewer v w (Ok d) t own = record { goes_on = call_goes_on v w (leave viewer) (Ok (was_left (Ok d))) t; leaves = Leave viewer ∷ []; may = inr refl; own = own; gone = λ is. leave_gone v w viewer (Ok d) t }
-left_by viewer v w (Err e) t own = record { goes_on = call_goes_on v w (leave viewer) (Ok (was_left (Err e))) t; leaves = []; may = inl refl; own = own; gone = λ is. leave_gone v w viewer (Err e) t }
+left_by : (viewer : ℕ) (v w : View Entry) → LeftNow viewer v w → HasLeft viewer v w true
+left_by viewer v w k = record { goes_on = k.goes_on; leaves = k.leaves; may = k.few; own = k.own; gone = λ is. k.gone.gone }
 
-pub left_now : (viewer : ℕ) (v w : View Entry) (ends : Bool) (r : Result (Unit {0}) NoViewer) → ends ≡ true → Called v (leave viewer) (Ok (was_left r)) w → own_entries w ≡ (if is_ok r then Leave viewer ∷ [] else []) ++ own_entries v → HasLeft viewer v w ends
-left_now viewer v w ends r is t own = subst (λ (b : Bool). HasLeft viewer v w b) (sym is) (left_by viewer v w r t own)
+pub left_now : (viewer : ℕ) (v w : View Entry) (ends : Bool) → ends ≡ true → LeftNow viewer v w → HasLeft viewer v w ends
+left_now viewer v w ends is k = subst (λ (b : Bool). HasLeft viewer v w b) (sym is) (left_by viewer v w k)
 
 pub wish_done : (viewer other : ℕ) (v u w : View Entry) (wish : Wish) (done : Unit {0}) → other ≡ viewer → HasWritten viewer v u wish.acts (Ok done) → HasLeft other u w wish.ends → WritesWish viewer v w wish (Ok wish.ends)
 wish_done viewer other v u w wish done same acts left = let l : HasLeft viewer u w wish.ends = subst (λ (n : ℕ). HasLeft n u w wish.ends) same left in (

@@ -1,7 +1,6 @@
 -- What a request that writes does (this project's own).
 use Rattle.std.specs.Prelude.{◌≡◌, ◌⊎◌, ℕ, Bool, true, false, if◌then◌else◌, List, [], ◌∷◌, ◌++◌, Some, None, Result, Ok, Err}
 use Rattle.gate_model.specs.declared.entry.Entry.{Entry}
-use Rattle.gate_model.specs.declared.entry.Entry.TheVariants.{Leave}
 use Rattle.gate_model.specs.declared.write_refusal.WriteRefusal.{WriteRefusal}
 use Rattle.gate_model.specs.declared.write_refusal.WriteRefusal.TheVariants as written
 use Rattle.gate_model.specs.session.History.{History, is_closed, is_full}
@@ -12,15 +11,16 @@ use Rattle.shared_desk.specs.Members.{Stays, ViewerState}
 use Rattle.shared_desk.specs.Own.{own_entries}
 use Rattle.viewer_acts.specs.Parts.{Part, parts_of}
 use Rattle.viewer_acts.specs.Doing.{GoesOn, HasDone, StopCause as PartCause, WritesParts}
+use Rattle.viewer_acts.specs.Leaving.{MayLeave}
 use Rattle.http_tunnel.specs.Bodies.{HasNoRoom, IsBody, IsNoBody, Wish, wish_of}
 use Rattle.http_front.specs.declared.refusal.Refusal.{Refusal}
 use Rattle.http_front.specs.declared.refusal.Refusal.TheVariants.{NotFound, Form, Method, Dial, Busy, Conflict, Forbidden, TooMany, Closed, NoMemory}
 use Rattle.http_tunnel.specs.declared.tunnel.Tunnel.{Tunnel}
 
--- none or one Leave of the viewer, which comes only at the end that a body asks for
-abbrev pub MayLeave : Bool → ℕ → List Entry → Type 0
-MayLeave false viewer leaves = leaves ≡ []
-MayLeave true viewer leaves = (leaves ≡ []) ⊎ (leaves ≡ Leave viewer ∷ [])
+-- the Leave that a write may add: none but at the end that a body asks for
+abbrev pub MayEnd : Bool → ℕ → List Entry → Type 0
+MayEnd false viewer leaves = leaves ≡ []
+MayEnd true viewer leaves = MayLeave viewer leaves
 
 -- why acts were refused, by what the pass has seen
 abbrev pub WriteCause : Refusal → ℕ → History → Type 0
@@ -45,7 +45,7 @@ refused_write written.NoMemory = NoMemory
 pub record HasLeft (viewer : ℕ) (v w : View Entry) (ends : Bool) : Type 0 where
   pub goes_on : GoesOn v w
   pub leaves : List Entry
-  pub may : MayLeave ends viewer leaves
+  pub may : MayEnd ends viewer leaves
   pub own : own_entries w ≡ leaves ++ own_entries v
   pub gone : ends ≡ true → is_live w.seen viewer ≡ false
 
@@ -55,7 +55,7 @@ pub record DoesWish (viewer : ℕ) (v w : View Entry) (wish : Wish) : Type 0 whe
   pub gained : List Entry
   pub done : HasDone viewer v w (parts_of wish.acts) gained
   pub leaves : List Entry
-  pub may : MayLeave wish.ends viewer leaves
+  pub may : MayEnd wish.ends viewer leaves
   pub own : own_entries w ≡ leaves ++ (gained ++ own_entries v)
   pub gone : wish.ends ≡ true → is_live w.seen viewer ≡ false
 

@@ -13,7 +13,7 @@ use crate::acts::{BodyFault, Wanted, read_body};
 use crate::giving::give_back;
 use crate::tunnel::Tunnel;
 use desk_core::WriteRefusal;
-use gate_outside::{Bell, ring_after_leave};
+use gate_outside::Bell;
 use guac_handshake::Door;
 use http_front::Refusal;
 use id_table::Shelf;
@@ -21,7 +21,7 @@ use shared_desk::{Place, WriterPass};
 use std::alloc::Global;
 use std::sync::Wait;
 use uuid::Uuid;
-use viewer_acts::write_acts;
+use viewer_acts::{leave, write_acts};
 
 fn refused_write(refusal: WriteRefusal) -> Refusal
     ensures { result ≡ refused_write refusal }
@@ -39,8 +39,7 @@ fn leave_at<R: Wait, B: Bell>(rt: &R, writer: &mut WriterPass, ends: bool, bell:
     ensures left { HasLeft writer.old.viewer writer.old.view writer.new.view ends }
 {
     if ends {
-        let _ = writer.leave(rt);
-        ring_after_leave(bell, writer.spots(), writer.viewer());
+        leave(rt, writer, bell);
     }
 }
 

@@ -1,15 +1,12 @@
 -- A stream of instructions, read one after the other.
-use Rattle.std.proofs.Common.{◌≡◌, ℕ, ◌+◌, ◌-◌, ◌<◌, ◌≤◌, List, [], ◌∷◌, ◌++◌, length, drop, take, refl, ap, sym, ◌∙◌, subst, length-append, length-drop, arith}
+use Rattle.std.proofs.Common.{◌≡◌, ℕ, ◌+◌, ◌-◌, ◌<◌, ◌≤◌, List, [], ◌∷◌, ◌++◌, length, drop, take, refl, ap, sym, ◌∙◌, arith}
 use Rattle.std.specs.Prelude.{Option, Some, None, option_to_list}
 use Rattle.std.specs.List.{filter_map, cons_option}
-use Rattle.std.proofs.lemmas.List.{take_all, drop-drop, take-append-drop, length-take-le}
 use Rattle.std.proofs.lemmas.List.Elements.{filter_map-append}
 use Rattle.gate_model.specs.declared.instr.Instr.{Instr}
 use Rattle.gate_model.specs.text.ServerMeaning.{instr_of}
-use Rattle.gate_model.specs.text.Spelling.{SpellsElements, Spells}
 use Rattle.gate_model.proofs.MeaningLaws.{instr_in_utf8}
 use Rattle.guac_framing.specs.Answers.{IsWhole}
-use Rattle.guac_framing.specs.Splits.{Splits}
 use Rattle.guac_framing.proofs.Streams.{splits_on, within}
 use Rattle.look.specs.Stream.{GoesOn, HasRead}
 

@@ -1,6 +1,6 @@
 -- What is read of a stream of instructions (the Guacamole manual, "The Guacamole protocol"), and which of
 -- its syncs is asked for (this project's own).
-use Rattle.std.specs.Prelude.{◌≡◌, ℕ, ◌+◌, ◌≤◌, List, [], ◌∷◌, ◌++◌, length, drop, Bool, true, false, nat_le, Option, Some, None, option_to_list}
+use Rattle.std.specs.Prelude.{◌≡◌, ℕ, ◌+◌, ◌≤◌, List, [], ◌∷◌, ◌++◌, length, drop, Bool, true, false, nat_le, Option, option_to_list}
 use Rattle.std.specs.List.{filter_map}
 use Rattle.gate_model.specs.declared.instr.Instr.{Instr}
 use Rattle.gate_model.specs.text.ServerMeaning.{instr_of}

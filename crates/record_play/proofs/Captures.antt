@@ -1,6 +1,6 @@
 -- A client's stream: the log of its keys grows act by act, it is read in one way, or it has one first bad byte.
 use Rattle.std.proofs.Common.{◌≡◌, ℕ, ◌+◌, ◌-◌, ◌<◌, ◌≤◌, List, [], ◌∷◌, ◌++◌, length, drop, take, refl, ap, sym, ◌∙◌, subst, length-append, length-drop, arith, inl, inr, append_assoc, append-nil}
-use Rattle.std.specs.Prelude.{Option, Some, None, ◌⊎◌, map, min}
+use Rattle.std.specs.Prelude.{Option, ◌⊎◌, map, min}
 use Rattle.std.proofs.lemmas.Bool.{cases_lt}
 use Rattle.std.proofs.Math.Seq.{take-append_seam}
 use Rattle.std.proofs.lemmas.List.{append_cancel_left, drop_all, take-append-drop}
@@ -18,7 +18,7 @@ use Rattle.record_play.specs.Captured.{IsBadBehind, IsBadStream, IsCaptured, IsL
 use Rattle.record_play.specs.KeyLog.{act_text, log, log_from, mods_behind}
 use Rattle.gate_model.specs.session.Rights.{none_held}
 use Rattle.record_play.specs.Recorded.{most_recorded}
-use Rattle.record_play.proofs.Unique.{AtLimit, bad_not_limit, one_bad}
+use Rattle.record_play.proofs.Unique.{bad_not_limit, one_bad}
 
 -- ---- the log
 

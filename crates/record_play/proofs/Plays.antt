@@ -1,5 +1,5 @@
 -- A recording, played one instruction after the other.
-use Rattle.std.proofs.Common.{◌≡◌, ℕ, zero, suc, ◌+◌, ◌-◌, ◌<◌, ◌≤◌, List, [], ◌∷◌, ◌++◌, length, drop, take, refl, ap, sym, ◌∙◌, subst, length-append, length-drop, arith, true, false, inl, inr, append_assoc, append-nil}
+use Rattle.std.proofs.Common.{◌≡◌, ℕ, zero, suc, ◌+◌, ◌-◌, ◌<◌, ◌≤◌, List, [], ◌∷◌, ◌++◌, length, drop, take, refl, ap, sym, ◌∙◌, subst, length-append, length-drop, arith, inl, inr, append_assoc, append-nil}
 use Rattle.std.specs.Prelude.{Option, Some, None, get_or}
 use Rattle.std.proofs.lemmas.List.{take-append-drop, length-take-le, get_or_append_left, get_or-append_right}
 use Rattle.gate_model.specs.declared.instr.Instr.{Instr}
@@ -16,7 +16,7 @@ use Rattle.guac_framing.specs.Found.{IsBadPlace, IsUnfinished, HasNoInstruction}
 use Rattle.std.proofs.lemmas.Bool.{cases_lt}
 use Rattle.record_play.specs.declared.sync_at.SyncAt.{SyncAt}
 use Rattle.record_play.specs.Stamps.{stamp_of}
-use Rattle.record_play.specs.Recorded.{HasRead, MayFollow, Placed, SpelledAt, instrs_of, sync_list, syncs_of, through}
+use Rattle.record_play.specs.Recorded.{HasRead, Placed, instrs_of, sync_list, syncs_of, through}
 use Rattle.record_play.specs.Played.{IsDrawn, IsFront}
 use Rattle.record_play.specs.Syncs.{IsOf, Recorded}
 use Rattle.guac_framing.proofs.Streams.{left_at}

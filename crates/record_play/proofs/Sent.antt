@@ -1,13 +1,12 @@
 -- A recording of what the gateway sent: its instructions are the first ones that were given.
-use Rattle.std.proofs.Common.{◌≡◌, ℕ, ◌+◌, ◌-◌, ◌<◌, ◌≤◌, List, [], ◌∷◌, ◌++◌, length, drop, take, refl, ap, sym, ◌∙◌, subst, length-append, length-drop, arith, append_assoc, append-nil}
-use Rattle.std.specs.Prelude.{Option, Some}
-use Rattle.std.proofs.lemmas.List.{append_cancel_left, drop-append-le, drop-drop, take-append-drop}
+use Rattle.std.proofs.Common.{◌≡◌, ℕ, ◌+◌, ◌-◌, ◌<◌, ◌≤◌, List, [], ◌∷◌, ◌++◌, length, drop, take, refl, ap, sym, ◌∙◌, length-append, length-drop, arith, append_assoc}
+use Rattle.std.specs.Prelude.{Some}
+use Rattle.std.proofs.lemmas.List.{append_cancel_left, drop-drop, take-append-drop}
 use Rattle.gate_model.specs.declared.instr.Instr.{Instr}
 use Rattle.gate_model.specs.declared.instr.Instr.TheVariants.{Sync}
 use Rattle.gate_model.specs.picture.Shape.{AreReadable}
 use Rattle.gate_model.specs.session.Delivered.{delivered}
 use Rattle.gate_model.specs.text.ServerMeaning.{instr_of}
-use Rattle.gate_model.specs.text.Spelling.{Spells}
 use Rattle.gate_model.specs.text.Text.{elements_of, text, texts}
 use Rattle.gate_model.proofs.MeaningLaws.{read_back}
 use Rattle.gate_model.proofs.Readable.{delivered-readable}

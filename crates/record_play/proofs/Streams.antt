@@ -1,16 +1,16 @@
 -- A recording, read one instruction after the other.
-use Rattle.std.proofs.Common.{◌≡◌, ℕ, ◌+◌, ◌-◌, ◌<◌, ◌≤◌, List, [], ◌∷◌, ◌++◌, length, drop, take, refl, ap, sym, ◌∙◌, subst, length-append, length-drop, arith, true, false, inl, inr}
-use Rattle.std.specs.Prelude.{Bool, Option, Some, None, Result, Ok, Err, min, ◌⊎◌}
+use Rattle.std.proofs.Common.{◌≡◌, ℕ, ◌+◌, ◌-◌, ◌<◌, ◌≤◌, List, [], ◌∷◌, ◌++◌, length, drop, take, refl, ap, sym, ◌∙◌, subst, length-drop, arith, true, false, inl, inr}
+use Rattle.std.specs.Prelude.{Bool, Option, Some, Result, Ok, Err, min, ◌⊎◌}
 use Rattle.std.proofs.lemmas.Bool.{cases_lt}
-use Rattle.std.proofs.lemmas.List.{take_all, length-take-le, drop_all}
+use Rattle.std.proofs.lemmas.List.{drop_all}
 use Rattle.gate_model.specs.declared.instr.Instr.{Instr}
 use Rattle.gate_model.specs.text.ServerMeaning.{instr_of}
-use Rattle.gate_model.specs.text.Spelling.{SpellsElements, Spells}
+use Rattle.gate_model.specs.text.Spelling.{Spells}
 use Rattle.gate_model.proofs.MeaningLaws.{instr_in_utf8}
 use Rattle.guac_framing.specs.Answers.{IsWhole}
 use Rattle.guac_framing.specs.Found.{IsBadPlace, IsUnfinished}
 use Rattle.guac_framing.proofs.Streams.{left_at, spelled_there, within}
-use Rattle.record_play.specs.Recorded.{HasFault, HasRead, IsFault, IsRecorded, IsRefused, MayFollow, Placed, SpelledAt, through, most_recorded, Byte, Whole, Long}
+use Rattle.record_play.specs.Recorded.{HasRead, IsFault, IsRecorded, IsRefused, MayFollow, Placed, SpelledAt, through, most_recorded, Byte, Whole, Long}
 use Rattle.record_play.specs.Indexes.{IsAt, IsTold}
 use Rattle.record_play.specs.declared.index.Index.{Index}
 use Rattle.record_play.specs.declared.fault.RecordFault.{RecordFault}

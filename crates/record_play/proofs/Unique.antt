@@ -1,5 +1,5 @@
 -- Bytes are a recording in one way, or they have one first fault.
-use Rattle.std.proofs.Common.{◌≡◌, ℕ, ◌+◌, ◌-◌, ◌<◌, ◌≤◌, List, [], ◌∷◌, ◌++◌, length, drop, take, refl, ap, sym, ◌∙◌, subst, length-append, length-drop, arith, true, false, inl, inr, append_assoc, append-nil}
+use Rattle.std.proofs.Common.{◌≡◌, ℕ, ◌+◌, ◌-◌, ◌<◌, ◌≤◌, List, [], ◌∷◌, ◌++◌, length, drop, take, refl, ap, sym, ◌∙◌, subst, length-drop, arith, true, false, inl, inr, append_assoc, append-nil}
 use Rattle.std.specs.Prelude.{Option, Some, None, ◌⊎◌}
 use Rattle.std.proofs.lemmas.Bool.{cases_lt}
 use Rattle.std.proofs.Math.Seq.{take-take}
@@ -10,8 +10,8 @@ use Rattle.gate_model.specs.text.Spelling.{Spells}
 use Rattle.gate_model.proofs.Spelt.{prefix_free}
 use Rattle.guac_framing.specs.Found.{HasNoInstruction, IsBadPlace, IsUnfinished}
 use Rattle.record_play.specs.Stamps.{stamp_of}
-use Rattle.record_play.specs.Recorded.{HasFault, HasRead, IsFault, IsRecorded, IsRefused, MayFollow, Placed, Rises, SpelledAt, is_closed, last_stamp, most_recorded, through, Byte, Whole, Long, Unknown, Behind, Falls}
-use Rattle.record_play.proofs.Plays.{Next, last_of, read_older, rises}
+use Rattle.record_play.specs.Recorded.{HasFault, HasRead, IsFault, IsRecorded, IsRefused, MayFollow, Placed, Rises, SpelledAt, last_stamp, most_recorded, through, Byte, Whole, Long, Unknown, Behind, Falls}
+use Rattle.record_play.proofs.Plays.{last_of, read_older, rises}
 use Rattle.guac_framing.proofs.Streams.{spelled_some}
 
 -- at one place stands one instruction

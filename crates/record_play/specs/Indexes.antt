@@ -1,5 +1,5 @@
 -- What a reading of a recording keeps (this project's own).
-use Rattle.std.specs.Prelude.{◌≡◌, ℕ, List, [], ◌∷◌, length, Bool, true, false, Option, Some, None, Result, Ok, Err}
+use Rattle.std.specs.Prelude.{◌≡◌, ℕ, List, [], ◌∷◌, Bool, true, false, Option, Some, Result, Ok, Err}
 use Rattle.gate_model.specs.declared.instr.Instr.{Instr}
 use Rattle.record_play.specs.Recorded.{IsFault, IsRefused, MayFollow, Placed, is_closed, last_stamp, syncs_of}
 use Rattle.record_play.specs.declared.fault.RecordFault.{RecordFault}

@@ -1,15 +1,15 @@
 -- What rounds draw, and who is there after them.
-use Rattle.std.proofs.Common.{◌≡◌, ℕ, zero, suc, ◌+◌, ◌*◌, ◌/◌, ◌%◌, ◌<◌, ◌≤◌, ◌^◌, List, [], ◌∷◌, ◌++◌, drop, length, Bool, true, false, refl, ap, sym, ◌∙◌, subst, arith, length-append, length-drop, add-one}
+use Rattle.std.proofs.Common.{◌≡◌, ℕ, zero, suc, ◌+◌, ◌*◌, ◌/◌, ◌%◌, ◌<◌, ◌≤◌, ◌^◌, List, [], ◌∷◌, ◌++◌, drop, length, Bool, true, false, refl, ap, sym, ◌∙◌, subst, arith, length-append, add-one}
 use Rattle.std.specs.Prelude.{◌==◌, nat_lt, if◌then◌else◌, decimal, All, flat_map}
 use Rattle.std.proofs.lemmas.Bool.{lt-ltb, ltb-true}
 use Rattle.std.proofs.lemmas.Fmt.{length-decimal-le_succ}
 use Rattle.std.proofs.lemmas.List.Elements.{All-nil, All-cons}
 use Rattle.script_grammar.specs.declared.line.Line.{Line}
-use Rattle.script_grammar.specs.declared.line.Line.TheVariants.{At, Server, Join, Leave, Press, Read, Take, Acknowledge}
+use Rattle.script_grammar.specs.declared.line.Line.TheVariants.{At, Server, Press, Read, Take, Acknowledge}
 use Rattle.script_load.specs.Words.{Words, drawn}
 use Rattle.script_load.specs.declared.rounds.Rounds.{Rounds}
 use Rattle.script_load.specs.Draws.{IsDrawn, stand_of}
-use Rattle.script_load.specs.Rounds.{IsRoundLine, Stand, after, after_word, beginning, came, coming, deeds, feed_size, first_leaves, read_and_acknowledge, round_lines, stand_after, text_of, texts_of, turn}
+use Rattle.script_load.specs.Rounds.{IsRoundLine, Stand, after, after_word, came, coming, deeds, feed_size, first_leaves, read_and_acknowledge, round_lines, stand_after, text_of, texts_of, turn}
 
 -- ---- who is there
 

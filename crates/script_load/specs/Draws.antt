@@ -1,5 +1,5 @@
 -- Where a run of rounds stands.
-use Rattle.std.specs.Prelude.{◌≡◌, ℕ, List}
+use Rattle.std.specs.Prelude.{◌≡◌}
 use Rattle.script_load.specs.declared.rounds.Rounds.{Rounds}
 use Rattle.script_load.specs.Words.{drawn}
 use Rattle.script_load.specs.Rounds.{Stand, stand_after}

@@ -8,7 +8,6 @@ use Rattle.script_grammar.specs.declared.line.Line.{Line}
 use Rattle.script_grammar.specs.declared.line.Line.TheVariants.{At, Start, Server, Join, Read, Take, Leave, Acknowledge, Press, Totals as told_totals}
 use Rattle.script_grammar.specs.declared.order.Order.{Order}
 use Rattle.script_grammar.specs.declared.order.Order.TheVariants.{Told, Untold}
-use Rattle.script_grammar.specs.declared.size.Size.{Size}
 use Rattle.script_grammar.specs.declared.totals.Totals.{Totals}
 use Rattle.script_load.specs.Words.{Words}
 

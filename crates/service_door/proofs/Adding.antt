@@ -16,7 +16,8 @@ use Rattle.guac_handshake.specs.declared.welcome.Welcome.{Welcome}
 use Rattle.shared_desk.specs.declared.place.Place.{Place}
 use Rattle.service_door.specs.Begun.{HasStarted, IsBegun}
 use Rattle.service_door.specs.Doors.{Table}
-use Rattle.service_door.proofs.Tables.{after_call, by_id, changed_unlent, none_some, same_some, sessions_so, told_then}
+use Rattle.guac_handshake.proofs.Undone.{by_id}
+use Rattle.service_door.proofs.Tables.{after_call, changed_unlent, none_some, same_some, sessions_so, told_then}
 
 -- a session was added under an ID that was absent
 abbrev pub Adds : List ℕ → SessionState → Table → Table → Type 0

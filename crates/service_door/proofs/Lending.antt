@@ -15,7 +15,8 @@ use Rattle.shared_desk.specs.declared.place.Place.{Place}
 use Rattle.service_door.specs.Sessions.{NoneLent, SessionState, histories, history_of, sessions_of}
 use Rattle.service_door.specs.Begun.{IsJoined}
 use Rattle.service_door.specs.Doors.{Both, JoinLeaves, OthersStay, Table}
-use Rattle.service_door.proofs.Tables.{after_call, after_so, by_id, changed_unlent, none_some, same_some, sessions_so, told_same, told_so, told_then}
+use Rattle.guac_handshake.proofs.Undone.{by_id}
+use Rattle.service_door.proofs.Tables.{after_call, after_so, changed_unlent, none_some, same_some, sessions_so, told_same, told_so, told_then}
 use Rattle.service_door.proofs.Adding.{some_lent}
 
 -- a session is lent, or none is there

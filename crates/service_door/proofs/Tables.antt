@@ -1,10 +1,10 @@
 -- A table before and after a call, where its shelf tells it.
-use Rattle.std.proofs.Common.{◌≡◌, ◌≢◌, ℕ, List, Bool, true, false, Option, Some, None, refl, ap, sym, ◌∙◌, true≢false, ◌⊎◌, inl, inr, ⊎_elim}
-use Rattle.std.specs.Prelude.{IfSome, is_some, bytes_eq}
+use Rattle.std.proofs.Common.{◌≡◌, ◌≢◌, ℕ, List, true, false, Option, Some, None, refl, ap, sym, ◌∙◌, true≢false, ◌⊎◌}
+use Rattle.std.specs.Prelude.{IfSome, is_some}
 use Rattle.std.specs.Option.{unwrap_or}
-use Rattle.std.proofs.lemmas.Slice.Eq.{bytes_eq-Decides}
 use Rattle.id_table.specs.Maps.{Changed, IsLent, Shelved, Told}
 use Rattle.guac_handshake.specs.Doors.{Sessions}
+use Rattle.guac_handshake.proofs.Undone.{by_id}
 use Rattle.service_door.specs.Sessions.{NoneLent, histories, sessions_of}
 use Rattle.service_door.specs.Doors.{Table}
 
@@ -13,17 +13,6 @@ none_some x e = true≢false (sym (ap is_some e))
 
 pub same_some : {A : Type 0} (x y : A) → Some x ≡ Some y → x ≡ y
 same_some x y e = ap (λ (o : Option _). unwrap_or o x) e
-
-bool_cases : (b : Bool) → (b ≡ true) ⊎ (b ≡ false)
-bool_cases true = inl refl
-bool_cases false = inr refl
-
--- an ID is this one or another
-pub by_id : (k id : List ℕ) (P : Type 0) → (k ≡ id → P) → (k ≢ id → P) → P
-by_id k id P same other = ⊎_elim
-    (λ yes. same ((bytes_eq-Decides k id).0 yes))
-    (λ no. other (λ e. true≢false (sym ((bytes_eq-Decides k id).1 e) ∙ no)))
-    (bool_cases (bytes_eq k id))
 
 -- ---- facts of what is told before and after
 

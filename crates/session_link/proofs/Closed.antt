@@ -1,5 +1,5 @@
 -- A session that is closed at its link's end.
-use Rattle.std.proofs.Common.{◌≡◌, ◌++◌, [], ap, sym, ◌∙◌, subst, refl, inl, inr}
+use Rattle.std.proofs.Common.{◌≡◌, ◌++◌, [], ◌∙◌}
 use Rattle.std.specs.Prelude.{Result, Ok}
 use Rattle.gate_model.specs.declared.answer.Answer.TheVariants.{Close as was_closed}
 use Rattle.gate_model.specs.declared.cause.Cause.{Cause}

@@ -1,40 +1,32 @@
 -- What a pump gains, step by step.
-use Rattle.std.proofs.Common.{◌≡◌, ℕ, ◌≤◌, ◌⊎◌, inl, inr, List, [], ◌∷◌, ◌++◌, length, Bool, true, false, refl, ap, sym, ◌∙◌, subst, append_assoc, append-nil, arith}
-use Rattle.std.specs.Prelude.{Contains, Option, Some, None, Result, Ok, Err}
+use Rattle.std.proofs.Common.{◌≡◌, ℕ, ◌≤◌, ◌⊎◌, List, [], ◌∷◌, ◌++◌, length, Bool, true, false, refl, ap, sym, ◌∙◌, subst}
+use Rattle.std.specs.Prelude.{Option, Some, None, Ok, Err}
 use Rattle.std.specs.Option.{option_map}
 use Rattle.gate_model.specs.declared.answer.Answer.TheVariants.{Feed as fed}
 use Rattle.gate_model.specs.declared.cause.Cause.{Cause}
 use Rattle.gate_model.specs.declared.cause.Cause.TheVariants as cause
 use Rattle.gate_model.specs.declared.entry.Entry.{Entry}
-use Rattle.gate_model.specs.declared.entry.Entry.TheVariants.{Feed, Close}
-use Rattle.gate_model.specs.declared.event.Event.{Event}
+use Rattle.gate_model.specs.declared.entry.Entry.TheVariants.{Feed}
 use Rattle.gate_model.specs.declared.event.Event.TheVariants.{Feed as feed}
 use Rattle.gate_model.specs.declared.feed_refusal.FeedRefusal.{FeedRefusal}
 use Rattle.gate_model.specs.declared.feed_refusal.FeedRefusal.TheVariants.{Closed as feed_closed, Worn as feed_worn, NoMemory as feed_no_memory}
-use Rattle.gate_model.specs.declared.memory.NoMemory.{NoMemory as ShortMemory}
-use Rattle.gate_model.specs.Limits.{most_piece}
 use Rattle.gate_model.specs.session.Calls.{IsPiece, stop_of}
-use Rattle.gate_model.specs.session.History.{History, bytes, is_full}
+use Rattle.gate_model.specs.session.History.{History, is_full}
 use Rattle.gate_model.specs.session.Refusals.{close_cause, first_of, only_if}
 use Rattle.gate_model.proofs.Causes.{open_without_cause}
 use Rattle.desk_core.specs.Calls.{feed_answer}
 use Rattle.turn_lock.proofs.Elements.{later_refl, later_trans}
 use Rattle.turn_lock.specs.declared.view.View.{View}
 use Rattle.shared_desk.specs.Called.{Called}
-use Rattle.shared_desk.specs.Own.{own_entries}
-use Rattle.shared_desk.proofs.Lasting.{FeedCause, closes_seen, feed_adds, feed_refused, full_stays, some_seen, turn_later, turn_legal}
-use Rattle.session_link.specs.Closings.{HasClosed, HasEnded, MayClose}
-use Rattle.session_link.specs.Pumps.{AreFeeds, HasFed, HasPumped, HasStopped, IsFed, IsStopped, MayEnd, TakesFeeds, MayLose, PumpCause, PumpRun, StopCause}
+use Rattle.shared_desk.proofs.Lasting.{FeedCause, closes_seen, feed_adds, feed_refused, full_stays, some_seen, stopped_alone, turn_later, turn_legal}
+use Rattle.session_link.specs.Closings.{HasClosed, HasEnded}
+use Rattle.session_link.specs.Pumps.{HasPumped, HasStopped, IsFed, IsStopped, MayEnd, TakesFeeds, MayLose, PumpCause, PumpRun, StopCause}
 use Rattle.session_link.specs.declared.ends.PumpEnd.{PumpEnd}
 use Rattle.session_link.specs.declared.ends.PumpEnd.TheVariants.{LinkEnded, ReadFault, Closed, Worn, NoMemory}
 
 -- ---- one piece
 
--- memory stopped a call, and nothing else did after what its pass has seen
-short : (v w : View Entry) (event : Event) (refused : ShortMemory) → Called v event (Err refused) w → stop_of w.seen event ≡ None
-short v w event refused t = ap (λ (h : History). stop_of h event) (ap (λ (z : View Entry). z.seen) t.after ∙ ap (λ (es : List Entry). es ++ t.before) t.did_it.1) ∙ t.did_it.0
-
--- .. so it was a feed to a session that is open and not full
+-- where nothing stops a feed, its session is open and not full
 no_stop : (o : Option Cause) (full : Bool) (n : ℕ) → option_map (λ (x : FeedRefusal). fed (Err x)) (first_of (option_map feed_closed o ∷ only_if full (feed_worn n) ∷ [])) ≡ None → (o ≡ None) × (full ≡ false)
 no_stop None false n e = (refl, refl)
 no_stop None true n e = absurd (let z : Some (fed (Err (feed_worn n))) ≡ None = e in cc)
@@ -59,7 +51,7 @@ module _ (v w : View Entry) (piece : List ℕ) (now : ℕ) (r : FeedRefusal) (is
   pub refused_memory : r ≡ feed_no_memory → IsStopped v w piece NoMemory
   refused_memory e =
       let k = feed_refused v w piece now r t in
-      let none = short v w (feed piece now) _ (subst (λ (x : FeedRefusal). Called v (feed piece now) (feed_answer (Err x)) w) e t) in
+      let none = stopped_alone v w (feed piece now) _ [] [] (subst (λ (x : FeedRefusal). Called v (feed piece now) (feed_answer (Err x)) w) e t) in
       record { later = turn_later v w _ t; own = k.0; loses = is.few; cause = takes_feeds w.seen piece now none }
 
 -- nothing came

@@ -2,14 +2,14 @@
 use Rattle.std.proofs.Common.{◌≡◌, ℕ, ◌+◌, ◌≤◌, ◌<◌, ◌⊎◌, inl, inr, List, [], ◌∷◌, ◌++◌, length, take, drop, Bool, true, false, refl, ap, sym, ◌∙◌, subst, append_assoc, append-nil, arith, length-append, length-take, length-drop}
 use Rattle.std.specs.Prelude.{◌==◌, nat_le, if◌then◌else◌}
 use Rattle.std.proofs.Math.Seq.{take-add, take-append_seam}
-use Rattle.std.proofs.lemmas.List.{drop-append-le, drop-drop, drop_all, take-append-drop, take-append-le}
+use Rattle.std.proofs.lemmas.List.{drop-append-le, drop-drop, take-append-drop, take-append-le}
 use Rattle.std.proofs.lemmas.Bool.Decides.{eqb_tells, leb_tells}
 use Rattle.gate_model.specs.declared.entry.Entry.{Entry}
 use Rattle.gate_model.specs.declared.entry.Entry.TheVariants.{Start, Feed, Size, Join, Read, Write, Take, Leave, Close}
 use Rattle.gate_model.specs.declared.event.Event.TheVariants.{Take as take_most}
 use Rattle.gate_model.specs.declared.taken.Taken.{Taken}
 use Rattle.gate_model.specs.session.Calls.{take_entry}
-use Rattle.gate_model.specs.session.History.{History, is_closed}
+use Rattle.gate_model.specs.session.History.{is_closed}
 use Rattle.gate_model.specs.session.Output.{out, taken, untaken}
 use Rattle.gate_model.specs.Sequences.{BeginsWith, IsLater}
 use Rattle.turn_lock.proofs.Elements.{later_refl, later_trans}

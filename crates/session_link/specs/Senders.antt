@@ -1,5 +1,5 @@
 -- What a sender did (this project's own).
-use Rattle.std.specs.Prelude.{◌≡◌, ◌⊎◌, ◌+◌, Bool, true, false, List, [], ◌∷◌, ◌++◌, ℕ, length, take, drop, Result, Ok, Err}
+use Rattle.std.specs.Prelude.{◌≡◌, ◌⊎◌, ◌+◌, Bool, true, List, [], ◌∷◌, ◌++◌, ℕ, length, take, drop, Result, Ok, Err}
 use Rattle.gate_model.specs.declared.cause.Cause.TheVariants as cause
 use Rattle.gate_model.specs.declared.entry.Entry.{Entry}
 use Rattle.gate_model.specs.declared.entry.Entry.TheVariants.{Take}

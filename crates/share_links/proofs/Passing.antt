@@ -11,6 +11,7 @@ use Rattle.guac_handshake.specs.declared.refused.Refused.{Refused}
 use Rattle.guac_handshake.specs.declared.request.Request.{Request}
 use Rattle.guac_handshake.specs.declared.request.Request.TheVariants.{Join}
 use Rattle.guac_handshake.specs.declared.welcome.Welcome.{Welcome}
+use Rattle.guac_handshake.proofs.Touching.{told_on}
 use Rattle.id_table.specs.Maps.{Map, Same, Told}
 use Rattle.share_links.specs.Doors.{Answers, HasName, Through, Uses, at_link, given_as, is_known_at, leads_there, role_through, session_of}
 use Rattle.share_links.specs.Links.{Leads, Spends, is_usable}
@@ -23,14 +24,6 @@ if_so None P Q f t = tt
 if_so (Some m) P Q f t = f m t
 
 -- .. of the sessions before, between and after two calls
-told_on : (o p q : Option Sessions) (P Q R : Sessions → Sessions → Type 0) → ((m n l : Sessions) → P m n → Q n l → R m l) → Told o p P → Told p q Q → Told o q R
-told_on None None None P Q R f t u = tt
-told_on None None (Some l) P Q R f t u = absurd u
-told_on None (Some n) q P Q R f t u = absurd t
-told_on (Some m) None q P Q R f t u = absurd t
-told_on (Some m) (Some n) None P Q R f t u = absurd u
-told_on (Some m) (Some n) (Some l) P Q R f t u = f m n l t u
-
 -- the same is under each name
 same_at : {V : Type 0} (name : Option (List ℕ)) (m n : Map V) → Same m n → at_name name n ≡ at_name name m
 same_at None m n h = refl

@@ -141,6 +141,11 @@ past_history n ps (e ∷ g) le =
     let rest = past_history n ps g (omega (arith, le)) in
     rw (no, rest) refl
 
+-- so do places past it
+pub past_all : (places mine : List ℕ) (g : History) → ((p : ℕ) → Contains places p → length g ≤ p) → entries_at (places ++ mine) g ≡ entries_at mine g
+past_all [] mine g behind = refl
+past_all (p ∷ places) mine g behind = past_history p (places ++ mine) g (behind p (contains_head p places)) ∙ past_all places mine g (λ q c. behind q (contains_tail p q places c))
+
 added_place : (g : History) (ps : List ℕ) (e : Entry) → entries_at (length g ∷ ps) (e ∷ g) ≡ e ∷ entries_at ps g
 added_place g ps e =
     let yes : (length g == length g) ≡ true = eq-eqb (length g) (length g) refl in

@@ -20,6 +20,7 @@ use Rattle.gate_model.specs.declared.feed_refusal.FeedRefusal.TheVariants.{Close
 use Rattle.gate_model.specs.declared.how.How.{How}
 use Rattle.gate_model.specs.declared.how.How.TheVariants.{Suffix, Fresh as Picture}
 use Rattle.gate_model.specs.declared.instr.Instr.{Instr}
+use Rattle.gate_model.specs.declared.memory.NoMemory.{NoMemory}
 use Rattle.gate_model.specs.declared.no_viewer.NoViewer.{NoViewer}
 use Rattle.gate_model.specs.declared.read_answer.ReadAnswer.{ReadAnswer}
 use Rattle.gate_model.specs.declared.read_answer.ReadAnswer.TheVariants.{Frames, Fresh, Ended, Empty, Hold}
@@ -30,7 +31,7 @@ use Rattle.gate_model.specs.declared.resize_refusal.ResizeRefusal.TheVariants as
 use Rattle.gate_model.specs.declared.taken.Taken.{Taken}
 use Rattle.gate_model.specs.declared.write_refusal.WriteRefusal.{WriteRefusal}
 use Rattle.gate_model.specs.declared.write_refusal.WriteRefusal.TheVariants.{NoViewer as write_no_viewer, Closed as write_closed, Worn as write_worn, NoMemory as write_no_memory}
-use Rattle.gate_model.specs.session.Calls.{Step, lacked, take_entry, updated_as}
+use Rattle.gate_model.specs.session.Calls.{Step, lacked, stop_of, take_entry, updated_as}
 use Rattle.gate_model.specs.session.History.{History, capacity, is_closed, is_full, joined, newest}
 use Rattle.gate_model.specs.session.Refusals.{first_of, only_if, close_cause, has_size, feed_refusal, read_stop, write_refusal, resize_refusal, leave_refusal, close_refusal}
 use Rattle.gate_model.specs.session.Rights.{is_control, is_live, role_in}
@@ -47,7 +48,7 @@ use Rattle.turn_lock.specs.declared.view.View.{View}
 use Rattle.turn_lock.proofs.Elements.{contains_head, contains_tail}
 use Rattle.shared_desk.specs.Called.{Answers, Turned, take_answer}
 use Rattle.shared_desk.specs.Members.{IsSound, KnowsViewer}
-use Rattle.shared_desk.specs.Own.{own_entries}
+use Rattle.shared_desk.specs.Own.{AreReads, own_entries}
 use Rattle.shared_desk.proofs.Turns.{seen_is, sound_after}
 use Rattle.shared_desk.proofs.Alone.{keeps_knowing, longer_than}
 use Rattle.shared_desk.proofs.Derived.{AreFew, not_ok, own_turn, step_few}
@@ -114,6 +115,10 @@ closes_seen (Leave v ∷ g) c e = contains_tail (Leave v) (Close c) g (closes_se
 closes_seen (Close kept ∷ g) c e = let same : kept ≡ c = (let w : Some kept ≡ Some c = e in cc) in subst (λ (x : Cause). Contains (Close kept ∷ g) (Close x)) same (contains_head (Close kept) g)
 
 -- ---- why a call was refused
+
+-- memory stopped a call, and nothing else did after what its pass has seen
+pub stopped_alone : (v w : View Entry) (event : Event) (refused : NoMemory) (before after : List ℕ) → Turned v w (Answers event (Err refused) before after) → stop_of w.seen event ≡ None
+stopped_alone v w event refused before after t = ap (λ (h : History). stop_of h event) (seen_is v w _ t ∙ ap (λ (es : List Entry). es ++ t.before) t.did_it.1) ∙ t.did_it.0
 
 unmapped : {E : Type 0} (f : E → Answer) → ((x y : E) → f x ≡ f y → x ≡ y) → (o : Option E) (r : E) → option_map f o ≡ Some (f r) → o ≡ Some r
 unmapped {E} f same None r e = absurd (let w : None ≡ Some (f r) = e in cc)
@@ -470,34 +475,60 @@ and_right : (a b : Bool) → (a && b) ≡ true → b ≡ true
 and_right true b e = e
 and_right false b e = absurd (let z : false ≡ true = e in cc)
 
-read_inj : (x y : Result ReadAnswer ReadRefusal) → was_read x ≡ was_read y → x ≡ y
+pub read_inj : (x y : Result ReadAnswer ReadRefusal) → was_read x ≡ was_read y → x ≡ y
 read_inj x y e = cc
 
-mapped_read : (o : Option (Result ReadAnswer ReadRefusal)) (r : Result ReadAnswer ReadRefusal) → option_map was_read o ≡ Some (was_read r) → o ≡ Some r
+pub mapped_read : (o : Option (Result ReadAnswer ReadRefusal)) (r : Result ReadAnswer ReadRefusal) → option_map was_read o ≡ Some (was_read r) → o ≡ Some r
 mapped_read None r e = absurd (let w : None ≡ Some (was_read r) = e in cc)
 mapped_read (Some x) r e = ap Some (read_inj x r (let w : Some (was_read x) ≡ Some (was_read r) = e in cc))
 
--- a closed session has a closing instruction, which a read of its viewer then gave
-closing_some : (g : History) → is_closed g ≡ true → is_some_list (closing g) ≡ true
-closing_some [] e = absurd (let w : false ≡ true = e in cc)
-closing_some (Start c r m t k n s f ∷ g) e = closing_some g e
-closing_some (Feed b s f ∷ g) e = closing_some g e
-closing_some (Size w c r s f ∷ g) e = closing_some g e
-closing_some (Join w role first ∷ g) e = closing_some g e
-closing_some (Read w how ∷ g) e = closing_some g e
-closing_some (Write w acts ∷ g) e = closing_some g e
-closing_some (Take n ∷ g) e = closing_some g e
-closing_some (Leave w ∷ g) e = closing_some g e
-closing_some (Close c ∷ g) e = refl
+-- a session that is closed has a closing instruction, and no other one has
+closing_as : (g : History) (closed : Bool) → is_closed g ≡ closed → is_some_list (closing g) ≡ closed
+closing_as [] closed e = e
+closing_as (Start c r m t k n s f ∷ g) closed e = closing_as g closed e
+closing_as (Feed b s f ∷ g) closed e = closing_as g closed e
+closing_as (Size w c r s f ∷ g) closed e = closing_as g closed e
+closing_as (Join w role first ∷ g) closed e = closing_as g closed e
+closing_as (Read w how ∷ g) closed e = closing_as g closed e
+closing_as (Write w acts ∷ g) closed e = closing_as g closed e
+closing_as (Take n ∷ g) closed e = closing_as g closed e
+closing_as (Leave w ∷ g) closed e = closing_as g closed e
+closing_as (Close c ∷ g) closed e = e
+
+own_closing : (g : History) (viewer : ℕ) (how : How) → closed_by g viewer (Read viewer how) ≡ closing g
+own_closing g viewer how = ap (λ (b : Bool). if b then closing g else []) (eq-eqb viewer viewer refl)
 
 some_last : (xs ys : List Instr) → is_some_list ys ≡ true → is_some_list (xs ++ ys) ≡ true
 some_last [] ys some = some
 some_last (x ∷ xs) ys some = refl
 
 read_ends : (g : History) (viewer : ℕ) (how : How) → is_closed g ≡ true → ended (Read viewer how ∷ g) viewer ≡ true
-read_ends g viewer how closed =
-    let own : closed_by g viewer (Read viewer how) ≡ closing g = ap (λ (b : Bool). if b then closing g else []) (eq-eqb viewer viewer refl) in
-    some_last (farewell_to g viewer) (closed_by g viewer (Read viewer how)) (ap is_some_list own ∙ closing_some g closed)
+read_ends g viewer how closed = some_last (farewell_to g viewer) (closed_by g viewer (Read viewer how)) (ap is_some_list (own_closing g viewer how) ∙ closing_as g true closed)
+
+not_some : (xs : List Instr) → is_some_list xs ≡ false → xs ≡ []
+not_some [] e = refl
+not_some (x ∷ xs) e = absurd (let z : true ≡ false = e in cc)
+
+-- a read brings its viewer to its end exactly where the session is closed
+pub ended_as : (g : History) (viewer : ℕ) (how : How) → ended g viewer ≡ false → ended (Read viewer how ∷ g) viewer ≡ is_closed g
+ended_as g viewer how going =
+    ap (λ (xs : List Instr). is_some_list (xs ++ closed_by g viewer (Read viewer how))) (not_some (farewell_to g viewer) going) ∙ (ap is_some_list (own_closing g viewer how) ∙ closing_as g (is_closed g) refl)
+
+pub are_reads : (viewer : ℕ) (reads : List Entry) → (reads ≡ []) ⊎ ((how : How) × (reads ≡ Read viewer how ∷ [])) → AreReads viewer reads
+are_reads viewer reads (inl none) = subst (AreReads viewer) (sym none) tt
+are_reads viewer reads (inr one) = subst (AreReads viewer) (sym one.1) (refl, tt)
+
+pub reads_more : (viewer : ℕ) (es fs : List Entry) → AreReads viewer es → AreReads viewer fs → AreReads viewer (es ++ fs)
+reads_more viewer [] fs a b = b
+reads_more viewer (Read v how ∷ es) fs a b = (a.0, reads_more viewer es fs a.1 b)
+reads_more viewer (Start c r m t k n s f ∷ es) fs a b = absurd a
+reads_more viewer (Feed bs s f ∷ es) fs a b = absurd a
+reads_more viewer (Size v c r s f ∷ es) fs a b = absurd a
+reads_more viewer (Join v r f ∷ es) fs a b = absurd a
+reads_more viewer (Write v acts ∷ es) fs a b = absurd a
+reads_more viewer (Take n ∷ es) fs a b = absurd a
+reads_more viewer (Leave v ∷ es) fs a b = absurd a
+reads_more viewer (Close c ∷ es) fs a b = absurd a
 
 -- what a read leaves
 pub record ReadOn (v w : View Entry) (viewer : ℕ) (r : Result ReadAnswer ReadRefusal) : Type 0 where

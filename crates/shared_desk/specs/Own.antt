@@ -2,7 +2,7 @@
 use Rattle.std.specs.Prelude.{◌≡◌, ℕ, List, [], ◌∷◌, length, Bool, ◌==◌, if◌then◌else◌, Result, Ok, Err}
 use Rattle.std.specs.List.{list_any}
 use Rattle.gate_model.specs.declared.entry.Entry.{Entry}
-use Rattle.gate_model.specs.declared.entry.Entry.TheVariants.{Size}
+use Rattle.gate_model.specs.declared.entry.Entry.TheVariants.{Read, Size}
 use Rattle.gate_model.specs.declared.instr.Instr.{Instr}
 use Rattle.gate_model.specs.declared.resize_refusal.ResizeRefusal.{ResizeRefusal}
 use Rattle.gate_model.specs.session.History.{History}
@@ -19,6 +19,12 @@ entries_at ps (e ∷ g) = if is_place ps (length g) then e ∷ entries_at ps g e
 -- those at a pass's own places
 abbrev pub own_entries : View Entry → List Entry
 own_entries v = entries_at v.mine v.seen
+
+-- they are Reads of this viewer
+abbrev pub AreReads : ℕ → List Entry → Type 0
+AreReads viewer [] = Unit {0}
+AreReads viewer (Read v how ∷ es) = (v ≡ viewer) × AreReads viewer es
+AreReads viewer (e ∷ es) = ⊥
 
 -- what a change of size that was answered so adds: one Size with its stamp, or nothing
 abbrev pub AreSized : ℕ → ℕ → ℕ → Result ℕ ResizeRefusal → List Entry → Type 0

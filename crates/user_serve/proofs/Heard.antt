@@ -1,20 +1,14 @@
 -- What an intake hears and writes, step by step.
 use Rattle.std.proofs.Common.{◌≡◌, ℕ, ◌+◌, ◌≤◌, ◌⊎◌, inl, inr, ⊎_elim, List, [], ◌∷◌, ◌++◌, Bool, true, false, Option, Some, None, refl, ap, sym, ◌∙◌, subst, take, drop, append_assoc, append-nil, length, length-append, arith}
-use Rattle.std.specs.Prelude.{Contains, Result, Ok, Err, ◌||◌, is_ok, if◌then◌else◌}
+use Rattle.std.specs.Prelude.{Result, Ok, Err, ◌||◌, if◌then◌else◌}
 use Rattle.std.proofs.lemmas.List.{drop-drop, take-append-drop}
 use Rattle.gate_model.specs.declared.act.Act.{Act}
 use Rattle.gate_model.specs.declared.act.Act.TheVariants.{Key, Mouse, Sync, Size, Nop, Disconnect}
-use Rattle.gate_model.specs.declared.answer.Answer.TheVariants.{Leave as was_left}
 use Rattle.gate_model.specs.declared.entry.Entry.{Entry}
-use Rattle.gate_model.specs.declared.entry.Entry.TheVariants.{Leave, Close}
-use Rattle.gate_model.specs.declared.event.Event.TheVariants.{Leave as leave}
-use Rattle.gate_model.specs.declared.no_viewer.NoViewer.{NoViewer}
+use Rattle.gate_model.specs.declared.entry.Entry.TheVariants.{Close}
 use Rattle.gate_model.specs.declared.write_refusal.WriteRefusal.{WriteRefusal}
 use Rattle.gate_model.specs.declared.write_refusal.WriteRefusal.TheVariants.{NoViewer as write_no_viewer, Closed as write_closed, Worn as write_worn, NoMemory as write_no_memory}
-use Rattle.gate_model.specs.session.History.{History}
-use Rattle.gate_model.specs.session.Rights.{is_live}
 use Rattle.gate_model.specs.text.ClientMeaning.{act_of}
-use Rattle.gate_model.specs.Sequences.{IsLater}
 use Rattle.gate_outside.specs.Edge.{AtEnd, came}
 use Rattle.gate_outside.proofs.Moved.{came-came, came-none}
 use Rattle.guac_framing.specs.Answers.{IsWhole}
@@ -22,24 +16,20 @@ use Rattle.guac_framing.specs.Found.{IsUnfinished, IsBadAt}
 use Rattle.guac_framing.specs.declared.next.BadAt.{BadAt}
 use Rattle.guac_handshake.specs.Splits.{IsInstruction, Splits}
 use Rattle.turn_lock.specs.declared.view.View.{View}
-use Rattle.turn_lock.proofs.Elements.{contains_head, contains_tail}
-use Rattle.shared_desk.specs.Called.{Called, Turned}
+use Rattle.turn_lock.proofs.Elements.{later_refl}
 use Rattle.shared_desk.specs.Members.{IsSound, KnowsViewer}
-use Rattle.shared_desk.specs.Own.{entries_at, own_entries}
-use Rattle.shared_desk.proofs.Derived.{past_history}
-use Rattle.shared_desk.proofs.Lasting.{closes_seen, full_stays, later_contains, leave_gone, left_seen, some_seen, turn_knows, turn_legal}
+use Rattle.shared_desk.specs.Own.{own_entries}
+use Rattle.shared_desk.proofs.Lasting.{closes_seen, full_stays, later_contains, left_seen, some_seen}
 use Rattle.viewer_acts.specs.Parts.{Others, Part, Sized, joined, parts_of, size_in, with_first}
-use Rattle.viewer_acts.specs.Doing.{GoesOn, StopCause as PartCause, WritesParts, WritesSome}
+use Rattle.viewer_acts.specs.Doing.{GoesOn, IsStoppedByMemory, StopCause as PartCause, WritesParts, WritesSome}
+use Rattle.viewer_acts.specs.Leaving.{LeftNow}
 use Rattle.viewer_acts.proofs.Cuts.{are_parts, joined_more, joined_of, parts_more}
-use Rattle.viewer_acts.proofs.Doings.{call_goes_on, done_on, none_done, parts_done, parts_stay}
-use Rattle.user_serve.specs.Intakes.{HasHeard, HasLeft, HasRead, HasTaken, HasWritten, HasDoneAll, HearStop, Hears, IntakeCause, IntakeRun, IsRefused, Leaves, LeftNow, MayEnd, MayLose, ReadStop, RefusalCause, StopCause, StoppedByMemory, WantsMemory, Whole, More, Broken, acts_in, acts_of, end_of, ends_in, is_disconnect}
+use Rattle.viewer_acts.proofs.Doings.{done_on, none_done, parts_done, parts_stay, stopped_on}
+use Rattle.user_serve.specs.Intakes.{HasHeard, HasRead, HasTaken, HasWritten, HasDoneAll, HearStop, Hears, IntakeCause, IntakeRun, IsRefused, Leaves, MayEnd, MayLose, ReadStop, RefusalCause, StopCause, WantsMemory, Whole, More, Broken, acts_in, acts_of, end_of, ends_in, is_disconnect}
 use Rattle.user_serve.specs.declared.ends.IntakeEnd.{IntakeEnd}
 use Rattle.user_serve.specs.declared.ends.IntakeEnd.TheVariants.{Disconnected, ReadFault, Bad, Left, Closed, Worn, NoMemory}
 
 -- ---- one write
-
-pub has_left : (viewer : ℕ) (v w : View Entry) (did : History → List Entry → Type 0) → KnowsViewer viewer v → Turned v w did → is_live w.seen viewer ≡ false → HasLeft viewer w.seen
-has_left viewer v w did knows t gone = let k = turn_knows viewer v w did t knows in record { gone = gone; left = left_seen viewer k.first w.seen (turn_legal v w did t) k.joined gone }
 
 -- one act is one part
 single : (act : Act) → (part : Part) × (parts_of (act ∷ []) ≡ part ∷ [])
@@ -339,29 +329,12 @@ module _ (viewer : ℕ) (v u w : View Entry) (start old new : Option (List ℕ))
 
 -- ---- the end
 
-pub left_now : (viewer : ℕ) (v w : View Entry) (r : Result (Unit {0}) NoViewer) → KnowsViewer viewer v → Called v (leave viewer) (Ok (was_left r)) w → own_entries w ≡ (if is_ok r then Leave viewer ∷ [] else []) ++ own_entries v → LeftNow viewer v w
-left_now viewer v w (Ok d) knows t own = record { goes_on = call_goes_on v w (leave viewer) (Ok (was_left (Ok d))) t; leaves = Leave viewer ∷ []; few = inr refl; own = own; legal = turn_legal v w _ t; gone = has_left viewer v w _ knows t (leave_gone v w viewer (Ok d) t) }
-left_now viewer v w (Err e) knows t own = record { goes_on = call_goes_on v w (leave viewer) (Ok (was_left (Err e))) t; leaves = []; few = inl refl; own = own; legal = turn_legal v w _ t; gone = has_left viewer v w _ knows t (leave_gone v w viewer (Err e) t) }
+wants_on : (viewer : ℕ) (v u w : View Entry) (bytes rest : List ℕ) (left : Option (List ℕ)) (h : HearStop viewer v u bytes rest left NoMemory) → GoesOn u w → WantsMemory h.lost rest (IsStoppedByMemory viewer w.mine (h.wrote.gained ++ own_entries v) v.seen w.seen)
+wants_on viewer v u w bytes rest left h g =
+    let stopped : PartCause write_no_memory viewer u.seen → IsStoppedByMemory viewer u.mine (h.wrote.gained ++ own_entries v) v.seen u.seen = λ alone. record { found = u.seen; later = h.wrote.done.goes_on.later; earlier = later_refl u.seen; own_there = h.wrote.own; alone = alone } in
+    ⊎_elim (λ read. inl read) (λ call. inr (call.0, stopped_on viewer u w (h.wrote.gained ++ own_entries v) v.seen v.seen g (later_refl v.seen) (stopped call.1))) h.cause
 
--- places behind a history name none of its entries
-behind_all : (places mine : List ℕ) (g : History) → ((p : ℕ) → Contains places p → length g ≤ p) → entries_at (places ++ mine) g ≡ entries_at mine g
-behind_all [] mine g behind = refl
-behind_all (p ∷ places) mine g behind = past_history p (places ++ mine) g (behind p (contains_head p places)) ∙ behind_all places mine g (λ q c. behind q (contains_tail p q places c))
-
--- a call that memory stopped stays so while its pass goes on
-stopped_on : (viewer : ℕ) (v u w : View Entry) (gained : List Entry) → IsLater v.seen u.seen → own_entries u ≡ gained ++ own_entries v → GoesOn u w → PartCause write_no_memory viewer u.seen → StoppedByMemory viewer v w gained
-stopped_on viewer v u w gained later own g alone = record {
-  seen = u.seen;
-  later = later;
-  earlier = g.later;
-  own_there = ap (λ (ps : List ℕ). entries_at ps u.seen) g.mine ∙ (behind_all g.places u.mine u.seen g.behind ∙ own);
-  alone = alone;
-}
-
-wants_on : (viewer : ℕ) (v u w : View Entry) (bytes rest : List ℕ) (left : Option (List ℕ)) (h : HearStop viewer v u bytes rest left NoMemory) → GoesOn u w → WantsMemory h.lost rest (StoppedByMemory viewer v w h.wrote.gained)
-wants_on viewer v u w bytes rest left h g = ⊎_elim (λ read. inl read) (λ call. inr (call.0, stopped_on viewer v u w h.wrote.gained h.wrote.done.goes_on.later h.wrote.own g call.1)) h.cause
-
-ran_left : (viewer : ℕ) (v u w : View Entry) (bytes rest : List ℕ) (left : Option (List ℕ)) (end : IntakeEnd) (h : HearStop viewer v u bytes rest left end) (k : LeftNow viewer u w) → MayEnd end viewer k.leaves → IntakeCause end h.heard h.lost rest left w.seen (StoppedByMemory viewer v w h.wrote.gained) → IntakeRun viewer v w bytes rest left end
+ran_left : (viewer : ℕ) (v u w : View Entry) (bytes rest : List ℕ) (left : Option (List ℕ)) (end : IntakeEnd) (h : HearStop viewer v u bytes rest left end) (k : LeftNow viewer u w) → MayEnd end viewer k.leaves → IntakeCause end h.heard h.lost rest left w.seen (IsStoppedByMemory viewer w.mine (h.wrote.gained ++ own_entries v) v.seen w.seen) → IntakeRun viewer v w bytes rest left end
 ran_left viewer v u w bytes rest left end h k last why = record {
   heard = h.heard;
   hears = h.hears;

@@ -13,7 +13,6 @@ use Rattle.guac_handshake.proofs.Touching.{touched_none}
 use Rattle.id_table.specs.Maps.{Same, Told}
 use Rattle.shared_desk.specs.declared.place.Place.{Place}
 use Rattle.user_serve.specs.Users.{Greets, HasGreeted, LeavesDoor, UserRun, VisitRun}
-use Rattle.user_serve.specs.declared.ends.UserEnd.{UserEnd}
 use Rattle.user_serve.specs.declared.ends.UserEnd.TheVariants.{Served, NoMemory}
 use Rattle.user_serve.specs.declared.ends.Visit.{Visit}
 use Rattle.user_serve.proofs.Greeted.{Greeted_by}

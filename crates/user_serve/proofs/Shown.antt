@@ -1,13 +1,9 @@
 -- What an outlet shows, step by step.
-use Rattle.std.proofs.Common.{◌≡◌, ℕ, ◌⊎◌, inl, inr, List, [], ◌∷◌, ◌++◌, true, false, refl, ap, sym, ◌∙◌, subst, append-nil, append_assoc}
+use Rattle.std.proofs.Common.{◌≡◌, ℕ, ◌⊎◌, List, [], ◌∷◌, ◌++◌, true, false, refl, ap, sym, ◌∙◌, subst, append-nil, append_assoc}
 use Rattle.std.specs.Prelude.{None, Result, Ok, Err}
 use Rattle.gate_model.specs.declared.entry.Entry.{Entry}
-use Rattle.gate_model.specs.declared.entry.Entry.TheVariants.{Start, Feed, Size, Join, Read, Write, Take, Leave, Close}
-use Rattle.gate_model.specs.declared.event.Event.{Event}
 use Rattle.gate_model.specs.declared.event.Event.TheVariants.{Read as read}
-use Rattle.gate_model.specs.declared.how.How.{How}
 use Rattle.gate_model.specs.declared.instr.Instr.{Instr}
-use Rattle.gate_model.specs.declared.memory.NoMemory.{NoMemory as ShortMemory}
 use Rattle.gate_model.specs.declared.read_answer.ReadAnswer.{ReadAnswer}
 use Rattle.gate_model.specs.declared.read_answer.ReadAnswer.TheVariants.{Frames, Fresh, Ended as read_ended, Empty, Hold}
 use Rattle.gate_model.specs.declared.read_refusal.ReadRefusal.{ReadRefusal}
@@ -19,31 +15,24 @@ use Rattle.gate_model.specs.session.Rights.{is_live}
 use Rattle.gate_model.specs.text.Text.{text, texts}
 use Rattle.gate_model.specs.Sequences.{BeginsWith}
 use Rattle.desk_core.specs.Calls.{read_answer}
+use Rattle.desk_core.proofs.FrameTexts.{texts-append}
 use Rattle.turn_lock.proofs.Elements.{later_refl, later_trans}
 use Rattle.turn_lock.specs.declared.view.View.{View}
 use Rattle.shared_desk.specs.Called.{Gives}
 use Rattle.shared_desk.specs.Members.{IsSound, KnowsViewer}
 use Rattle.shared_desk.specs.Own.{own_entries}
-use Rattle.shared_desk.proofs.Lasting.{ReadCause, read_adds, turn_later, turn_sound}
-use Rattle.user_serve.specs.Intakes.{HasLeft}
-use Rattle.user_serve.specs.Outlets.{AreReads, HasShown, HasWritten, OutletRun, StepCause, StepRun, StepWrote, step_of}
+use Rattle.shared_desk.proofs.Lasting.{ReadCause, are_reads, read_adds, reads_more, stopped_alone, turn_later, turn_sound}
+use Rattle.viewer_acts.specs.Leaving.{HasLeft}
+use Rattle.viewer_acts.proofs.Leavings.{has_left}
+use Rattle.user_serve.specs.Outlets.{HasShown, HasWritten, OutletRun, StepCause, StepRun, StepWrote, step_of}
 use Rattle.user_serve.specs.declared.ends.OutletEnd.{OutletEnd}
 use Rattle.user_serve.specs.declared.ends.OutletEnd.TheVariants.{Ended, Left, WriteFault, Worn, NoMemory}
 use Rattle.user_serve.specs.declared.showing.Step.{Step}
-use Rattle.user_serve.proofs.Heard.{has_left}
 
 -- ---- one read
 
-are_reads : (viewer : ℕ) (reads : List Entry) → (reads ≡ []) ⊎ ((how : How) × (reads ≡ Read viewer how ∷ [])) → AreReads viewer reads
-are_reads viewer reads (inl none) = subst (AreReads viewer) (sym none) tt
-are_reads viewer reads (inr one) = subst (AreReads viewer) (sym one.1) (refl, tt)
-
--- memory stopped a call, and nothing else did after what its pass has seen
-short : (v w : View Entry) (event : Event) (refused : ShortMemory) (before after : List ℕ) → Gives v event (Err refused) w before after → stop_of w.seen event ≡ None
-short v w event refused before after t = ap (λ (h : History). stop_of h event) (ap (λ (z : View Entry). z.seen) t.after ∙ ap (λ (es : List Entry). es ++ t.before) t.did_it.1) ∙ t.did_it.0
-
 short_read : (viewer : ℕ) (v w : View Entry) (r : Result ReadAnswer ReadRefusal) (before after : List ℕ) → Gives v (read viewer) (read_answer r) w before after → r ≡ Err read_no_memory → stop_of w.seen (read viewer) ≡ None
-short_read viewer v w r before after t is = short v w (read viewer) _ before after (subst (λ (x : Result ReadAnswer ReadRefusal). Gives v (read viewer) (read_answer x) w before after) is t)
+short_read viewer v w r before after t is = stopped_alone v w (read viewer) _ before after (subst (λ (x : Result ReadAnswer ReadRefusal). Gives v (read viewer) (read_answer x) w before after) is t)
 
 step_cause : (viewer : ℕ) (h : History) (r : Result ReadAnswer ReadRefusal) → (is_live h viewer ≡ false → HasLeft viewer h) → (r ≡ Err read_no_memory → stop_of h (read viewer) ≡ None) → ReadCause r viewer h → StepCause (step_of r) viewer h
 step_cause viewer h (Ok (Frames n stamp true)) left alone c = c
@@ -101,22 +90,6 @@ module _ (viewer : ℕ) (v w : View Entry) (r : Result ReadAnswer ReadRefusal) (
       }
 
 -- ---- read after read
-
-texts-append : (xs ys : List Instr) → texts (xs ++ ys) ≡ texts xs ++ texts ys
-texts-append [] ys = refl
-texts-append (x ∷ xs) ys = ap (λ (bs : List ℕ). text x ++ bs) (texts-append xs ys) ∙ sym (append_assoc (text x) (texts xs) (texts ys))
-
-reads_more : (viewer : ℕ) (es fs : List Entry) → AreReads viewer es → AreReads viewer fs → AreReads viewer (es ++ fs)
-reads_more viewer [] fs a b = b
-reads_more viewer (Read v how ∷ es) fs a b = (a.0, reads_more viewer es fs a.1 b)
-reads_more viewer (Start c r m t k n s f ∷ es) fs a b = absurd a
-reads_more viewer (Feed bs s f ∷ es) fs a b = absurd a
-reads_more viewer (Size v c r s f ∷ es) fs a b = absurd a
-reads_more viewer (Join v r f ∷ es) fs a b = absurd a
-reads_more viewer (Write v acts ∷ es) fs a b = absurd a
-reads_more viewer (Take n ∷ es) fs a b = absurd a
-reads_more viewer (Leave v ∷ es) fs a b = absurd a
-reads_more viewer (Close c ∷ es) fs a b = absurd a
 
 pub shown_first : (viewer : ℕ) (v : View Entry) (first : List ℕ) → first ≡ texts (delivered v.seen viewer) → HasShown viewer v v first
 shown_first viewer v first is = record { later = later_refl v.seen; reads = []; are_reads = tt; own = refl; wrote = is }

@@ -4,22 +4,21 @@ use Rattle.std.specs.List.{list_any}
 use Rattle.gate_model.specs.declared.act.Act.{Act}
 use Rattle.gate_model.specs.declared.act.Act.TheVariants.{Disconnect}
 use Rattle.gate_model.specs.declared.entry.Entry.{Entry}
-use Rattle.gate_model.specs.declared.entry.Entry.TheVariants.{Leave, Close}
+use Rattle.gate_model.specs.declared.entry.Entry.TheVariants.{Close}
 use Rattle.gate_model.specs.declared.write_refusal.WriteRefusal.{WriteRefusal}
 use Rattle.gate_model.specs.declared.write_refusal.WriteRefusal.TheVariants as written
 use Rattle.gate_model.specs.session.History.{History, is_full}
-use Rattle.gate_model.specs.session.Rights.{is_live}
 use Rattle.gate_model.specs.session.Steps.{Legal}
-use Rattle.gate_model.specs.Sequences.{IsLater}
 use Rattle.gate_model.specs.text.ClientMeaning.{act_of}
 use Rattle.gate_outside.specs.Edge.{AtEnd, came}
 use Rattle.guac_framing.specs.Found.{IsUnfinished, IsBadAt}
 use Rattle.guac_framing.specs.declared.next.BadAt.{BadAt}
 use Rattle.guac_handshake.specs.Splits.{IsInstruction, Splits}
 use Rattle.turn_lock.specs.declared.view.View.{View}
-use Rattle.shared_desk.specs.Own.{entries_at, own_entries}
+use Rattle.shared_desk.specs.Own.{own_entries}
 use Rattle.viewer_acts.specs.Parts.{AreParts, Part, joined, parts_of}
-use Rattle.viewer_acts.specs.Doing.{GoesOn, HasDone, StopCause as PartCause, WritesParts}
+use Rattle.viewer_acts.specs.Doing.{GoesOn, HasDone, IsStoppedByMemory, StopCause as PartCause, WritesParts}
+use Rattle.viewer_acts.specs.Leaving.{HasLeft, LeftNow, MayLeave}
 use Rattle.user_serve.specs.declared.ends.IntakeEnd.{IntakeEnd}
 use Rattle.user_serve.specs.declared.ends.IntakeEnd.TheVariants.{Disconnected, ReadFault, Bad, Left, Closed, Worn, NoMemory}
 
@@ -48,10 +47,6 @@ ends_in instructions = list_any (λ values. is_disconnect (act_of values)) instr
 
 -- ---- what the writer's pass gained last
 
--- none, or one Leave of the viewer
-abbrev pub MayLeave : ℕ → List Entry → Type 0
-MayLeave viewer leaves = (leaves ≡ []) ⊎ (leaves ≡ Leave viewer ∷ [])
-
 -- the Leave that an intake may add as its last entry: where the viewer had left there is none
 abbrev pub MayEnd : IntakeEnd → ℕ → List Entry → Type 0
 MayEnd Left viewer leaves = leaves ≡ []
@@ -61,11 +56,6 @@ MayEnd (Bad at) viewer leaves = MayLeave viewer leaves
 MayEnd (Closed cause) viewer leaves = MayLeave viewer leaves
 MayEnd Worn viewer leaves = MayLeave viewer leaves
 MayEnd NoMemory viewer leaves = MayLeave viewer leaves
-
--- the viewer has left
-pub record HasLeft (viewer : ℕ) (seen : History) : Type 0 where
-  pub gone : is_live seen viewer ≡ false
-  pub left : Contains seen (Leave viewer)
 
 -- ---- how it ended
 
@@ -78,15 +68,6 @@ MayLose Left lost = length lost ≤ 1
 MayLose (Closed cause) lost = length lost ≤ 1
 MayLose Worn lost = length lost ≤ 1
 MayLose NoMemory lost = length lost ≤ 1
-
--- the call of an act was stopped by want of memory and by nothing else, after what its pass, which knew v before and
--- knows w now, had seen then: of its own entries those that it had before and those that it gained, and none that came later
-pub record StoppedByMemory (viewer : ℕ) (v w : View Entry) (gained : List Entry) : Type 0 where
-  pub seen : History
-  pub later : IsLater v.seen seen
-  pub earlier : IsLater seen w.seen
-  pub own_there : entries_at w.mine seen ≡ gained ++ own_entries v
-  pub alone : PartCause written.NoMemory viewer seen
 
 -- memory was wanting for more bytes of an instruction that isn't whole; or for the call of the one act that is lost
 abbrev pub WantsMemory : List Act → List ℕ → Type 0 → Type 0
@@ -126,7 +107,7 @@ pub record IntakeRun (viewer : ℕ) (v w : View Entry) (bytes rest : List ℕ) (
   pub lost : List Act
   pub acts : acts_of heard ≡ joined parts ++ lost
   pub loses : MayLose end lost
-  pub cause : IntakeCause end heard lost rest left w.seen (StoppedByMemory viewer v w gained)
+  pub cause : IntakeCause end heard lost rest left w.seen (IsStoppedByMemory viewer w.mine (gained ++ own_entries v) v.seen w.seen)
   pub gone : HasLeft viewer w.seen
 
 -- ---- before its end
@@ -235,14 +216,6 @@ pub data HasHeard (viewer : ℕ) (v w : View Entry) (old new : Option (List ℕ)
   Broken : old ≡ new → FoundBad v w before after result → HasHeard viewer v w old new before after result
 
 -- the viewer leaves at an intake's end, but where it had left
-pub record LeftNow (viewer : ℕ) (v w : View Entry) : Type 0 where
-  pub goes_on : GoesOn v w
-  pub leaves : List Entry
-  pub few : MayLeave viewer leaves
-  pub own : own_entries w ≡ leaves ++ own_entries v
-  pub legal : Legal w.seen
-  pub gone : HasLeft viewer w.seen
-
 abbrev pub Leaves : IntakeEnd → ℕ → View Entry → View Entry → Type 0
 Leaves Left viewer v w = w ≡ v
 Leaves Disconnected viewer v w = LeftNow viewer v w

@@ -1,7 +1,6 @@
 -- What an outlet did (this project's own).
 use Rattle.std.specs.Prelude.{◌≡◌, ℕ, true, false, List, [], ◌∷◌, ◌++◌, None, Result, Ok, Err}
 use Rattle.gate_model.specs.declared.entry.Entry.{Entry}
-use Rattle.gate_model.specs.declared.entry.Entry.TheVariants.{Read}
 use Rattle.gate_model.specs.declared.event.Event.TheVariants.{Read as read}
 use Rattle.gate_model.specs.declared.instr.Instr.{Instr}
 use Rattle.gate_model.specs.declared.read_answer.ReadAnswer.{ReadAnswer}
@@ -15,18 +14,12 @@ use Rattle.gate_model.specs.text.Text.{texts}
 use Rattle.gate_model.specs.Sequences.{BeginsWith, IsLater}
 use Rattle.turn_lock.specs.declared.view.View.{View}
 use Rattle.shared_desk.specs.Members.{IsSound}
-use Rattle.shared_desk.specs.Own.{own_entries}
-use Rattle.user_serve.specs.Intakes.{HasLeft}
+use Rattle.shared_desk.specs.Own.{AreReads, own_entries}
+use Rattle.viewer_acts.specs.Leaving.{HasLeft}
 use Rattle.user_serve.specs.declared.ends.OutletEnd.{OutletEnd}
 use Rattle.user_serve.specs.declared.ends.OutletEnd.TheVariants.{Ended, Left, WriteFault, Worn, NoMemory}
 use Rattle.user_serve.specs.declared.showing.Step.{Step}
 use Rattle.user_serve.specs.declared.showing.Step.TheVariants.{Gave, Waits}
-
--- Reads of the viewer
-abbrev pub AreReads : ℕ → List Entry → Type 0
-AreReads viewer [] = Unit {0}
-AreReads viewer (Read v how ∷ es) = (v ≡ viewer) × AreReads viewer es
-AreReads viewer (e ∷ es) = ⊥
 
 -- what was written of a text: all of it, or at a fault of the sink a front
 abbrev pub HasWritten : OutletEnd → List ℕ → List ℕ → Type 0

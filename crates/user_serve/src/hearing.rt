@@ -3,18 +3,18 @@
 ghost use Rattle.std.specs.Prelude.{◌≡◌, ◌<◌, ◌≤◌, ◌++◌, ℕ, List, Err, Some, drop, length};
 ghost use Rattle.gate_outside.specs.Edge.{CountsFault, came};
 ghost use Rattle.shared_desk.specs.Members.{Stays};
-ghost use Rattle.user_serve.specs.Intakes.{HasHeard, HasRead, HasTaken, HasWritten, HearStop, IntakeRun, Leaves, LeftNow, end_of, is_disconnect};
+ghost use Rattle.user_serve.specs.Intakes.{HasHeard, HasRead, HasTaken, HasWritten, HearStop, IntakeRun, Leaves, end_of, is_disconnect};
 ghost use Rattle.user_serve.specs.declared.ends.IntakeEnd.TheVariants as ends;
 
 use crate::IntakeEnd;
 use gate_model::Act;
-use gate_outside::{Bell, Failed, Source, ring_after_leave};
+use gate_outside::{Bell, Failed, Source};
 use guac_framing::{Next, next_instruction};
 use guac_instr::read_client;
 use shared_desk::{WriteRefusal, WriterPass};
 use std::alloc::Global;
 use std::sync::Wait;
-use viewer_acts::write_acts;
+use viewer_acts::{leave, write_acts};
 
 /// How many bytes are read at once.
 const PIECE: usize = 4096;
@@ -53,18 +53,6 @@ fn leave_after<R: Wait, B: Bell>(rt: &R, pass: &mut WriterPass, bell: &B, end: I
         | IntakeEnd::Closed(_)
         | IntakeEnd::Worn
         | IntakeEnd::NoMemory => leave(rt, pass, bell),
-    }
-}
-
-// Leaves where the viewer is there, and then rings.
-fn leave<R: Wait, B: Bell>(rt: &R, pass: &mut WriterPass, bell: &B)
-    ensures stays { Stays pass.old pass.new }
-    ensures left { LeftNow pass.old.viewer pass.old.view pass.new.view }
-{
-    // So its Leave stands in what the pass has seen.
-    pass.history_is_sound();
-    if pass.leave(rt).is_ok() {
-        ring_after_leave(bell, pass.spots(), pass.viewer());
     }
 }
 

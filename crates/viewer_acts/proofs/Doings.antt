@@ -27,13 +27,13 @@ use Rattle.gate_model.specs.Sequences.{IsLater}
 use Rattle.guac_handshake.specs.Asks.{cols_of, rows_of}
 use Rattle.desk_core.specs.Calls.{resize_answer, write_answer}
 use Rattle.turn_lock.specs.declared.view.View.{View}
-use Rattle.turn_lock.proofs.Elements.{contains_cases, contains_head, contains_none, contains_tail, later_length, later_refl, later_trans}
+use Rattle.turn_lock.proofs.Elements.{contains_cases, contains_none, later_length, later_refl, later_trans}
 use Rattle.shared_desk.specs.Called.{Answers, Called, Turned, places_after}
 use Rattle.shared_desk.specs.Own.{AreSized, entries_at, own_entries}
-use Rattle.shared_desk.proofs.Derived.{AreFew, past_history, step_few}
-use Rattle.shared_desk.proofs.Lasting.{WriteCause, resize_closed, resize_gone, resize_refused, resize_worn, turn_later, write_refused}
+use Rattle.shared_desk.proofs.Derived.{AreFew, past_all, step_few}
+use Rattle.shared_desk.proofs.Lasting.{WriteCause, resize_closed, resize_gone, resize_refused, resize_worn, stopped_alone, turn_later, write_refused}
 use Rattle.viewer_acts.specs.Parts.{Others, Part, Sized, parts_of}
-use Rattle.viewer_acts.specs.Doing.{Became, Did, GoesOn, HasDone, IsRefused, StopCause, TakesWrites, WritesOne, WritesPart, WritesParts, WritesSome, HasWritten, IsPassedOver, passed_over}
+use Rattle.viewer_acts.specs.Doing.{Became, Did, GoesOn, HasDone, IsRefused, IsStoppedByMemory, StopCause, TakesWrites, WritesOne, WritesPart, WritesParts, WritesSome, HasWritten, IsPassedOver, passed_over}
 
 -- ---- a pass goes on
 
@@ -69,12 +69,6 @@ call_few event (Err short) before after g added a = subst AreFew (sym a.1) tt
 pub call_goes_on : (v w : View Entry) (event : Event) (answer : Result Answer ShortMemory) → Called v event answer w → GoesOn v w
 call_goes_on v w event answer t = turn_goes_on v w _ t (call_few event answer [] [] t.before t.added t.did_it)
 
--- ---- places behind a history name none of its entries
-
-same_below : (places mine : List ℕ) (g : History) → ((p : ℕ) → Contains places p → length g ≤ p) → entries_at (places ++ mine) g ≡ entries_at mine g
-same_below [] mine g behind = refl
-same_below (p ∷ places) mine g behind = past_history p (places ++ mine) g (behind p (contains_head p places)) ∙ same_below places mine g (λ q c. behind q (contains_tail p q places c))
-
 -- ---- parts that were done
 
 module _ (viewer : ℕ) (mine : List ℕ) where
@@ -97,7 +91,7 @@ module _ (viewer : ℕ) (mine : List ℕ) where
   did_placed places own before upto [] gained behind d = d
   did_placed places own before upto (part ∷ parts) gained behind d =
       let short : length d.0 ≤ length upto = later_length d.0 upto (did_later (d.1 ++ own) d.0 upto parts d.2 d.5) in
-      let there = same_below places mine d.0 (λ p c. omega (arith, short, behind p c)) ∙ d.3.own_there in
+      let there = past_all places mine d.0 (λ p c. omega (arith, short, behind p c)) ∙ d.3.own_there in
       (d.0, d.1, d.2, record { later = d.3.later; own_there = there; became = d.3.became }, d.4, did_placed places (d.1 ++ own) d.0 upto parts d.2 behind d.5)
 
   -- and then others
@@ -152,15 +146,11 @@ one_part viewer v w part added g own became = record {
 
 -- ---- want of memory
 
--- memory stopped a call, and nothing else did after what its pass has seen
-short : (v w : View Entry) (event : Event) (refused : ShortMemory) → Called v event (Err refused) w → stop_of w.seen event ≡ None
-short v w event refused t = ap (λ (h : History). stop_of h event) (ap (λ (z : View Entry). z.seen) t.after ∙ ap (λ (es : List Entry). es ++ t.before) t.did_it.1) ∙ t.did_it.0
-
 not_false : (b : Bool) → not b ≡ false → b ≡ true
 not_false true e = refl
 not_false false e = absurd (let z : true ≡ false = e in cc)
 
--- .. so its viewer is there, and the session is open and not full
+-- where nothing stops a write, its viewer is there, and the session is open and not full
 no_stop : (away full : Bool) (o : Option Cause) (n : ℕ) → option_map (λ (x : WriteRefusal). was_written (Err x)) (first_of (only_if away NoViewer ∷ option_map Closed o ∷ only_if full (Worn n) ∷ [])) ≡ None → (away ≡ false) × (o ≡ None) × (full ≡ false)
 no_stop false false None n e = (refl, refl, refl)
 no_stop false true None n e = absurd (let z : Some (was_written (Err (Worn n))) ≡ None = e in cc)
@@ -184,6 +174,13 @@ takes_sizes g viewer cols rows e =
     let k = no_size_stop (not (is_live g viewer)) (not (is_control (role_in g viewer))) (has_size g cols rows) (is_full g) (close_cause g) (length g) e in
     (not_false (is_live g viewer) k.0, open_without_cause g k.1, k.2)
 
+-- a call that memory stopped stays so while its pass goes on, and from an earlier history
+pub stopped_on : (viewer : ℕ) (w w_now : View Entry) (own : List Entry) (start before : History) → GoesOn w w_now → IsLater start before → IsStoppedByMemory viewer w.mine own before w.seen → IsStoppedByMemory viewer w_now.mine own start w_now.seen
+stopped_on viewer w w_now own start before goes begins s =
+    let few : length s.found ≤ length w.seen = later_length s.found w.seen s.earlier in
+    let there = ap (λ (ps : List ℕ). entries_at ps s.found) goes.mine ∙ past_all goes.places w.mine s.found (λ p c. omega (arith, few, goes.behind p c)) in
+    record { found = s.found; later = later_trans start before s.found begins s.later; earlier = later_trans s.found w.seen w_now.seen s.earlier goes.later; own_there = there ∙ s.own_there; alone = s.alone }
+
 -- ---- a write
 
 pub wrote_run : (viewer : ℕ) (v w : View Entry) (acts : List Act) (k : Written) → Called v (write viewer acts) (write_answer (Ok k)) w → own_entries w ≡ Write viewer acts ∷ own_entries v → WritesParts viewer v w (Others acts ∷ [])
@@ -196,7 +193,7 @@ write_cause (Worn n) viewer g alone k = k
 write_cause NoMemory viewer g alone k = alone refl
 
 alone_at : (viewer : ℕ) (v w : View Entry) (acts : List Act) (r : WriteRefusal) → Called v (write viewer acts) (write_answer (Err r)) w → r ≡ NoMemory → TakesWrites viewer w.seen
-alone_at viewer v w acts r t is = takes_writes w.seen viewer acts (short v w (write viewer acts) _ (subst (λ (x : WriteRefusal). Called v (write viewer acts) (write_answer (Err x)) w) is t))
+alone_at viewer v w acts r t is = takes_writes w.seen viewer acts (stopped_alone v w (write viewer acts) _ [] [] (subst (λ (x : WriteRefusal). Called v (write viewer acts) (write_answer (Err x)) w) is t))
 
 pub refused_run : (viewer : ℕ) (v w : View Entry) (acts : List Act) (r : WriteRefusal) → Called v (write viewer acts) (write_answer (Err r)) w → IsRefused viewer v w r
 refused_run viewer v w acts r t = let k = write_refused v w viewer acts r t in record { goes_on = call_goes_on v w (write viewer acts) (write_answer (Err r)) t; own = k.0; cause = write_cause r viewer w.seen (alone_at viewer v w acts r t) k.1 }
@@ -226,7 +223,7 @@ module _ (viewer cols rows : ℕ) (size : ℕ × ℕ) (cols_is : cols ≡ cols_o
   refused_size sizing.Denied t = let k = resize_refused v w viewer cols rows sizing.Denied t in passed (call_goes_on v w (resize viewer cols rows) (resize_answer (Err sizing.Denied)) t) k.0 (inl (refused_step sizing.Denied t k.0 k.1))
   refused_size sizing.Same t = let k = resize_refused v w viewer cols rows sizing.Same t in passed (call_goes_on v w (resize viewer cols rows) (resize_answer (Err sizing.Same)) t) k.0 (inr (refused_step sizing.Same t k.0 k.1))
   refused_size (sizing.Worn n) t = let k = resize_refused v w viewer cols rows (sizing.Worn n) t in record { goes_on = call_goes_on v w (resize viewer cols rows) (resize_answer (Err (sizing.Worn n))) t; own = k.0; cause = resize_worn w.seen viewer cols rows n k.1 }
-  refused_size sizing.NoMemory t = let k = resize_refused v w viewer cols rows sizing.NoMemory t in record { goes_on = call_goes_on v w (resize viewer cols rows) (resize_answer (Err sizing.NoMemory)) t; own = k.0; cause = takes_sizes w.seen viewer cols rows (short v w (resize viewer cols rows) _ t) }
+  refused_size sizing.NoMemory t = let k = resize_refused v w viewer cols rows sizing.NoMemory t in record { goes_on = call_goes_on v w (resize viewer cols rows) (resize_answer (Err sizing.NoMemory)) t; own = k.0; cause = takes_sizes w.seen viewer cols rows (stopped_alone v w (resize viewer cols rows) _ [] [] t) }
 
   pub refused_as : (r : ResizeRefusal) (result : Result (Unit {0}) WriteRefusal) → result ≡ passed_over r → Called v (resize viewer cols rows) (resize_answer (Err r)) w → WritesOne viewer v w (Sized size) result
   refused_as r result is t = subst (λ (x : Result (Unit {0}) WriteRefusal). WritesOne viewer v w (Sized size) x) (sym is) (refused_size r t)

@@ -93,6 +93,15 @@ pub record IsRefused (viewer : ℕ) (v w : View Entry) (refusal : WriteRefusal) 
   pub own : own_entries w ≡ own_entries v
   pub cause : StopCause refusal viewer w.seen
 
+-- memory stopped the call of a part, and nothing else did, after what its pass had seen then: of its own entries, which
+-- stand at these places, these, and none that came later
+pub record IsStoppedByMemory (viewer : ℕ) (mine : List ℕ) (own : List Entry) (before seen : History) : Type 0 where
+  pub found : History
+  pub later : IsLater before found
+  pub earlier : IsLater found seen
+  pub own_there : entries_at mine found ≡ own
+  pub alone : StopCause NoMemory viewer found
+
 -- ---- all acts
 
 -- the first parts were done, and the next one was refused

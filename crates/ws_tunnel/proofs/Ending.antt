@@ -1,44 +1,33 @@
 -- A viewer leaves at the end, and its passes meet once more.
 use Rattle.std.proofs.Common.{◌≡◌, inl, inr, ⊎_elim, ℕ, ◌≤◌, List, [], ◌∷◌, ◌++◌, length, refl, ap, sym, ◌∙◌, subst, append-nil, append_assoc, length-append, arith}
-use Rattle.std.specs.Prelude.{Contains, Option, Some, None, Result, Ok, Err, is_ok, if◌then◌else◌}
+use Rattle.std.specs.Prelude.{Contains, Option, Some, None, if◌then◌else◌}
 use Rattle.gate_model.specs.declared.act.Act.{Act}
-use Rattle.gate_model.specs.declared.answer.Answer.TheVariants.{Leave as was_left}
 use Rattle.gate_model.specs.declared.entry.Entry.{Entry}
 use Rattle.gate_model.specs.declared.entry.Entry.TheVariants.{Leave}
 use Rattle.gate_model.specs.declared.event.Event.TheVariants.{Leave as leave}
 use Rattle.gate_model.specs.declared.instr.Instr.{Instr}
-use Rattle.gate_model.specs.declared.no_viewer.NoViewer.{NoViewer}
 use Rattle.gate_model.specs.session.Delivered.{delivered}
 use Rattle.gate_model.specs.session.History.{History}
 use Rattle.gate_model.specs.text.Text.{texts}
 use Rattle.gate_model.specs.Sequences.{BeginsWith, IsLater}
+use Rattle.desk_core.proofs.FrameTexts.{texts-append}
 use Rattle.turn_lock.specs.declared.view.View.{View}
-use Rattle.turn_lock.proofs.Elements.{contains_head, contains_tail, later_length, later_trans}
-use Rattle.shared_desk.specs.Called.{Called}
+use Rattle.turn_lock.proofs.Elements.{later_length, later_trans}
 use Rattle.shared_desk.specs.Meetings.{HaveMet, written_by}
-use Rattle.shared_desk.specs.Members.{IsSound, KnowsViewer}
-use Rattle.shared_desk.proofs.Derived.{past_history}
-use Rattle.shared_desk.proofs.Lasting.{later_contains, leave_gone, left_seen, turn_knows, turn_legal}
-use Rattle.shared_desk.specs.Own.{entries_at, own_entries}
+use Rattle.shared_desk.specs.Members.{IsSound}
+use Rattle.shared_desk.proofs.Lasting.{later_contains, reads_more}
+use Rattle.shared_desk.specs.Own.{own_entries}
 use Rattle.viewer_acts.specs.Parts.{joined}
-use Rattle.viewer_acts.specs.Doing.{Did, GoesOn}
-use Rattle.viewer_acts.proofs.Doings.{call_goes_on, goes_further, goes_nowhere}
-use Rattle.ws_tunnel.specs.Answered.{IsPartStopped, IsReadStopped, WasRead}
-use Rattle.ws_tunnel.specs.Runs.{AreCounted, HasRun, IsReadAt, IsSent, IsSentAt, IsWanting, IsWantingAt, IsWantingBehind, LeftNow, Leaves, MayEnd, MessagesRun, WsCause, joined_texts}
+use Rattle.viewer_acts.specs.Doing.{Did, GoesOn, IsStoppedByMemory}
+use Rattle.viewer_acts.proofs.Doings.{goes_further, goes_nowhere, stopped_on}
+use Rattle.ws_tunnel.specs.Answered.{IsReadStopped, WasRead}
+use Rattle.ws_tunnel.specs.Runs.{AreCounted, HasRun, IsReadAt, IsSent, IsSentAt, IsWanting, IsWantingAt, IsWantingBehind, Leaves, MayEnd, MessagesRun, WsCause, joined_texts}
 use Rattle.ws_tunnel.specs.declared.ends.WsEnd.{WsEnd}
 use Rattle.ws_tunnel.specs.declared.ends.WsEnd.TheVariants.{Ended, Disconnected, Refused, Bad, Cut, TooLong, LinkFault, Left, Worn, NoMemory}
-use Rattle.ws_tunnel.proofs.Going.{all_acts, all_parts, answered_last, answered_on, answered_placed_on, did_by, heard_all, joined_last, only_both, read_on, texts-append}
+use Rattle.ws_tunnel.proofs.Going.{all_acts, all_parts, answered_last, answered_on, answered_placed_on, did_by, heard_all, joined_last, only_both, read_on}
 use Rattle.ws_tunnel.proofs.Meeting.{cause_later, close_later, met_goes_on, met_later, met_same}
-use Rattle.ws_tunnel.proofs.Reading.{reads_more}
 
 -- ---- the leave
-
-left_for_good : (viewer : ℕ) (v w : View Entry) (r : Result (Unit {0}) NoViewer) → KnowsViewer viewer v → Called v (leave viewer) (Ok (was_left r)) w → Contains w.seen (Leave viewer)
-left_for_good viewer v w r knows t = let k = turn_knows viewer v w _ t knows in left_seen viewer k.first w.seen (turn_legal v w _ t) k.joined (leave_gone v w viewer r t)
-
-pub left_now : (viewer : ℕ) (v w : View Entry) (r : Result (Unit {0}) NoViewer) → KnowsViewer viewer v → Called v (leave viewer) (Ok (was_left r)) w → own_entries w ≡ (if is_ok r then Leave viewer ∷ [] else []) ++ own_entries v → LeftNow viewer v w
-left_now viewer v w (Ok d) knows t own = record { goes_on = call_goes_on v w (leave viewer) (Ok (was_left (Ok d))) t; leaves = Leave viewer ∷ []; few = inr refl; own = own; gone = left_for_good viewer v w (Ok d) knows t }
-left_now viewer v w (Err e) knows t own = record { goes_on = call_goes_on v w (leave viewer) (Ok (was_left (Err e))) t; leaves = []; few = inl refl; own = own; gone = left_for_good viewer v w (Err e) knows t }
 
 -- what the writer's pass gained by it
 record LeftAs (end : WsEnd) (viewer : ℕ) (v w : View Entry) : Type 0 where
@@ -50,15 +39,15 @@ record LeftAs (end : WsEnd) (viewer : ℕ) (v w : View Entry) : Type 0 where
 
 left_as : (end : WsEnd) (viewer : ℕ) (v w : View Entry) → WsCause end viewer v.seen → Leaves end viewer v w → LeftAs end viewer v w
 left_as Left viewer v w c k = subst (λ (x : View Entry). LeftAs Left viewer v x) (sym k) record { goes_on = goes_nowhere v; leaves = []; may = refl; own = refl; gone = c }
-left_as Ended viewer v w c k = record { goes_on = k.goes_on; leaves = k.leaves; may = k.few; own = k.own; gone = k.gone }
-left_as Disconnected viewer v w c k = record { goes_on = k.goes_on; leaves = k.leaves; may = k.few; own = k.own; gone = k.gone }
-left_as (Refused status) viewer v w c k = record { goes_on = k.goes_on; leaves = k.leaves; may = k.few; own = k.own; gone = k.gone }
-left_as (Bad at) viewer v w c k = record { goes_on = k.goes_on; leaves = k.leaves; may = k.few; own = k.own; gone = k.gone }
-left_as (Cut place) viewer v w c k = record { goes_on = k.goes_on; leaves = k.leaves; may = k.few; own = k.own; gone = k.gone }
-left_as TooLong viewer v w c k = record { goes_on = k.goes_on; leaves = k.leaves; may = k.few; own = k.own; gone = k.gone }
-left_as LinkFault viewer v w c k = record { goes_on = k.goes_on; leaves = k.leaves; may = k.few; own = k.own; gone = k.gone }
-left_as Worn viewer v w c k = record { goes_on = k.goes_on; leaves = k.leaves; may = k.few; own = k.own; gone = k.gone }
-left_as NoMemory viewer v w c k = record { goes_on = k.goes_on; leaves = k.leaves; may = k.few; own = k.own; gone = k.gone }
+left_as Ended viewer v w c k = record { goes_on = k.goes_on; leaves = k.leaves; may = k.few; own = k.own; gone = k.gone.left }
+left_as Disconnected viewer v w c k = record { goes_on = k.goes_on; leaves = k.leaves; may = k.few; own = k.own; gone = k.gone.left }
+left_as (Refused status) viewer v w c k = record { goes_on = k.goes_on; leaves = k.leaves; may = k.few; own = k.own; gone = k.gone.left }
+left_as (Bad at) viewer v w c k = record { goes_on = k.goes_on; leaves = k.leaves; may = k.few; own = k.own; gone = k.gone.left }
+left_as (Cut place) viewer v w c k = record { goes_on = k.goes_on; leaves = k.leaves; may = k.few; own = k.own; gone = k.gone.left }
+left_as TooLong viewer v w c k = record { goes_on = k.goes_on; leaves = k.leaves; may = k.few; own = k.own; gone = k.gone.left }
+left_as LinkFault viewer v w c k = record { goes_on = k.goes_on; leaves = k.leaves; may = k.few; own = k.own; gone = k.gone.left }
+left_as Worn viewer v w c k = record { goes_on = k.goes_on; leaves = k.leaves; may = k.few; own = k.own; gone = k.gone.left }
+left_as NoMemory viewer v w c k = record { goes_on = k.goes_on; leaves = k.leaves; may = k.few; own = k.own; gone = k.gone.left }
 
 -- ---- the texts
 
@@ -113,18 +102,10 @@ read_at NoMemory viewer written gained seen later is l k = tt
 
 -- ---- where memory was wanting
 
--- places behind a history name none of its entries
-places_behind : (places mine : List ℕ) (g : History) → ((p : ℕ) → Contains places p → length g ≤ p) → entries_at (places ++ mine) g ≡ entries_at mine g
-places_behind [] mine g behind = refl
-places_behind (p ∷ places) mine g behind = past_history p (places ++ mine) g (behind p (contains_head p places)) ∙ places_behind places mine g (λ q c. behind q (contains_tail p q places c))
-
 -- it stays so while the writer's pass goes on
 module _ (viewer : ℕ) (w w_now : View Entry) (goes : GoesOn w w_now) (start before : History) (begins : IsLater start before) (own own_now written written_now : List Entry) (own_is : own ≡ own_now) (written_is : written ≡ written_now) where
-  part_on : IsPartStopped viewer w.mine own before w.seen → IsPartStopped viewer w_now.mine own_now start w_now.seen
-  part_on s =
-      let short : length s.found ≤ length w.seen = later_length s.found w.seen s.earlier in
-      let there : entries_at w_now.mine s.found ≡ entries_at w.mine s.found = ap (λ (ps : List ℕ). entries_at ps s.found) goes.mine ∙ places_behind goes.places w.mine s.found (λ p c. omega (arith, short, goes.behind p c)) in
-      record { found = s.found; later = later_trans start before s.found begins s.later; earlier = later_trans s.found w.seen w_now.seen s.earlier goes.later; own_there = there ∙ (s.own_there ∙ own_is); alone = s.alone }
+  part_on : IsStoppedByMemory viewer w.mine own before w.seen → IsStoppedByMemory viewer w_now.mine own_now start w_now.seen
+  part_on s = stopped_on viewer w w_now own_now start before goes begins (subst (λ (es : List Entry). IsStoppedByMemory viewer w.mine es before w.seen) own_is s)
 
   read_stopped_on : IsReadStopped viewer written before w.seen → IsReadStopped viewer written_now start w_now.seen
   read_stopped_on s = record { found = s.found; later = later_trans start before s.found begins s.later; earlier = later_trans s.found w.seen w_now.seen s.earlier goes.later; all = s.all ∙ written_is; alone = s.alone }

@@ -11,6 +11,7 @@ use Rattle.gate_model.specs.session.History.{History}
 use Rattle.gate_model.specs.text.Text.{text, texts}
 use Rattle.gate_model.specs.Sequences.{IsLater}
 use Rattle.guac_handshake.specs.Asks.{cols_of, rows_of}
+use Rattle.desk_core.proofs.FrameTexts.{texts-append}
 use Rattle.turn_lock.specs.declared.view.View.{View}
 use Rattle.turn_lock.proofs.Elements.{later_length, later_trans}
 use Rattle.shared_desk.specs.Meetings.{written_by}
@@ -25,13 +26,10 @@ use Rattle.ws_tunnel.specs.Heard.{AreMessages, IsMessage, asks_end, before_end, 
 use Rattle.ws_tunnel.specs.Runs.{HasAnswered, HasRun, IsStart, NextRun, SoFar, joined_texts}
 use Rattle.ws_tunnel.specs.declared.ends.WsEnd.{WsEnd}
 use Rattle.ws_tunnel.proofs.Replies.{all_before}
-use Rattle.ws_tunnel.proofs.Reading.{read_later, reads_more}
+use Rattle.ws_tunnel.proofs.Reading.{read_later}
+use Rattle.shared_desk.proofs.Lasting.{reads_more}
 
 -- ---- lists
-
-pub texts-append : (xs ys : List Instr) → texts (xs ++ ys) ≡ texts xs ++ texts ys
-texts-append [] ys = refl
-texts-append (x ∷ xs) ys = ap (λ (bs : List ℕ). text x ++ bs) (texts-append xs ys) ∙ sym (append_assoc (text x) (texts xs) (texts ys))
 
 pub joined_last : (ts : List (List ℕ)) (t : List ℕ) → joined_texts (ts ++ t ∷ []) ≡ joined_texts ts ++ t
 joined_last [] t = append-nil t

@@ -20,14 +20,14 @@ use Rattle.shared_desk.specs.Marks.{reader_mark}
 use Rattle.shared_desk.specs.Meetings.{HasMet, HaveMet, written_by}
 use Rattle.shared_desk.specs.Members.{KnowsViewer, Stays, ViewerState}
 use Rattle.shared_desk.specs.Own.{own_entries}
-use Rattle.shared_desk.proofs.Lasting.{full_stays, later_contains, left_seen, read_adds, some_seen, turn_knows, turn_legal}
+use Rattle.shared_desk.proofs.Lasting.{are_reads, full_stays, later_contains, left_seen, read_adds, some_seen, turn_knows, turn_legal}
 use Rattle.shared_desk.proofs.Meetings.{ReadBehind, found_ended, keeps_ended, keeps_mark, now_mine, now_seen, read_behind}
 use Rattle.viewer_acts.specs.Doing.{GoesOn}
 use Rattle.viewer_acts.proofs.Doings.{goes_further}
 use Rattle.ws_tunnel.specs.Runs.{HasClose, OfOneViewer, ReadCause, ReadEnd, ReadsBehind, WsCause, over_of}
 use Rattle.ws_tunnel.specs.declared.ends.WsEnd.{WsEnd}
 use Rattle.ws_tunnel.specs.declared.ends.WsEnd.TheVariants.{Ended, Disconnected, Refused, Bad, Cut, TooLong, LinkFault, Left, Worn, NoMemory}
-use Rattle.ws_tunnel.proofs.Reading.{are_reads, ended_later, read_later, refused, stopped_alone, told}
+use Rattle.ws_tunnel.proofs.Reading.{ended_later, read_later, refused, stopped_alone, told}
 
 -- ---- what stays
 

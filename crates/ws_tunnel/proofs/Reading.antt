@@ -1,11 +1,9 @@
 -- What one read of a viewer came to, by the history that it found.
 use Rattle.std.proofs.Common.{◌≡◌, ◌⊎◌, inl, inr, ℕ, List, [], ◌∷◌, ◌++◌, length, Bool, true, false, true≢false, refl, ap, sym, ◌∙◌, subst}
 use Rattle.std.specs.Prelude.{Option, Some, None, Contains, Result, Ok, Err, not, ◌&&◌, ◌==◌, nat_lt, if◌then◌else◌}
-use Rattle.std.specs.Option.{option_map}
-use Rattle.std.proofs.lemmas.Bool.{eq-eqb}
 use Rattle.gate_model.specs.declared.answer.Answer.TheVariants.{Read as was_read}
 use Rattle.gate_model.specs.declared.entry.Entry.{Entry}
-use Rattle.gate_model.specs.declared.entry.Entry.TheVariants.{Start, Feed, Size, Join, Read, Write, Take, Leave, Close}
+use Rattle.gate_model.specs.declared.entry.Entry.TheVariants.{Read, Leave}
 use Rattle.gate_model.specs.declared.event.Event.TheVariants.{Read as read}
 use Rattle.gate_model.specs.declared.how.How.{How}
 use Rattle.gate_model.specs.declared.how.How.TheVariants.{Suffix, Fresh as Picture}
@@ -15,7 +13,7 @@ use Rattle.gate_model.specs.declared.read_answer.ReadAnswer.TheVariants.{Frames,
 use Rattle.gate_model.specs.declared.read_refusal.ReadRefusal.{ReadRefusal}
 use Rattle.gate_model.specs.declared.read_refusal.ReadRefusal.TheVariants.{NoViewer as read_no_viewer, Worn as read_worn, NoMemory as read_no_memory}
 use Rattle.gate_model.specs.session.Calls.{Step, stop_of, updated_as}
-use Rattle.gate_model.specs.session.Delivered.{closed_by, closing, ended, farewell_to, is_some_list, position}
+use Rattle.gate_model.specs.session.Delivered.{closed_by, ended, farewell_to, is_some_list, position}
 use Rattle.gate_model.specs.session.History.{History, is_closed, is_full, newest}
 use Rattle.gate_model.specs.session.Refusals.{first_of, only_if, read_stop}
 use Rattle.gate_model.specs.session.Rights.{is_live}
@@ -26,9 +24,9 @@ use Rattle.turn_lock.proofs.Elements.{later_trans}
 use Rattle.turn_lock.specs.declared.view.View.{View}
 use Rattle.desk_core.specs.Calls.{read_answer}
 use Rattle.shared_desk.specs.Called.{Answers, Gives, Turned}
-use Rattle.shared_desk.proofs.Lasting.{ReadCause}
+use Rattle.shared_desk.proofs.Lasting.{ReadCause, ended_as, mapped_read, read_inj}
 use Rattle.ws_tunnel.specs.Answered.{IsNothing, IsReadAfter}
-use Rattle.ws_tunnel.specs.Runs.{AreReads, IsRefusal, WsCause, over_of}
+use Rattle.ws_tunnel.specs.Runs.{IsRefusal, WsCause, over_of}
 use Rattle.ws_tunnel.specs.declared.ends.WsEnd.{WsEnd}
 use Rattle.ws_tunnel.specs.declared.ends.WsEnd.TheVariants.{Left, Worn, NoMemory}
 
@@ -39,13 +37,6 @@ same_some x y e = cc
 
 same_ok : (r : Result Bool WsEnd) (x y : Bool) → r ≡ Ok x → r ≡ Ok y → x ≡ y
 same_ok r x y a b = let z : Ok x ≡ Ok y = sym a ∙ b in cc
-
-read_inj : (x y : Result ReadAnswer ReadRefusal) → was_read x ≡ was_read y → x ≡ y
-read_inj x y e = cc
-
-mapped_read : (o : Option (Result ReadAnswer ReadRefusal)) (r : Result ReadAnswer ReadRefusal) → option_map was_read o ≡ Some (was_read r) → o ≡ Some r
-mapped_read None r e = absurd (let w : None ≡ Some (was_read r) = e in cc)
-mapped_read (Some x) r e = ap Some (read_inj x r (let w : Some (was_read x) ≡ Some (was_read r) = e in cc))
 
 abbrev chain : (away over none held full : Bool) (m n : ℕ) → Option (Result ReadAnswer ReadRefusal)
 chain away over none held full m n = first_of (only_if away (Err read_no_viewer) ∷ only_if over (Ok read_ended) ∷ only_if none (Ok Empty) ∷ only_if held (Ok (Hold m)) ∷ only_if full (Err (read_worn n)) ∷ [])
@@ -85,27 +76,6 @@ nothing_in Empty closed over s e = (tt, s, sym (same_ok (over_of (Ok Empty)) fal
 nothing_in (Hold n) closed over s e = (tt, s, sym (same_ok (over_of (Ok (Hold n))) false over refl e))
 
 -- ---- a read that adds its entry
-
-not_some : (xs : List Instr) → is_some_list xs ≡ false → xs ≡ []
-not_some [] e = refl
-not_some (x ∷ xs) e = absurd (true≢false e)
-
-closing_as : (g : History) (closed : Bool) → is_closed g ≡ closed → is_some_list (closing g) ≡ closed
-closing_as [] closed e = e
-closing_as (Start c r m t k n s f ∷ g) closed e = closing_as g closed e
-closing_as (Feed b s f ∷ g) closed e = closing_as g closed e
-closing_as (Size w c r s f ∷ g) closed e = closing_as g closed e
-closing_as (Join w role first ∷ g) closed e = closing_as g closed e
-closing_as (Read w how ∷ g) closed e = closing_as g closed e
-closing_as (Write w acts ∷ g) closed e = closing_as g closed e
-closing_as (Take n ∷ g) closed e = closing_as g closed e
-closing_as (Leave w ∷ g) closed e = closing_as g closed e
-closing_as (Close c ∷ g) closed e = e
-
-ended_as : (g : History) (viewer : ℕ) (how : How) → ended g viewer ≡ false → ended (Read viewer how ∷ g) viewer ≡ is_closed g
-ended_as g viewer how going =
-    let own : closed_by g viewer (Read viewer how) ≡ closing g = ap (λ (b : Bool). if b then closing g else []) (eq-eqb viewer viewer refl) in
-    ap (λ (xs : List Instr). is_some_list (xs ++ closed_by g viewer (Read viewer how))) (not_some (farewell_to g viewer) going) ∙ (ap is_some_list own ∙ closing_as g (is_closed g) refl)
 
 over_updated : (g : History) (viewer : ℕ) (how : How) → over_of (Ok (updated_as g viewer how)) ≡ Ok (is_closed g)
 over_updated g viewer Suffix = refl
@@ -189,21 +159,3 @@ ended_more viewer (x ∷ more) g e = some_first (farewell_to (more ++ g) viewer)
 
 pub ended_later : (viewer : ℕ) (g h : History) → IsLater g h → ended g viewer ≡ true → ended h viewer ≡ true
 ended_later viewer g h l e = ap (λ (x : History). ended x viewer) l.1 ∙ ended_more viewer l.0 g e
-
--- ---- Reads
-
-pub are_reads : (viewer : ℕ) (reads : List Entry) → (reads ≡ []) ⊎ ((how : How) × (reads ≡ Read viewer how ∷ [])) → AreReads viewer reads
-are_reads viewer reads (inl none) = subst (AreReads viewer) (sym none) tt
-are_reads viewer reads (inr one) = subst (AreReads viewer) (sym one.1) (refl, tt)
-
-pub reads_more : (viewer : ℕ) (es fs : List Entry) → AreReads viewer es → AreReads viewer fs → AreReads viewer (es ++ fs)
-reads_more viewer [] fs a b = b
-reads_more viewer (Read v how ∷ es) fs a b = (a.0, reads_more viewer es fs a.1 b)
-reads_more viewer (Start c r m t k n s f ∷ es) fs a b = absurd a
-reads_more viewer (Feed bs s f ∷ es) fs a b = absurd a
-reads_more viewer (Size v c r s f ∷ es) fs a b = absurd a
-reads_more viewer (Join v r f ∷ es) fs a b = absurd a
-reads_more viewer (Write v acts ∷ es) fs a b = absurd a
-reads_more viewer (Take n ∷ es) fs a b = absurd a
-reads_more viewer (Leave v ∷ es) fs a b = absurd a
-reads_more viewer (Close c ∷ es) fs a b = absurd a

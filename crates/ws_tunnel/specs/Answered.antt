@@ -9,14 +9,12 @@ use Rattle.gate_model.specs.declared.event.Event.TheVariants.{Read as read}
 use Rattle.gate_model.specs.declared.how.How.{How}
 use Rattle.gate_model.specs.declared.read_answer.ReadAnswer.{ReadAnswer}
 use Rattle.gate_model.specs.declared.read_answer.ReadAnswer.TheVariants.{Empty, Hold}
-use Rattle.gate_model.specs.declared.write_refusal.WriteRefusal.TheVariants as written
 use Rattle.gate_model.specs.session.Calls.{Step, stop_of}
 use Rattle.gate_model.specs.session.History.{History}
 use Rattle.gate_model.specs.Sequences.{IsLater}
 use Rattle.shared_desk.specs.Meetings.{written_by}
-use Rattle.shared_desk.specs.Own.{entries_at}
 use Rattle.viewer_acts.specs.Parts.{AreParts, Part, joined}
-use Rattle.viewer_acts.specs.Doing.{Did, StopCause as PartCause}
+use Rattle.viewer_acts.specs.Doing.{Did}
 
 -- the answer gives nothing
 abbrev pub IsNothing : ReadAnswer → Type 0
@@ -34,16 +32,8 @@ pub record WasRead (viewer : ℕ) (written : List Entry) (found seen : History) 
   pub all : written_by viewer found ≡ written
   pub read : IsReadAfter viewer found seen
 
--- memory stopped the call of a part, and nothing else did, after what its pass had seen then: of its own entries, which stand
--- at these places, those that it had gained, and none that came later
-pub record IsPartStopped (viewer : ℕ) (mine : List ℕ) (own : List Entry) (before seen : History) : Type 0 where
-  pub found : History
-  pub later : IsLater before found
-  pub earlier : IsLater found seen
-  pub own_there : entries_at mine found ≡ own
-  pub alone : PartCause written.NoMemory viewer found
-
--- .. or a read, in a turn that found this: it has these Writes and Sizes of the viewer, and no others
+-- memory stopped a read, and nothing else did, in a turn that found this: it has these Writes and Sizes of the viewer, and no
+-- others
 pub record IsReadStopped (viewer : ℕ) (written : List Entry) (before seen : History) : Type 0 where
   pub found : History
   pub later : IsLater before found

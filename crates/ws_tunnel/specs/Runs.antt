@@ -3,7 +3,7 @@ use Rattle.std.specs.Prelude.{◌≡◌, ◌⊎◌, ℕ, ◌+◌, ◌≤◌, Lis
 use Rattle.gate_model.specs.declared.act.Act.{Act}
 use Rattle.gate_model.specs.declared.cause.Cause.{Cause}
 use Rattle.gate_model.specs.declared.entry.Entry.{Entry}
-use Rattle.gate_model.specs.declared.entry.Entry.TheVariants.{Read, Leave, Close}
+use Rattle.gate_model.specs.declared.entry.Entry.TheVariants.{Leave, Close}
 use Rattle.gate_model.specs.declared.instr.Instr.{Instr}
 use Rattle.gate_model.specs.declared.read_answer.ReadAnswer.{ReadAnswer}
 use Rattle.gate_model.specs.declared.read_answer.ReadAnswer.TheVariants.{Frames, Fresh, Ended as read_ended, Empty, Hold}
@@ -18,22 +18,18 @@ use Rattle.gate_model.specs.Sequences.{BeginsWith, IsLater}
 use Rattle.turn_lock.specs.declared.view.View.{View}
 use Rattle.shared_desk.specs.Meetings.{written_by}
 use Rattle.shared_desk.specs.Members.{IsSound, ViewerState}
-use Rattle.shared_desk.specs.Own.{own_entries}
+use Rattle.shared_desk.specs.Own.{AreReads, own_entries}
 use Rattle.script_grammar.specs.Acts.{AsksRoom, HasTooMany, IsBad, IsCut}
 use Rattle.viewer_acts.specs.Parts.{AreParts, Part, joined}
-use Rattle.viewer_acts.specs.Doing.{Did, GoesOn, StopCause as PartCause, WritesParts}
-use Rattle.ws_tunnel.specs.Answered.{Answered, IsPartStopped, IsReadStopped, WasRead}
+use Rattle.viewer_acts.specs.Doing.{Did, GoesOn, IsStoppedByMemory, StopCause as PartCause, WritesParts}
+use Rattle.viewer_acts.specs.Leaving.{LeftNow, MayLeave}
+use Rattle.ws_tunnel.specs.Answered.{Answered, IsReadStopped, WasRead}
 use Rattle.ws_tunnel.specs.Links.{NoneLeft}
 use Rattle.ws_tunnel.specs.Heard.{AreMessages, IsMessage, asks_end, before_end, heard}
 use Rattle.ws_tunnel.specs.declared.ends.WsEnd.{WsEnd}
 use Rattle.ws_tunnel.specs.declared.ends.WsEnd.TheVariants.{Ended, Disconnected, Refused, Bad, Cut, TooLong, LinkFault, Left, Worn, NoMemory}
 
 -- ---- words
-
-abbrev pub AreReads : ℕ → List Entry → Type 0
-AreReads viewer [] = Unit {0}
-AreReads viewer (Read v how ∷ es) = (v ≡ viewer) × AreReads viewer es
-AreReads viewer (e ∷ es) = ⊥
 
 abbrev pub HasClose : History → Type 0
 HasClose seen = (cause : Cause) × Contains seen (Close cause)
@@ -91,7 +87,7 @@ IsUnlisted message acts = AsksRoom message × (acts ≡ [])
 -- memory was wanting in the call of a part of a message's acts; in the read behind them; or in what its answer is sent by,
 -- once a read had found what they wrote
 abbrev pub IsWantingBehind : ℕ → List ℕ → List Entry → List Entry → History → History → Type 0
-IsWantingBehind viewer mine own written before seen = IsPartStopped viewer mine own before seen ⊎ (IsReadStopped viewer written before seen ⊎ ((found : History) × IsLater before found × WasRead viewer written found seen))
+IsWantingBehind viewer mine own written before seen = IsStoppedByMemory viewer mine own before seen ⊎ (IsReadStopped viewer written before seen ⊎ ((found : History) × IsLater before found × WasRead viewer written found seen))
 
 -- where it was wanting at a message: in the list of its acts, or once they were read
 abbrev pub IsWantingAt : List ℕ → List Act → ℕ → List ℕ → List Entry → List Entry → History → History → Type 0
@@ -115,7 +111,7 @@ IsSent end sent all = BeginsWith all sent
 -- the Leave that the writer's pass adds last: none where the viewer had left
 abbrev pub MayEnd : WsEnd → ℕ → List Entry → Type 0
 MayEnd Left viewer leaves = leaves ≡ []
-MayEnd end viewer leaves = (leaves ≡ []) ⊎ (leaves ≡ Leave viewer ∷ [])
+MayEnd end viewer leaves = MayLeave viewer leaves
 
 -- why it ended, by what both passes have seen
 abbrev pub WsCause : WsEnd → ℕ → History → Type 0
@@ -271,13 +267,6 @@ pub record HasRun (viewer : ℕ) (start : History) (r w : View Entry) (first : L
 -- ---- the end
 
 -- the viewer leaves at the end, but where it had left
-pub record LeftNow (viewer : ℕ) (v w : View Entry) : Type 0 where
-  pub goes_on : GoesOn v w
-  pub leaves : List Entry
-  pub few : (leaves ≡ []) ⊎ (leaves ≡ Leave viewer ∷ [])
-  pub own : own_entries w ≡ leaves ++ own_entries v
-  pub gone : Contains w.seen (Leave viewer)
-
 abbrev pub Leaves : WsEnd → ℕ → View Entry → View Entry → Type 0
 Leaves Left viewer v w = w ≡ v
 Leaves end viewer v w = LeftNow viewer v w

@@ -1,24 +1,13 @@
 //! A viewer leaves.
 
 ghost use Rattle.shared_desk.specs.Members.{Stays};
-ghost use Rattle.ws_tunnel.specs.Runs.{LeftNow, Leaves};
+ghost use Rattle.ws_tunnel.specs.Runs.{Leaves};
 
 use crate::WsEnd;
-use gate_outside::{Bell, ring_after_leave};
+use gate_outside::Bell;
 use shared_desk::WriterPass;
 use std::sync::Wait;
-
-// Leaves where the viewer is there, and then rings.
-fn leave<R: Wait, B: Bell>(rt: &R, writer: &mut WriterPass, bell: &B)
-    ensures stays { Stays writer.old writer.new }
-    ensures left { LeftNow writer.old.viewer writer.old.view writer.new.view }
-{
-    // So its Leave stands in what the pass has seen.
-    writer.history_is_sound();
-    if writer.leave(rt).is_ok() {
-        ring_after_leave(bell, writer.spots(), writer.viewer());
-    }
-}
+use viewer_acts::leave;
 
 /// Leaves, but where the viewer had left, and rings.
 pub(crate) fn leave_at<R: Wait, B: Bell>(rt: &R, writer: &mut WriterPass, end: WsEnd, bell: &B)
